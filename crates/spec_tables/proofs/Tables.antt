@@ -1,0 +1,178 @@
+-- The laws of `over`, `many`, `part`, `Left` and `Put`: adjacent writes are one write, pieces are found again where they were put. Assumes nothing.
+use mathlib.Core.Path.{_≡_, refl, sym, ap, _∙_, subst}
+use mathlib.Core.Logic.{_⊎_, ⊎-elim}
+use mathlib.Core.List.{List, [], _∷_, _++_, append-assoc}
+use Prim.Native.Nat.{ℕ, zero, suc, _+_, _-_, _*_, _≤_, _<_}
+use native.Mathlib.Nat.{add-assoc, add-zero, mul-suc, mul-le-mul-left, eq-or-lt-of-le, le-of-suc-le-suc}
+use native.Mathlib.Numerals.{add-one}
+use native.Mathlib.Omega.{arith}
+use lib.ListN.{length, take, drop, set, length-append, length-drop, take-append-drop}
+use lib.Seq.{sets, sets-eq, length-take-le, take-append-le, drop-append-le, take-at, drop-at, drop-drop, take-all, take-add, take-take, take-append-seam, drop-append-seam, set-split}
+use Rattle.spec_tables.specs.Tables.{over, many, part, Left, Put}
+
+module _ {A : Type 0} where
+  -- stores one after the other are one write
+  pub sets-over : (at : ℕ) (new old : List A) → at + length new ≤ length old → sets old at new ≡ over at new old
+  unfolding over
+  sets-over at new old h = sets-eq new old at h ∙ append-assoc (take at old) new (drop (at + length new) old)
+
+  pub length-over : (at : ℕ) (new old : List A) → at + length new ≤ length old → length (over at new old) ≡ length old
+  unfolding over
+  length-over at new old h =
+      let room : at ≤ length old = omega arith in
+      simp (length-append, length-take-le at old room, length-drop) (omega arith)
+
+  -- writing nothing changes nothing
+  pub over-none : (at : ℕ) (old : List A) → over at [] old ≡ old
+  unfolding over
+  over-none at old = rw add-zero (take-append-drop at old)
+
+  -- a write right behind another is one write of both
+  pub over-over : (at : ℕ) (a b old : List A) → at + length a + length b ≤ length old → over (at + length a) b (over at a old) ≡ over at (a ++ b) old
+  unfolding over
+  over-over at a b old h =
+      let room : at ≤ length old = omega arith in
+      let p : List A = take at old in
+      let e : length (p ++ a) ≡ at + length a = simp (length-append, length-take-le at old room) in
+      let rest : List A = drop (at + length a) old in
+      let d : drop (at + length a + length b) (p ++ (a ++ rest)) ≡ drop (at + length (a ++ b)) old =
+      rw (← append-assoc p a rest) (sym (drop-drop (length b) (at + length a) ((p ++ a) ++ rest))
+      ∙ ap (drop (length b)) (drop-at (p ++ a) rest (at + length a) e)
+      ∙ drop-drop (length b) (at + length a) old
+      ∙ ap (λ (n : ℕ). drop n old) (add-assoc at (length a) (length b) ∙ ap (λ (n : ℕ). at + n) (sym (length-append a b)))) in
+      rw (d, ← append-assoc p a rest, take-at (p ++ a) rest (at + length a) e) (append-assoc p a (b ++ drop (at + length (a ++ b)) old) ∙ ap (λ (l : List A). p ++ l) (sym (append-assoc a b (drop (at + length (a ++ b)) old))))
+
+  pub length-many : (f : ℕ → List A) (w n : ℕ) → ((i : ℕ) → length (f i) ≡ w) → length (many f n) ≡ w * n
+  unfolding many
+  length-many f w zero h = omega arith
+  length-many f w (suc n) h = simp (length-append, length-many f w n h, h n, mul-suc)
+
+  -- pieces that are the same make the same list
+  pub many-same : (f g : ℕ → List A) (n : ℕ) → ((i : ℕ) → i < n → f i ≡ g i) → many f n ≡ many g n
+  unfolding many
+  many-same f g zero h = refl
+  many-same f g (suc n) h = rw (many-same f g n (λ i k. h i (omega arith)), h n (omega arith))
+
+  -- one turn more of a loop that writes pieces of w elements one behind the other
+  pub many-more : (f : ℕ → List A) (w at i : ℕ) (old : List A) → ((j : ℕ) → length (f j) ≡ w) → at + w * i + w ≤ length old
+      → over (at + w * i) (f i) (over at (many f i) old) ≡ over at (many f (suc i)) old
+  unfolding many
+  many-more f w at i old h room =
+      let long : length (many f i) ≡ w * i = length-many f w i h in
+      let here : length (f i) ≡ w = h i in
+      ap (λ (n : ℕ). over (at + n) (f i) (over at (many f i) old)) (sym long)
+      ∙ over-over at (many f i) (f i) old (omega arith)
+
+  -- the parts of a list, one behind the other, are its front
+  pub many-parts : (w : ℕ) (l : List A) (n : ℕ) → many (λ i. part l (w * i) w) n ≡ take (w * n) l
+  unfolding many
+  many-parts w l zero = let e : w * 0 ≡ 0 = omega arith in rw e
+  many-parts w l (suc n) = rw (many-parts w l n, mul-suc, take-add)
+
+  -- the piece at i of many, in the middle of a list
+  pub part-many : (f : ℕ → List A) (w n i : ℕ) → ((j : ℕ) → length (f j) ≡ w) → i < n → part (many f n) (w * i) w ≡ f i
+  unfolding many
+  part-many f w zero i h k = absurd (no k)
+    where
+      no : i < 0 → ⊥
+      no k = omega arith
+  part-many f w (suc n) i h k =
+      let long : length (many f n) ≡ w * n = length-many f w n h in
+      ⊎-elim
+      (λ (e : i ≡ n). rw (e, drop-at (many f n) (f n) (w * n) long) (take-all w (f n) (omega (arith, h n))))
+      (λ (l : i < n).
+      let m : w * suc i ≤ w * n = mul-le-mul-left w l in
+      let m′ : w * i + w ≤ w * n = rw mul-suc at m in
+      let a : w * i ≤ length (many f n) = omega arith in
+      let b : w ≤ length (drop (w * i) (many f n)) = simp length-drop (omega arith) in
+      rw (drop-append-le (w * i) (many f n) (f n) a, take-append-le w (drop (w * i) (many f n)) (f n) b) (part-many f w n i h l))
+      (eq-or-lt-of-le (le-of-suc-le-suc k))
+
+  -- ---- what is left from a place on
+
+  pub left-whole : (s : List A) → Left s 0 s
+  left-whole s = record { within = omega arith; left = refl }
+
+  pub left-within : (s : List A) (at : ℕ) (rest : List A) → Left s at rest → at + length rest ≡ length s
+  left-within s at rest h =
+      let e : length s - at ≡ length rest = sym (length-drop at s) ∙ ap length (h .left) in
+      omega (arith, h .within)
+
+  -- the front of what is left stands there
+  pub left-front : (s : List A) (at : ℕ) (a b : List A) → Left s at (a ++ b) → part s at (length a) ≡ a
+  left-front s at a b h = ap (take (length a)) (h .left) ∙ take-append-seam a b
+
+  -- and behind it the rest is left
+  pub left-back : (s : List A) (at : ℕ) (a b : List A) → Left s at (a ++ b) → Left s (at + length a) b
+  left-back s at a b h =
+      let long : length (a ++ b) ≡ length a + length b = length-append a b in
+      record {
+        within = omega (arith, left-within s at (a ++ b) h);
+        left = sym (drop-drop (length a) at s) ∙ ap (drop (length a)) (h .left) ∙ drop-append-seam a b;
+      }
+
+  -- one write, and then another right behind it
+  pub then-over : (at place : ℕ) (a b old mid out : List A) → mid ≡ over at a old → out ≡ over place b mid → place ≡ at + length a → place + length b ≤ length old
+      → out ≡ over at (a ++ b) old
+  then-over at place a b old mid out p q e room =
+      q ∙ ap (over place b) p ∙ ap (λ (k : ℕ). over k b (over at a old)) e ∙ over-over at a b old (omega arith)
+
+  -- ---- one behind the other
+
+  pub put-long : {at next : ℕ} {new old out : List A} → Put at new old out next → length out ≡ length old
+  put-long {at} {next} {new} {old} p = ap length (p .written) ∙ length-over at new old (omega (arith, p .behind, p .within))
+
+  -- what was put, by another name
+  pub put-same : {at next : ℕ} {new other old out : List A} → new ≡ other → Put at new old out next → Put at other old out next
+  put-same {at} {next} {new} {other} {old} {out} e p = subst (λ (l : List A). Put at l old out next) e p
+
+  -- nothing was written yet
+  pub put-none : (at : ℕ) (old : List A) → at ≤ length old → Put at [] old old at
+  put-none at old h = record { written = sym (over-none at old); behind = omega arith; within = h }
+
+  -- two that stand one behind the other are one
+  pub put-then : {at i j : ℕ} {a b old mid out : List A} → Put at a old mid i → Put i b mid out j → Put at (a ++ b) old out j
+  put-then {at} {i} {j} {a} {b} {old} {mid} {out} p q =
+      let same : length mid ≡ length old = put-long p in
+      record {
+        written = then-over at i a b old mid out (p .written) (q .written) (p .behind) (omega (arith, q .behind, q .within));
+        behind = q .behind ∙ ap (λ (n : ℕ). n + length b) (p .behind) ∙ simp length-append (omega arith);
+        within = omega (arith, q .within);
+      }
+
+  -- one piece more, of a loop that puts pieces one behind the other
+  pub put-more : {at next end : ℕ} {old mid out : List A} (f : ℕ → List A) (i : ℕ) → Put at (many f i) old mid next → Put next (f i) mid out end → Put at (many f (i + 1)) old out end
+  unfolding many
+  put-more f i p q = rw add-one (put-then p q)
+
+  -- a store puts one element
+  pub put-store : (at : ℕ) (v : A) (old : List A) → at < length old → Put at (v ∷ []) old (set old at v) (at + 1)
+  put-store at v old h = record { written = sets-over at (v ∷ []) old (omega arith); behind = refl; within = omega arith }
+
+  -- a store right in front of what was written last
+  pub set-before : (p : ℕ) (d : A) (tail old : List A) → p + 1 + length tail ≤ length old → set (over (p + 1) tail old) p d ≡ over p (d ∷ tail) old
+  unfolding over
+  set-before p d tail old h =
+      let one : p + 1 ≡ suc p = omega arith in
+      let inside : suc p ≤ length old = omega arith in
+      let front : List A = take (suc p) old in
+      let long : length front ≡ suc p = length-take-le (suc p) old inside in
+      let rest : List A = tail ++ drop (suc p + length tail) old in
+      let in′ : p < length (front ++ rest) = simp length-append (omega arith) in
+      let in″ : p ≤ length front = omega arith in
+      let more : suc p + length tail ≡ p + suc (length tail) = omega arith in
+      rw one (set-split (front ++ rest) p d in′
+      ∙ ap (λ (l : List A). l ++ d ∷ drop (suc p) (front ++ rest)) (take-append-le p front rest in″ ∙ take-take p (suc p) old (omega arith))
+      ∙ ap (λ (l : List A). take p old ++ d ∷ l) (drop-at front rest (suc p) long)
+      ∙ ap (λ (k : ℕ). take p old ++ d ∷ (tail ++ drop k old)) more)
+
+  -- six stores one after the other are one write
+  pub six-over : (at : ℕ) (a b c d e f : A) (old : List A) → at + 6 ≤ length old
+      → set (set (set (set (set (set old at a) (at + 1) b) (at + 2) c) (at + 3) d) (at + 4) e) (at + 5) f ≡ over at (a ∷ b ∷ c ∷ d ∷ e ∷ f ∷ []) old
+  six-over at a b c d e f old h =
+      let p1 : at + 1 ≡ suc at = omega arith in
+      let p2 : at + 2 ≡ suc (suc at) = omega arith in
+      let p3 : at + 3 ≡ suc (suc (suc at)) = omega arith in
+      let p4 : at + 4 ≡ suc (suc (suc (suc at))) = omega arith in
+      let p5 : at + 5 ≡ suc (suc (suc (suc (suc at)))) = omega arith in
+      rw (p1, p2, p3, p4, p5) (sets-over at (a ∷ b ∷ c ∷ d ∷ e ∷ f ∷ []) old h)
