@@ -1,0 +1,20 @@
+-- `floats::from_bits` meets its contract: the test is that of a NaN's pattern, and nought over nought is the NaN.
+-- Assumes nothing.
+use mathlib.Core.Path.{_∙_}
+use lib.Ieee.{binary32}
+use Rattle.spec_numbers.proofs.Patterns.{reads-as-nan, reads-as-number, nought-over-nought}
+use borrow.Author.Needs.{needs}
+use Rattle.floats.proofs.bits.from_bits.Statement.{statement}
+use Rattle.floats.proofs.bits.from_bits.Tie as tie
+
+float-from-bits-result : tie.Need-float-from-bits-result
+float-from-bits-result c = reads-as-number binary32 (c .before .args .pattern) (c .if1 .left)
+
+returns : tie.Need-returns
+returns c = nought-over-nought binary32 ∙ reads-as-nan binary32 (c .before .args .pattern) (c .if1 .taken)
+
+returns-2 : tie.Need-returns-2
+returns-2 c = search needs
+
+pub from-bits-spec : {M : Type 1} → statement M
+from-bits-spec = tie.close (tie.spec float-from-bits-result returns returns-2)

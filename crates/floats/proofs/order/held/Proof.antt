@@ -1,0 +1,19 @@
+-- `floats::held` meets its contract: it lowers what is raised.
+-- Assumes nothing.
+use mathlib.Core.Path.{_∙_, ap}
+use Rattle.spec_numbers.specs.Hold.{lower}
+use borrow.Author.Needs.{needs}
+use Rattle.floats.proofs.order.held.Statement.{statement}
+use Rattle.floats.proofs.order.held.Tie as tie
+
+raise-requires : tie.Need-raise-requires
+raise-requires c κs = search needs
+
+lower-requires : tie.Need-lower-requires
+lower-requires c κs = search needs
+
+returns : tie.Need-returns
+returns c = c .lower .ensures ∙ ap (lower (c .before .before .args .hi)) (c .before .raise .ensures)
+
+pub held-spec : {M : Type 1} → statement M
+held-spec = tie.close (tie.spec raise-requires lower-requires returns)

@@ -1,0 +1,13 @@
+-- `floats::max2` meets its contract: each arm returns what the test picks.
+-- Assumes nothing.
+use Rattle.floats.proofs.order.max2.Statement.{statement}
+use Rattle.floats.proofs.order.max2.Tie as tie
+
+returns : tie.Need-returns
+returns c = rw (c .if1 .taken)
+
+returns-2 : tie.Need-returns-2
+returns-2 c = rw (c .if1 .left)
+
+pub max2-spec : {M : Type 1} → statement M
+max2-spec = tie.close (tie.spec returns returns-2)
