@@ -1,0 +1,4 @@
+pub mod OnAxes
+pub mod Bounds
+pub mod Held
+pub mod Plain
