@@ -1,0 +1,13 @@
+// The engine's limits, each named once.
+
+pub const MOST_TRIANGLES: usize = 4096;
+
+// The largest magnitude of a coordinate.
+pub const FURTHEST_COORDINATE: f32 = 1048576.0;
+
+pub const LONGEST_DISTANCE: f32 = 4194304.0;
+
+// The largest maximum depth.
+pub const DEEPEST: usize = 64;
+
+pub const MOST_LEAF_MINIMUM: usize = 4096;

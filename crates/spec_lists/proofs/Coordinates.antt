@@ -1,0 +1,106 @@
+-- A coordinate is finite, and stays a coordinate when it is read plus zero. The first bad number of a list is bad, and those before it are not. Assumes nothing.
+use mathlib.Core.Path.{_≡_}
+use mathlib.Core.Bool.{Bool, true, false, not, cond}
+use mathlib.Core.List.{List, [], _∷_}
+use Prim.Native.Nat.{ℕ, zero, suc, _+_, _≤_, _<_, zero-le}
+use native.Mathlib.Nat.{lt-trans}
+use native.Mathlib.Decide.{decLt}
+use native.Mathlib.Numerals.{add-one}
+use native.Mathlib.Omega.{arith}
+use lib.Dec.{T, T-not}
+use lib.ListN.{length, getD, drop, drop-of-length-le}
+use lib.Seq.{drop-cons}
+use lib.Ieee.{Float, nan, inf, fin, le, neg}
+use lib.Ieee.Fits.{and-l, and-r}
+use lib.Ieee.Scale.{finite}
+use Rattle.spec_numbers.specs.Values.{plusZero}
+use Rattle.spec_numbers.proofs.Order.{finite-between}
+use Rattle.spec_lists.specs.Limits.{furthestCoordinate}
+use Rattle.spec_lists.specs.Refusals.{isCoordinate, firstBad}
+use Rattle.spec_lists.specs.Passed.{AllCoordinates, FirstBad}
+
+-- ---- one number
+pub coordinate-at-least : (x : Float) → T (isCoordinate x) → T (le (neg furthestCoordinate) x)
+unfolding isCoordinate
+coordinate-at-least x h = and-l (le (neg furthestCoordinate) x) (le x furthestCoordinate) h
+
+pub coordinate-at-most : (x : Float) → T (isCoordinate x) → T (le x furthestCoordinate)
+unfolding isCoordinate
+coordinate-at-most x h = and-r (le (neg furthestCoordinate) x) (le x furthestCoordinate) h
+
+pub coordinate-finite : (x : Float) → T (isCoordinate x) → T (finite x)
+unfolding neg
+coordinate-finite x h = finite-between (neg furthestCoordinate) x furthestCoordinate tt tt (coordinate-at-least x h) (coordinate-at-most x h)
+
+pub coordinate-plus-zero : (x : Float) → T (isCoordinate x) → T (isCoordinate (plusZero x))
+unfolding isCoordinate le
+coordinate-plus-zero (inf true) h = h
+coordinate-plus-zero (fin s zero e) h = tt
+coordinate-plus-zero (fin s (suc m) e) h = h
+
+-- ---- the first bad number of a list
+pub first-bad-at-most : (xs : List Float) → firstBad xs ≤ length xs
+unfolding firstBad
+first-bad-at-most [] = zero-le
+first-bad-at-most (x ∷ xs) = go (isCoordinate x) (first-bad-at-most xs)
+  where
+    go : (b : Bool) → firstBad xs ≤ length xs → cond b (suc (firstBad xs)) 0 ≤ suc (length xs)
+    go true h = omega arith
+    go false h = zero-le
+
+pub good-before : (xs : List Float) (i : ℕ) → i < firstBad xs → T (isCoordinate (getD xs i nan))
+unfolding firstBad
+good-before [] i h = absurd (omega arith)
+good-before (x ∷ xs) i h = go (isCoordinate x) (λ t. t) i h (good-before xs)
+  where
+    go : (b : Bool) → (T b → T (isCoordinate x)) → (i : ℕ) → i < cond b (suc (firstBad xs)) 0 → ((j : ℕ) → j < firstBad xs → T (isCoordinate (getD xs j nan)))
+        → T (isCoordinate (getD (x ∷ xs) i nan))
+    go true here zero h rest = here tt
+    go true here (suc i) h rest = rest i (omega arith)
+    go false here i h rest = absurd (omega arith)
+
+pub first-bad-is-bad : (xs : List Float) → firstBad xs < length xs → T (not (isCoordinate (getD xs (firstBad xs) nan)))
+unfolding firstBad
+first-bad-is-bad [] h = absurd (omega arith)
+first-bad-is-bad (x ∷ xs) h = go (isCoordinate x) (λ t. t) h (first-bad-is-bad xs)
+  where
+    go : (b : Bool) → (T (not b) → T (not (isCoordinate x))) → cond b (suc (firstBad xs)) 0 < suc (length xs)
+        → (firstBad xs < length xs → T (not (isCoordinate (getD xs (firstBad xs) nan)))) → T (not (isCoordinate (getD (x ∷ xs) (cond b (suc (firstBad xs)) 0) nan)))
+    go true here h rest = rest (omega arith)
+    go false here h rest = here tt
+
+pub first-bad : (xs : List Float) → firstBad xs < length xs → FirstBad xs (firstBad xs)
+first-bad xs h = record { inside = h; bad = first-bad-is-bad xs h; before = good-before xs }
+
+-- there is only one
+pub first-bad-unique : (xs : List Float) (i : ℕ) → FirstBad xs i → firstBad xs ≡ i
+first-bad-unique xs i b = go (decLt (firstBad xs) i) (decLt i (firstBad xs))
+  where
+    go : Dec (firstBad xs < i) → Dec (i < firstBad xs) → firstBad xs ≡ i
+    go (yes l) k = absurd (T-not (isCoordinate (getD xs (firstBad xs) nan)) (first-bad-is-bad xs (lt-trans l (b .inside))) (b .before (firstBad xs) l))
+    go (no m) (yes l) = absurd (T-not (isCoordinate (getD xs i nan)) (b .bad) (good-before xs i l))
+    go (no m) (no n) = omega arith
+
+pub none-bad : (xs : List Float) → length xs ≤ firstBad xs → AllCoordinates xs
+none-bad xs h i k = good-before xs i (omega arith)
+
+pub all-good : (xs : List Float) → AllCoordinates xs → length xs ≤ firstBad xs
+all-good xs h = go (decLt (firstBad xs) (length xs))
+  where
+    go : Dec (firstBad xs < length xs) → length xs ≤ firstBad xs
+    go (yes l) = absurd (T-not (isCoordinate (getD xs (firstBad xs) nan)) (first-bad-is-bad xs l) (h (firstBad xs) l))
+    go (no n) = omega arith
+
+-- ---- looking for it, from the front
+module _ (xs : List Float) (i : ℕ) (inside : i < length xs) where
+  pub bad-here : isCoordinate (getD xs i nan) ≡ false → firstBad (drop i xs) ≡ 0
+  unfolding firstBad
+  bad-here e = rw (drop-cons xs i nan inside, e)
+
+  pub good-here : isCoordinate (getD xs i nan) ≡ true → firstBad (drop i xs) ≡ suc (firstBad (drop (i + 1) xs))
+  unfolding firstBad
+  good-here e = rw (drop-cons xs i nan inside, e, add-one)
+
+pub none-left : (xs : List Float) (i : ℕ) → length xs ≤ i → firstBad (drop i xs) ≡ 0
+unfolding firstBad
+none-left xs i h = rw (drop-of-length-le xs h)

@@ -1,0 +1,4 @@
+pub mod Verdicts
+pub mod Coordinates
+pub mod Passed
+pub mod Reading

@@ -1,0 +1,46 @@
+-- What a list, and what settings, that passed the tests give. Definitions only.
+use mathlib.Core.Bool.{not}
+use mathlib.Core.Path.{_≡_}
+use mathlib.Core.List.{List}
+use Prim.Native.Nat.{ℕ, _*_, _≤_, _<_}
+use lib.Dec.{T}
+use lib.ListN.{length, getD}
+use lib.Ieee.{Float, nan, Format, fits, le}
+use Rattle.spec_numbers.specs.Values.{zero}
+use Rattle.spec_lists.specs.Limits.{mostTriangles, longestDistance, deepest, mostLeafMinimum}
+use Rattle.spec_lists.specs.Reading.{triangleCount, pointCount}
+use Rattle.spec_lists.specs.Refusals.{isCoordinate, Settings}
+
+abbrev pub AllCoordinates : List Float → Type 0
+AllCoordinates xs = (i : ℕ) → i < length xs → T (isCoordinate (getD xs i nan))
+
+-- every number of the list is one of the format
+abbrev pub AllFit : Format → List Float → Type 0
+AllFit f xs = (i : ℕ) → i < length xs → T (fits f (getD xs i nan))
+
+pub record GoodTriangles (xs : List Float) : Type 0 where
+  pub whole : length xs ≡ 9 * triangleCount xs
+  pub some : 1 ≤ triangleCount xs
+  pub few : triangleCount xs ≤ mostTriangles
+  pub coordinates : AllCoordinates xs
+
+pub record GoodPoints (xs : List Float) : Type 0 where
+  pub whole : length xs ≡ 3 * pointCount xs
+  pub coordinates : AllCoordinates xs
+
+pub record GoodSettings (s : Settings) : Type 0 where
+  pub first : 1 ≤ s .strategy
+  pub last : s .strategy ≤ 2
+  pub leaf : 1 ≤ s .leafMinimum
+  pub leafMost : s .leafMinimum ≤ mostLeafMinimum
+  pub depth : s .maximumDepth ≤ deepest
+
+pub record GoodDistance (d : Float) : Type 0 where
+  pub low : T (le zero d)
+  pub high : T (le d longestDistance)
+
+-- the number at i is the first that is no coordinate
+pub record FirstBad (xs : List Float) (i : ℕ) : Type 0 where
+  pub inside : i < length xs
+  pub bad : T (not (isCoordinate (getD xs i nan)))
+  pub before : (j : ℕ) → j < i → T (isCoordinate (getD xs j nan))
