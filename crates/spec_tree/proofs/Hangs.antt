@@ -1,0 +1,112 @@
+-- What an accepted tree gives a walk: it hangs at the root, node by node, and every node is sound. Assumes nothing.
+use mathlib.Core.Path.{_≡_, subst}
+use mathlib.Core.List.{List}
+use mathlib.Core.Logic.{_⊎_, inl, inr}
+use Prim.Native.Nat.{ℕ, _+_, _-_, _*_, _≤_, _<_}
+use native.Mathlib.Omega.{arith}
+use native.Mathlib.Decide.{decLt}
+use lib.ListN.{length}
+use lib.Ieee.{Float}
+use Rattle.spec_shapes.specs.Boxes.{Box}
+use Rattle.spec_tree.specs.Trees.{Tree, leaf, branch, numbers, nodeCount, Filled, joined, boxOver, rootFrom, linksFrom, boxesOf}
+use Rattle.spec_tree.specs.Accepted.{Listing}
+use Rattle.spec_tree.specs.Hangs.{There, LeafAt, Hangs, LeafRange, ChildrenBefore, Sound}
+use Rattle.spec_tree.proofs.Standing.{stands-part}
+use Rattle.spec_tree.proofs.Nodes.{NodeLinks, links-read, box-read}
+use Rattle.spec_tree.proofs.Trees.{root-last, count-least}
+use Rattle.spec_tree.proofs.Listed.{Listed, Halves, halves}
+use Rattle.spec_tree.proofs.Accepted.{listing-stands, listing-some, listing-links, listing-boxes}
+use Rattle.spec_tree.proofs.Order.{permutes-entries}
+
+module _ (boxAt : ℕ → Box) (order links : List ℕ) (boxes : List Float) where
+  leaf-hangs : (part : List ℕ) (entry node last : ℕ) → 0 < length part → Listed boxAt order links boxes node entry node last (leaf part) → There links boxes node
+      → LeafAt order links boxes part (joined boxAt part) node
+  unfolding numbers linksFrom boxesOf
+  leaf-hangs part entry node last f s w =
+      let own : NodeLinks links node 1 entry (entry + length part) = links-read links node 1 entry (entry + length part) (s .links-stand) in
+      let end : entry + length part ≡ last = s .ends in
+      let size : length part ≡ entry + length part - entry = omega arith in
+      record {
+        there = w;
+        kind-is = own .kind-is;
+        nonempty = omega (arith, own .left-is, own .right-is);
+        within = omega (arith, own .right-is, s .within);
+        part-is = rw (own .left-is, own .right-is) (stands-part 0 order part entry (entry + length part - entry) size (s .part));
+        box-is = box-read boxes node (joined boxAt part) (s .boxes-stand);
+      }
+
+  -- the listing of a tree hangs at its root
+  pub listed-hangs : (t : Tree) (first entry node last : ℕ) → Filled t → Listed boxAt order links boxes first entry node last t
+      → 3 * node + 3 ≤ length links → 6 * node + 6 ≤ length boxes → Hangs boxAt order links boxes t node
+  unfolding boxOver rootFrom
+  listed-hangs (leaf part) first entry node last f s wl wb =
+      leaf-hangs part entry node last f (subst (λ (k : ℕ). Listed boxAt order links boxes k entry node last (leaf part)) (s .root) s) (omega arith)
+  listed-hangs (branch l r) first entry node last f s wl wb =
+      let h : Halves boxAt order links boxes first entry node last l r = halves boxAt order links boxes first entry node last l r s in
+      record {
+        there = omega arith;
+        kind-is = h .own .kind-is;
+        left-before = omega (arith, h .own .left-is, h .left-next, h .right-next, count-least r);
+        right-before = omega (arith, h .own .right-is, h .right-next);
+        box-is = h .box;
+        left = rw (h .own .left-is) (listed-hangs l first entry (rootFrom first l) (entry + length (numbers l)) (f .0) (h .left) (omega (arith, h .left-next, h .right-next, count-least r)) (omega (arith, h .left-next, h .right-next, count-least r)));
+        right = rw (h .own .right-is) (listed-hangs r (first + nodeCount l) (entry + length (numbers l)) (rootFrom (first + nodeCount l) r) last (f .1) (h .right) (omega (arith, h .right-next)) (omega (arith, h .right-next)));
+      }
+
+  -- ---- what holds of every node of a listing
+  abbrev Node : ℕ → Type 0
+  Node node = LeafRange order links node ⊎ ChildrenBefore links node
+
+  -- the nodes of a branch are those of its left subtree, those of its right subtree, and itself
+  one-of-three : (first mid node k : ℕ) → first ≤ k → k < node + 1 → (first ≤ k → k < mid → Node k) → (mid ≤ k → k < node → Node k) → Node node → Node k
+  one-of-three first mid node k a b left right own = at (decLt k mid) (decLt k node)
+    where
+      at : Dec (k < mid) → Dec (k < node) → Node k
+      at (yes p) d = left a p
+      at (no p) (yes q) = right (omega arith) q
+      at (no p) (no q) = let e : node ≡ k = omega arith in subst Node e own
+
+  pub listed-node : (t : Tree) (first entry node last : ℕ) → Filled t → Listed boxAt order links boxes first entry node last t
+      → 3 * node + 3 ≤ length links → 6 * node + 6 ≤ length boxes → (k : ℕ) → first ≤ k → k < node + 1 → Node k
+  unfolding rootFrom
+  listed-node (leaf part) first entry node last f s wl wb k a b =
+      let here : LeafAt order links boxes part (joined boxAt part) node = listed-hangs (leaf part) first entry node last f s wl wb in
+      let e : node ≡ k = omega (arith, s .root) in
+      subst Node e (inl (record { is-leaf = here .kind-is; nonempty = here .nonempty; within = here .within }))
+  listed-node (branch l r) first entry node last f s wl wb k a b =
+      let h : Halves boxAt order links boxes first entry node last l r = halves boxAt order links boxes first entry node last l r s in
+      let left-before : rootFrom first l < node = omega (arith, h .left-next, h .right-next, root-last (first + nodeCount l) r) in
+      let right-before : rootFrom (first + nodeCount l) r < node = omega (arith, h .right-next) in
+      let here : ChildrenBefore links node = record { is-branch = h .own .kind-is; left-before = rw (h .own .left-is) left-before; right-before = rw (h .own .right-is) right-before } in
+      one-of-three first (first + nodeCount l) node k a b
+      (λ p q. listed-node l first entry (rootFrom first l) (entry + length (numbers l)) (f .0) (h .left) (omega arith) (omega arith) k p (omega (arith, h .left-next)))
+      (λ p q. listed-node r (first + nodeCount l) (entry + length (numbers l)) (rootFrom (first + nodeCount l) r) last (f .1) (h .right) (omega arith) (omega arith) k p (omega (arith, h .right-next)))
+      (inr here)
+
+-- ---- of a whole listing
+module _ (boxAt : ℕ → Box) (n : ℕ) (order links : List ℕ) (boxes : List Float) (nodes : ℕ) (t : Tree) (s : Listing boxAt n order links boxes nodes t) where
+  some : 1 ≤ nodes
+  some = listing-some boxAt n order links boxes nodes t s
+
+  links-there : 3 * nodes ≤ length links
+  links-there = listing-links boxAt n order links boxes nodes t s
+
+  boxes-there : 6 * nodes ≤ length boxes
+  boxes-there = listing-boxes boxAt n order links boxes nodes t s
+
+  -- the tree hangs at the last node
+  pub listing-hangs : Hangs boxAt order links boxes t (nodes - 1)
+  listing-hangs =
+      listed-hangs boxAt order links boxes t 0 0 (nodes - 1) n (s .filled) (listing-stands boxAt n order links boxes nodes t s)
+      (omega (arith, some, links-there)) (omega (arith, some, boxes-there))
+
+  pub listing-sound : Sound n order links boxes nodes
+  listing-sound =
+      record {
+        links-there = links-there;
+        boxes-there = boxes-there;
+        node-is = λ node h.
+            listed-node boxAt order links boxes t 0 0 (nodes - 1) n (s .filled) (listing-stands boxAt n order links boxes nodes t s)
+            (omega (arith, some, links-there)) (omega (arith, some, boxes-there)) node (omega arith) (omega (arith, some));
+        entries = permutes-entries n order (s .permuted);
+      }

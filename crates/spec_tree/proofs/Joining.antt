@@ -1,0 +1,28 @@
+-- A loop that joins boxes, turn by turn: before turn i what is still to be joined is the list without its first i. Assumes nothing.
+use mathlib.Core.Path.{_≡_}
+use mathlib.Core.List.{List, [], _∷_}
+use Prim.Native.Nat.{ℕ, _+_, _≤_, _<_}
+use native.Mathlib.Numerals.{add-one}
+use native.Mathlib.Omega.{arith}
+use lib.ListN.{length, getD, drop, drop-of-length-le}
+use lib.Seq.{drop-cons}
+use Rattle.spec_shapes.specs.Boxes.{Box, union}
+use Rattle.spec_tree.specs.Trees.{joinedTo, joined}
+
+module _ (boxAt : ℕ → Box) (part : List ℕ) where
+  pub joining-starts : (b : Box) → 0 < length part → b ≡ boxAt (getD part 0 0) → joinedTo boxAt b (drop 1 part) ≡ joined boxAt part
+  unfolding joined
+  joining-starts b h p = at part h p
+    where
+      at : (l : List ℕ) → 0 < length l → b ≡ boxAt (getD l 0 0) → joinedTo boxAt b (drop 1 l) ≡ joined boxAt l
+      at [] h p = absurd (omega arith)
+      at (k ∷ ks) h p = rw p
+
+  pub joining-goes-on : (i : ℕ) (b c : Box) → i < length part → c ≡ union b (boxAt (getD part i 0)) → joinedTo boxAt b (drop i part) ≡ joined boxAt part
+      → joinedTo boxAt c (drop (i + 1) part) ≡ joined boxAt part
+  unfolding joinedTo
+  joining-goes-on i b c h p q = rw (p, add-one i) (rw (drop-cons part i 0 h) at q)
+
+  pub joining-ends : (i : ℕ) (b : Box) → length part ≤ i → joinedTo boxAt b (drop i part) ≡ joined boxAt part → b ≡ joined boxAt part
+  unfolding joinedTo
+  joining-ends i b h q = rw (drop-of-length-le part h) at q

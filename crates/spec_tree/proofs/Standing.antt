@@ -1,0 +1,76 @@
+-- A list that stands in another from a place on, and parts of a list that meet. Assumes nothing.
+use mathlib.Core.Path.{_≡_, refl, sym, ap, subst, _∙_}
+use mathlib.Core.List.{List, [], _∷_, _++_}
+use Prim.Native.Nat.{ℕ, suc, _+_, _-_, _≤_, _<_, suc-le-suc, zero-le}
+use native.Mathlib.Omega.{arith}
+use lib.ListN.{length, getD, take, drop, take-append-drop, length-append, length-take, length-drop}
+use lib.Seq.{drop-cons, take-add, drop-drop}
+use Rattle.spec_tables.specs.Tables.{part}
+
+-- the elements of xs are those of l from s on
+abbrev pub Stands : {A : Type 0} → A → List A → ℕ → List A → Type 0
+Stands d l s [] = Unit {0}
+Stands d l s (x ∷ xs) = (s < length l) × (getD l s d ≡ x) × Stands d l (suc s) xs
+
+module _ {A : Type 0} (d : A) where
+  moved : (l xs : List A) (s s′ : ℕ) → s ≡ s′ → Stands d l s xs → Stands d l s′ xs
+  moved l xs s s′ p h = subst (λ (k : ℕ). Stands d l k xs) p h
+
+  pub stands-first : (l xs ys : List A) (s : ℕ) → Stands d l s (xs ++ ys) → Stands d l s xs
+  stands-first l [] ys s h = tt
+  stands-first l (x ∷ xs) ys s h = (h .0, h .1, stands-first l xs ys (suc s) (h .2))
+
+  pub stands-second : (l xs ys : List A) (s s′ : ℕ) → s + length xs ≡ s′ → Stands d l s (xs ++ ys) → Stands d l s′ ys
+  stands-second l [] ys s s′ p h = moved l ys s s′ (omega arith) h
+  stands-second l (x ∷ xs) ys s s′ p h = stands-second l xs ys (suc s) s′ (omega arith) (h .2)
+
+  pub stands-both : (l xs ys : List A) (s s′ : ℕ) → s + length xs ≡ s′ → Stands d l s xs → Stands d l s′ ys → Stands d l s (xs ++ ys)
+  stands-both l [] ys s s′ p h k = moved l ys s′ s (omega arith) k
+  stands-both l (x ∷ xs) ys s s′ p h k = (h .0, h .1, stands-both l xs ys (suc s) s′ (omega arith) (h .2) k)
+
+  -- three parts, as a branch has them: those of its left subtree, of its right subtree, and its own
+  module _ (l xs ys zs : List A) (s s′ s″ : ℕ) (p : s + length xs ≡ s′) (q : s′ + length ys ≡ s″) where
+    over-two : s + length (xs ++ ys) ≡ s″
+    over-two = omega (arith, length-append xs ys)
+
+    pub stands-three : Stands d l s xs → Stands d l s′ ys → Stands d l s″ zs → Stands d l s (xs ++ ys ++ zs)
+    stands-three h k m = stands-both l (xs ++ ys) zs s s″ over-two (stands-both l xs ys s s′ p h k) m
+
+    pub three-stand : Stands d l s (xs ++ ys ++ zs) → Stands d l s xs × Stands d l s′ ys × Stands d l s″ zs
+    three-stand h =
+        let two = stands-first l (xs ++ ys) zs s h in
+        (stands-first l xs ys s two, stands-second l xs ys s s′ p two, stands-second l (xs ++ ys) zs s s″ over-two h)
+
+  -- a list that stands there is the part from there on
+  pub stands-part : (l xs : List A) (s n : ℕ) → length xs ≡ n → Stands d l s xs → part l s n ≡ xs
+  stands-part l [] s n p h = rw (← p)
+  stands-part l (x ∷ xs) s n p h =
+      rw (← p, drop-cons l s d (h .0)) (λ i. h .1 i ∷ stands-part l xs (suc s) (length xs) refl (h .2) i)
+
+  behind : (y : A) (l xs : List A) (s : ℕ) → Stands d l s xs → Stands d (y ∷ l) (suc s) xs
+  behind y l [] s h = tt
+  behind y l (x ∷ xs) s h = (suc-le-suc (h .0), h .1, behind y l xs (suc s) (h .2))
+
+  stands-prefix : (xs ys : List A) → Stands d (xs ++ ys) 0 xs
+  stands-prefix [] ys = tt
+  stands-prefix (x ∷ xs) ys = (suc-le-suc zero-le, refl, behind x (xs ++ ys) xs 0 (stands-prefix xs ys))
+
+  pub taken-stands : (l xs : List A) (n : ℕ) → take n l ≡ xs → Stands d l 0 xs
+  taken-stands l xs n p =
+      subst (λ (m : List A). Stands d m 0 xs) (ap (λ (k : List A). k ++ drop n l) (sym p) ∙ take-append-drop n l) (stands-prefix xs (drop n l))
+
+  -- a list that stands there, stands within
+  pub stands-within : (l xs : List A) (s : ℕ) → 0 < length xs → Stands d l s xs → s + length xs ≤ length l
+  stands-within l (x ∷ []) s h k = let at : s < length l = k .0 in omega arith
+  stands-within l (x ∷ y ∷ xs) s h k =
+      let rest : suc s + length (y ∷ xs) ≤ length l = stands-within l (y ∷ xs) (suc s) (suc-le-suc zero-le) (k .2) in omega arith
+
+-- two parts that meet are one part
+pub part-join : {A : Type 0} (l : List A) (a b c : ℕ) → a ≤ b → b ≤ c → part l a (b - a) ++ part l b (c - b) ≡ part l a (c - a)
+part-join {A} l a b c h k =
+    let sizes : c - a ≡ (b - a) + (c - b) = omega arith in
+    let start : a + (b - a) ≡ b = omega arith in
+    sym (ap (part l a) sizes ∙ take-add (b - a) (c - b) (drop a l) ∙ ap (λ (x : List A). part l a (b - a) ++ take (c - b) x) (drop-drop (b - a) a l ∙ ap (λ (n : ℕ). drop n l) start))
+
+pub part-length : {A : Type 0} (l : List A) (s n : ℕ) → s + n ≤ length l → length (part l s n) ≡ n
+part-length l s n w = length-take n (drop s l) ∙ omega (arith, length-drop s l)

@@ -1,0 +1,50 @@
+-- How many nodes, links and box numbers a tree has: at least one node, and at most 2n - 1 over n triangles. Assumes nothing.
+use mathlib.Core.Path.{_≡_, refl, ap, _∙_}
+use mathlib.Core.List.{List, _++_}
+use Prim.Native.Nat.{ℕ, _+_, _*_, _≤_, _<_}
+use native.Mathlib.Omega.{arith}
+use lib.ListN.{length, length-append}
+use Rattle.spec_shapes.specs.Boxes.{Box}
+use Rattle.spec_tree.specs.Trees.{Tree, leaf, branch, numbers, nodeCount, levels, Filled, boxOver, rootFrom, linksFrom, sixOf, boxesOf}
+
+-- where the root of a listing stands: last
+pub root-last : (node : ℕ) (t : Tree) → rootFrom node t + 1 ≡ node + nodeCount t
+unfolding rootFrom nodeCount
+root-last node (leaf part) = refl
+root-last node (branch l r) = omega arith
+
+pub count-least : (t : Tree) → 1 ≤ nodeCount t
+unfolding nodeCount
+count-least (leaf part) = omega arith
+count-least (branch l r) = omega arith
+
+pub levels-least : (t : Tree) → 1 ≤ levels t
+unfolding levels
+levels-least (leaf part) = omega arith
+levels-least (branch l r) = omega arith
+
+pub count-most : (t : Tree) → Filled t → nodeCount t + 1 ≤ 2 * length (numbers t)
+unfolding nodeCount numbers
+count-most (leaf part) f = omega arith
+count-most (branch l r) f =
+    omega (arith, count-most l (f .0), count-most r (f .1), length-append (numbers l) (numbers r))
+
+pub numbers-least : (t : Tree) → Filled t → 0 < length (numbers t)
+numbers-least t f = omega (arith, count-most t f, count-least t)
+
+three-parts : {A : Type 0} (xs ys zs : List A) → length (xs ++ ys ++ zs) ≡ length xs + length ys + length zs
+three-parts xs ys zs = length-append (xs ++ ys) zs ∙ ap (λ (n : ℕ). n + length zs) (length-append xs ys)
+
+pub links-length : (node entry : ℕ) (t : Tree) → length (linksFrom node entry t) ≡ 3 * nodeCount t
+unfolding linksFrom nodeCount
+links-length node entry (leaf part) = refl
+links-length node entry (branch l r) =
+    three-parts (linksFrom node entry l) (linksFrom (node + nodeCount l) (entry + length (numbers l)) r) _
+    ∙ omega (arith, links-length node entry l, links-length (node + nodeCount l) (entry + length (numbers l)) r)
+
+pub boxes-length : (boxAt : ℕ → Box) (t : Tree) → length (boxesOf boxAt t) ≡ 6 * nodeCount t
+unfolding boxesOf nodeCount
+boxes-length boxAt (leaf part) = refl
+boxes-length boxAt (branch l r) =
+    three-parts (boxesOf boxAt l) (boxesOf boxAt r) (sixOf (boxOver boxAt (branch l r)))
+    ∙ omega (arith, boxes-length boxAt l, boxes-length boxAt r)

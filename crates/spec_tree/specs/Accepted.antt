@@ -1,0 +1,96 @@
+-- The tree check: what it is for lists to be the listing of a tree over n triangles, and the check itself, by recursion from the root. Definitions only.
+use mathlib.Core.Path.{_≡_}
+use mathlib.Core.Bool.{Bool, true, false, cond, _&&_}
+use mathlib.Core.List.{List}
+use Prim.Native.Nat.{ℕ, zero, suc, _+_, _-_, _*_, _≤_}
+use lib.Dec.{leb, ltb, eqb}
+use lib.ListN.{length, take}
+use lib.Ieee.{Float}
+use Rattle.spec_tables.specs.Tables.{part}
+use Rattle.spec_numbers.specs.Same.{same}
+use Rattle.spec_lists.specs.Limits.{deepest}
+use Rattle.spec_shapes.specs.Points.{Point}
+use Rattle.spec_shapes.specs.Boxes.{Box, union}
+use Rattle.spec_tree.specs.Trees.{Tree, numbers, nodeCount, levels, Filled, joined, linksFrom, boxesOf, kindAt, leftAt, rightAt, nodeBox}
+use Rattle.spec_tree.specs.Order.{Permutes, permutes}
+
+-- The lists are the listing of the tree: the first 3 × nodes links and the first 6 × nodes box numbers are there and are the tree's; what stands behind them is free.
+pub record Listing (boxAt : ℕ → Box) (n : ℕ) (order links : List ℕ) (boxes : List Float) (nodes : ℕ) (t : Tree) : Type 0 where
+  pub order-is : order ≡ numbers t
+  pub permuted : Permutes n order
+  pub filled : Filled t
+  pub nodes-are : nodes ≡ nodeCount t
+  pub links-are : take (3 * nodes) links ≡ linksFrom 0 0 t
+  pub boxes-are : take (6 * nodes) boxes ≡ boxesOf boxAt t
+  pub shallow : levels t ≤ deepest
+
+-- ---- the check
+abbrev pub samePoint : Point → Point → Bool
+samePoint a b = same (a .x) (b .x) && same (a .y) (b .y) && same (a .z) (b .z)
+
+-- bit for bit
+unfoldable pub sameBox : Box → Box → Bool
+sameBox a b = samePoint (a .min) (b .min) && samePoint (a .max) (b .max)
+
+-- what a subtree is found to be: wrong, or a listing with this first node, whose triangles begin at this entry of the order list, under this box
+pub data Finding : Type 0 where
+  wrong : Finding
+  spans : ℕ → ℕ → Box → Finding
+
+-- the node has the box that its triangles or children give it
+unfoldable pub boxed : List Float → ℕ → ℕ → ℕ → Box → Finding
+boxed boxes node first entry box = cond (sameBox box (nodeBox boxes node)) (spans first entry box) wrong
+
+-- a branch, whose left subtree is found to be this
+abbrev pub leftFound : List Float → ℕ → Box → Finding → Finding
+leftFound boxes node rightBox wrong = wrong
+leftFound boxes node rightBox (spans first entry leftBox) = boxed boxes node first entry (union leftBox rightBox)
+
+module _ (boxAt : ℕ → Box) (order links : List ℕ) (boxes : List Float) where
+  -- a leaf: its triangles are those from its left to its right, which is `last`
+  unfoldable pub leafFinding : ℕ → ℕ → Finding
+  leafFinding node last =
+      let entry = leftAt links node in
+      cond (ltb entry last && eqb (rightAt links node) last) (boxed boxes node node entry (joined boxAt (part order entry (last - entry)))) wrong
+
+  -- a branch: its right subtree ends just before it, its left subtree just before the right one
+  abbrev pub leftTried : Bool → (ℕ → ℕ → Finding) → ℕ → ℕ → Box → Finding
+  leftTried true below node entry rightBox = leftFound boxes node rightBox (below (leftAt links node) entry)
+  leftTried false below node entry rightBox = wrong
+
+  abbrev pub rightFound : (ℕ → ℕ → Finding) → ℕ → Finding → Finding
+  rightFound below node wrong = wrong
+  rightFound below node (spans first entry rightBox) = leftTried (eqb (leftAt links node + 1) first) below node entry rightBox
+
+  abbrev pub rightTried : Bool → (ℕ → ℕ → Finding) → ℕ → ℕ → Finding
+  rightTried true below node last = rightFound below node (below (rightAt links node) last)
+  rightTried false below node last = wrong
+
+  abbrev pub byKind : Bool → Bool → (ℕ → ℕ → Finding) → ℕ → ℕ → Finding
+  byKind true isBranch below node last = leafFinding node last
+  byKind false true below node last = rightTried (eqb (rightAt links node + 1) node) below node last
+  byKind false false below node last = wrong
+
+  -- the subtree whose root is this node and whose triangles end at `last`, the end not included, with so many levels left
+  unfoldable pub finding : ℕ → ℕ → ℕ → Finding
+  finding zero node last = wrong
+  finding (suc left) node last = byKind (eqb (kindAt links node) 1) (eqb (kindAt links node) 2) (finding left) node last
+
+-- the node is there, and its triangles end within the order list
+pub record Room (order links : List ℕ) (boxes : List Float) (node last : ℕ) : Type 0 where
+  pub links-there : 3 * node + 3 ≤ length links
+  pub boxes-there : 6 * node + 6 ≤ length boxes
+  pub order-there : last ≤ length order
+
+-- the whole listing begins with node 0 and entry 0
+abbrev pub isWhole : Finding → Bool
+isWhole wrong = false
+isWhole (spans first entry box) = eqb first 0 && eqb entry 0
+
+-- there is a node, and the links and boxes of so many are there
+unfoldable pub present : List ℕ → List Float → ℕ → Bool
+present links boxes nodes = ltb 0 nodes && leb (3 * nodes) (length links) && leb (6 * nodes) (length boxes)
+
+unfoldable pub accepted : (ℕ → Box) → ℕ → List ℕ → List ℕ → List Float → ℕ → Bool
+accepted boxAt n order links boxes nodes =
+    permutes n order && present links boxes nodes && isWhole (finding boxAt order links boxes deepest (nodes - 1) n)

@@ -1,0 +1,41 @@
+-- Twelve buckets of boxes: how many fell into each, and their union. Definitions only.
+use mathlib.Core.List.{List, foldl}
+use Prim.Native.Nat.{ℕ, _+_, _^_, _<_}
+use lib.ListN.{getD, set, replicate}
+use lib.Ieee.{Format}
+use Rattle.spec_shapes.specs.Boxes.{Box, empty, union}
+
+abbrev pub bucketCount : ℕ
+bucketCount = 12
+
+pub record Bucket : Type 0 where
+  pub count : ℕ
+  pub bounds : Box
+
+unfoldable pub emptyBucket : Format → Bucket
+emptyBucket f = record { count = 0; bounds = empty f }
+
+-- with one box more
+unfoldable pub withBox : Bucket → Box → Bucket
+withBox s b = record { count = s .count + 1; bounds = union (s .bounds) b }
+
+-- with the boxes of another
+unfoldable pub merged : Bucket → Bucket → Bucket
+merged s t = record { count = s .count + t .count; bounds = union (s .bounds) (t .bounds) }
+
+unfoldable pub emptyBuckets : Format → List Bucket
+emptyBuckets f = replicate bucketCount (emptyBucket f)
+
+abbrev pub bucketAt : Format → List Bucket → ℕ → Bucket
+bucketAt f buckets k = getD buckets k (emptyBucket f)
+
+unfoldable pub putIn : Format → List Bucket → ℕ → Box → List Bucket
+putIn f buckets k b = set buckets k (withBox (bucketAt f buckets k) b)
+
+-- the buckets of one side of a cut, as one
+unfoldable pub sideOf : Format → List Bucket → Bucket
+sideOf f buckets = foldl merged (emptyBucket f) buckets
+
+-- no count is so large that twelve of them would not fit
+abbrev pub AreSmall : Format → List Bucket → Type 0
+AreSmall f buckets = (k : ℕ) → bucketAt f buckets k .count < 2 ^ 28

@@ -1,0 +1,62 @@
+-- What a walk meets at a node of the lists: the tree that hangs there, and what holds of every node. Definitions only.
+use mathlib.Core.Path.{_≡_}
+use mathlib.Core.List.{List}
+use mathlib.Core.Logic.{_⊎_}
+use Prim.Native.Nat.{ℕ, _+_, _-_, _*_, _≤_, _<_}
+use lib.ListN.{length}
+use lib.Ieee.{Float}
+use Rattle.spec_tables.specs.Tables as Tables
+use Rattle.spec_shapes.specs.Boxes.{Box}
+use Rattle.spec_tree.specs.Trees.{Tree, leaf, branch, joined, boxOver, kindAt, leftAt, rightAt, nodeBox}
+use Rattle.spec_tree.specs.Order.{EntriesBelow}
+
+-- the part of the order list that a leaf's range is
+abbrev pub leafPart : List ℕ → List ℕ → ℕ → List ℕ
+leafPart order links node = Tables.part order (leftAt links node) (rightAt links node - leftAt links node)
+
+-- the node's three links and six box numbers are there
+pub record There (links : List ℕ) (boxes : List Float) (node : ℕ) : Type 0 where
+  pub links-there : 3 * node + 3 ≤ length links
+  pub boxes-there : 6 * node + 6 ≤ length boxes
+
+pub record LeafAt (order links : List ℕ) (boxes : List Float) (part : List ℕ) (box : Box) (node : ℕ) : Type 0 where
+  pub there : There links boxes node
+  pub kind-is : kindAt links node ≡ 1
+  pub nonempty : leftAt links node < rightAt links node
+  pub within : rightAt links node ≤ length order
+  pub part-is : leafPart order links node ≡ part
+  pub box-is : nodeBox boxes node ≡ box
+
+-- its children stand before it, and this hangs at them
+pub record BranchAt (links : List ℕ) (boxes : List Float) (box : Box) (Left Right : ℕ → Type 0) (node : ℕ) : Type 0 where
+  pub there : There links boxes node
+  pub kind-is : kindAt links node ≡ 2
+  pub left-before : leftAt links node < node
+  pub right-before : rightAt links node < node
+  pub box-is : nodeBox boxes node ≡ box
+  pub left : Left (leftAt links node)
+  pub right : Right (rightAt links node)
+
+-- the tree hangs at the node
+abbrev pub Hangs : (ℕ → Box) → List ℕ → List ℕ → List Float → Tree → ℕ → Type 0
+Hangs boxAt order links boxes (leaf part) = LeafAt order links boxes part (joined boxAt part)
+Hangs boxAt order links boxes (branch l r) =
+    BranchAt links boxes (boxOver boxAt (branch l r)) (Hangs boxAt order links boxes l) (Hangs boxAt order links boxes r)
+
+-- ---- of every node alike
+pub record LeafRange (order links : List ℕ) (node : ℕ) : Type 0 where
+  pub is-leaf : kindAt links node ≡ 1
+  pub nonempty : leftAt links node < rightAt links node
+  pub within : rightAt links node ≤ length order
+
+pub record ChildrenBefore (links : List ℕ) (node : ℕ) : Type 0 where
+  pub is-branch : kindAt links node ≡ 2
+  pub left-before : leftAt links node < node
+  pub right-before : rightAt links node < node
+
+-- each of the nodes is there, and is a leaf with a range in the order list or a branch whose children stand before it; each entry of the order list is below n
+pub record Sound (n : ℕ) (order links : List ℕ) (boxes : List Float) (nodes : ℕ) : Type 0 where
+  pub links-there : 3 * nodes ≤ length links
+  pub boxes-there : 6 * nodes ≤ length boxes
+  pub node-is : (node : ℕ) → node < nodes → LeafRange order links node ⊎ ChildrenBefore links node
+  pub entries : EntriesBelow n order

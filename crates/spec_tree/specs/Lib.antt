@@ -1,0 +1,11 @@
+pub mod Trees
+pub mod Order
+pub mod Accepted
+pub mod Hangs
+pub mod Depth
+pub mod Refusals
+pub mod Sort
+pub mod Splits
+pub mod Median
+pub mod Buckets
+pub mod Area

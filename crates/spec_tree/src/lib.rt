@@ -1,0 +1,1 @@
+// Definitions and laws of the tree over the triangles: no code.
