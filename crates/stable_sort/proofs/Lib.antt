@@ -1,0 +1,6 @@
+mod Ordering
+mod Parts
+mod Inserting
+mod Standing
+mod Merging
+mod Halving
