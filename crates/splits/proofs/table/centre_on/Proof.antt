@@ -1,0 +1,51 @@
+-- `splits::centre_on` meets its contract: the two numbers of the axis stand at its place in the box.
+-- Assumes nothing.
+use native.Mathlib.Omega.{arith}
+use lib.Ieee.{binary32, ofBits}
+use Rattle.primitives.specs.Values.{asAxis}
+use Rattle.spec_tree.proofs.SplitTable.{place-below, centre-in}
+use borrow.Author.Needs.{needs}
+use Rattle.splits.proofs.table.centre_on.Statement.{statement}
+use Rattle.splits.proofs.table.centre_on.Tie as tie
+
+mul-at : tie.Need-mul-at
+mul-at c = search needs
+
+place-of-requires : tie.Need-place-of-requires
+place-of-requires c κs = search needs
+
+add-at : tie.Need-add-at
+add-at c = omega (arith, c .place-of .ensures, place-below (asAxis (c .before .before .args .axis)))
+
+mul-result : tie.Need-mul-result
+mul-result c = omega (arith, c .place-of .ensures, place-below (asAxis (c .before .before .args .axis)))
+
+shared-slice-read-result : tie.Need-shared-slice-read-result
+shared-slice-read-result c = omega (arith, c .before .place-of .ensures, place-below (asAxis (c .before .before .before .args .axis)))
+
+add-result : tie.Need-add-result
+add-result c = omega (arith, c .before .place-of .ensures, place-below (asAxis (c .before .before .before .args .axis)))
+
+mul-result-2 : tie.Need-mul-result-2
+mul-result-2 c = omega (arith, c .before .place-of .ensures, place-below (asAxis (c .before .before .before .args .axis)))
+
+shared-slice-read-result-2 : tie.Need-shared-slice-read-result-2
+shared-slice-read-result-2 c = omega (arith, c .before .before .place-of .ensures, place-below (asAxis (c .before .before .before .before .args .axis)))
+
+returns : tie.Need-returns
+unfolding ofBits
+returns c = rw (c .before .before .place-of .ensures) (centre-in binary32 (c .before .before .before .before .args .bounds .now) (c .before .before .before .before .args .t) (asAxis (c .before .before .before .before .args .axis)))
+
+pub centre-on-spec : {M : Type 1} → statement M
+centre-on-spec =
+    tie.close
+    (tie.spec
+    mul-at
+    place-of-requires
+    add-at
+    mul-result
+    shared-slice-read-result
+    add-result
+    mul-result-2
+    shared-slice-read-result-2
+    returns)

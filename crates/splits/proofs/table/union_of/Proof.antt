@@ -1,0 +1,82 @@
+-- `splits::union_of` meets its contract. The invariant: joining the boxes that are left, from what is joined now, gives what the whole part gives.
+-- Assumes nothing.
+use mathlib.Core.Path.{_≡_, ap, _∙_}
+use mathlib.Core.List.{foldl}
+use Prim.Native.Nat.{_-_}
+use native.Mathlib.Omega.{arith}
+use borrow.Author.Needs.{needs}
+use lib.ListN.{length, drop}
+use lib.Ieee.{binary32}
+use Rattle.spec_shapes.specs.Boxes.{Box, union}
+use Rattle.primitives.specs.Values.{asBox}
+use Rattle.spec_tree.specs.Splits.{boxIn, boxesOf, unionOf}
+use Rattle.spec_tree.proofs.SplitTable.{union-from-first}
+use Rattle.spec_tree.proofs.SplitTurns.{fold-on-named, fold-ended-named}
+use Rattle.splits.proofs.table.union_of.Statement.{statement}
+use Rattle.splits.proofs.table.union_of.Tie as tie
+
+abbrev Inv-loop : tie.InvT-loop
+Inv-loop bounds part joined₀ i₀ joined i = foldl union (asBox joined) (boxesOf bounds (drop i part)) ≡ unionOf binary32 (boxesOf bounds part)
+
+abbrev μ-loop : tie.MeasureT-loop
+μ-loop bounds part joined₀ i₀ joined i = length part - i
+
+shared-slice-read-box-at : tie.Need-shared-slice-read-box-at Inv-loop μ-loop
+shared-slice-read-box-at c = search needs
+
+box-at-requires : tie.Need-box-at-requires Inv-loop μ-loop
+box-at-requires c κs = c .before .before .before .pre .1 0 (c .before .before .before .pre .0)
+
+loop-holds : tie.Need-loop-holds Inv-loop μ-loop
+loop-holds c =
+    let args = c .before .before .before .before .args in
+    ap (λ (b : Box). foldl union b (boxesOf (args .bounds .now) (drop 1 (args .part .now)))) (c .box-at .ensures) ∙ union-from-first binary32 (boxIn (args .bounds .now)) (args .part .now) (c .before .before .before .before .pre .0)
+
+mul-box-at : tie.Need-mul-box-at Inv-loop μ-loop
+mul-box-at c = search needs
+
+shared-slice-read-box-at-2 : tie.Need-shared-slice-read-box-at-2 Inv-loop μ-loop
+shared-slice-read-box-at-2 c = search needs
+
+box-at-requires-2 : tie.Need-box-at-requires-2 Inv-loop μ-loop
+box-at-requires-2 c κs = c .before .before .before .before .before .before .before .pre .1 (c .before .before .loop .i) (c .before .loop-test .taken)
+
+union-box-requires : tie.Need-union-box-requires Inv-loop μ-loop
+union-box-requires c κs = search needs
+
+add-i : tie.Need-add-i Inv-loop μ-loop
+add-i c = search needs
+
+loop-less : tie.Need-loop-less Inv-loop μ-loop
+loop-less c = omega arith
+
+loop-again : tie.Need-loop-again Inv-loop μ-loop
+loop-again c =
+    let args = c .before .before .before .before .before .before .before .before .before .args in
+    let loop = c .before .before .before .before .loop in
+    fold-on-named union (boxIn (args .bounds .now)) (args .part .now) (loop .i) (asBox (loop .joined)) _ (asBox (c .union-box .result)) (c .before .before .before .loop-test .taken)
+    (c .union-box .ensures ∙ ap (union (asBox (loop .joined))) (c .before .box-at2 .ensures)) (loop .inv)
+
+returns : tie.Need-returns Inv-loop μ-loop
+returns c =
+    let args = c .before .before .before .before .before .before .args in
+    let loop = c .before .loop in
+    fold-ended-named union (boxIn (args .bounds .now)) (args .part .now) (loop .i) (asBox (loop .joined)) _ (c .loop-test .left) (loop .inv)
+
+pub union-of-spec : {M : Type 1} → statement M
+union-of-spec =
+    tie.close
+    (tie.spec
+    Inv-loop
+    μ-loop
+    shared-slice-read-box-at
+    box-at-requires
+    loop-holds
+    mul-box-at
+    shared-slice-read-box-at-2
+    box-at-requires-2
+    union-box-requires
+    add-i
+    loop-less
+    loop-again
+    returns)

@@ -1,0 +1,6 @@
+// What a rule answers.
+pub enum Split {
+    // Before this object of the part.
+    At(usize),
+    Nowhere,
+}

@@ -1,0 +1,71 @@
+// The table of the triangles' boxes: six numbers each, the smallest x y z, then the largest. It is
+// made once a build, so that no rule works a box out again.
+ghost use mathlib.Core.Path.{_≡_};
+ghost use Prim.Native.Nat.{_+_, _≤_, _<_};
+ghost use lib.ListN.{length};
+ghost use lib.Ieee.{binary32};
+ghost use Rattle.spec_shapes.specs.Points as Points;
+ghost use Rattle.spec_shapes.specs.Boxes as Boxes;
+ghost use Rattle.primitives.specs.Values as Shapes;
+ghost use Rattle.spec_tree.specs.Splits as Splits;
+use primitives::box3::Box3;
+use primitives::vec3::Axis;
+use primitives::vec3::Vec3;
+
+fn point_at(bounds: &[f32], at: usize) -> Vec3
+    requires { ⌜ at + 3 ≤ length (now bounds) ⌝ }
+    ensures { λ r. ⌜ Shapes.asPoint r ≡ Splits.pointIn (now (bounds .entry)) at ⌝ }
+{
+    Vec3 {
+        x: bounds[at],
+        y: bounds[at + 1],
+        z: bounds[at + 2],
+    }
+}
+
+// The box of triangle t.
+pub fn box_at(bounds: &[f32], t: u32) -> Box3
+    requires { ⌜ Splits.InTable (now bounds) t ⌝ }
+    ensures { λ r. ⌜ Shapes.asBox r ≡ Splits.boxIn (now (bounds .entry)) t ⌝ }
+{
+    let at = 6 * t as usize;
+    Box3 {
+        min: point_at(bounds, at),
+        max: point_at(bounds, at + 3),
+    }
+}
+
+// Where the numbers of an axis stand in a point.
+fn place_of(axis: Axis) -> usize
+    ensures { λ r. ⌜ r ≡ Splits.place (Shapes.asAxis axis) ⌝ }
+{
+    match axis {
+        Axis::X => 0,
+        Axis::Y => 1,
+        Axis::Z => 2,
+    }
+}
+
+// The centre of the box of triangle t, on one axis.
+pub fn centre_on(bounds: &[f32], t: u32, axis: Axis) -> f32
+    requires { ⌜ Splits.InTable (now bounds) t ⌝ }
+    ensures { λ r. ⌜ r ≡ Points.on (Shapes.asAxis axis) (Boxes.centre binary32 (Splits.boxIn (now (bounds .entry)) t)) ⌝ }
+{
+    let at = 6 * t as usize + place_of(axis);
+    (bounds[at] + bounds[at + 3]) / 2.0
+}
+
+// The union of the boxes of the part's triangles, from the left.
+pub fn union_of(bounds: &[f32], part: &[u32]) -> Box3
+    requires { ⌜ 0 < length (now part) ⌝ }
+    requires { ⌜ Splits.AllInTable (now bounds) (now part) ⌝ }
+    ensures { λ r. ⌜ Shapes.asBox r ≡ Splits.unionOf binary32 (Splits.boxesOf (now (bounds .entry)) (now (part .entry))) ⌝ }
+{
+    let mut joined = box_at(bounds, part[0]);
+    let mut i = 1;
+    while i < part.len() {
+        joined = joined.union_box(box_at(bounds, part[i]));
+        i += 1;
+    }
+    joined
+}
