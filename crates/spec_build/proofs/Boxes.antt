@@ -1,0 +1,20 @@
+-- The union of a part's boxes, from the left, is the box over the part. Assumes nothing.
+use mathlib.Core.Path.{_≡_, refl}
+use mathlib.Core.List.{List, [], _∷_, map, foldl}
+use Prim.Native.Nat.{ℕ, _<_}
+use native.Mathlib.Omega.{arith}
+use lib.ListN.{length}
+use lib.Ieee.{Format}
+use Rattle.spec_shapes.specs.Boxes.{Box, union}
+use Rattle.spec_tree.specs.Trees.{joinedTo, joined}
+use Rattle.spec_tree.specs.Splits.{unionOf}
+
+joined-from : (boxAt : ℕ → Box) (b : Box) (part : List ℕ) → foldl union b (map boxAt part) ≡ joinedTo boxAt b part
+unfolding joinedTo
+joined-from boxAt b [] = refl
+joined-from boxAt b (t ∷ part) = joined-from boxAt (union b (boxAt t)) part
+
+pub union-is-joined : (f : Format) (boxAt : ℕ → Box) (part : List ℕ) → 0 < length part → unionOf f (map boxAt part) ≡ joined boxAt part
+unfolding unionOf joined
+union-is-joined f boxAt [] w = absurd (omega arith)
+union-is-joined f boxAt (t ∷ part) w = joined-from boxAt (boxAt t) part

@@ -1,0 +1,75 @@
+-- Any tree over n triangles, none of its leaves empty and not too deep, is accepted once it is written into lists. A tree that is grown from all n triangles is such a tree. Assumes nothing.
+use mathlib.Core.Path.{_≡_, refl}
+use mathlib.Core.Bool.{true}
+use mathlib.Core.List.{List, [], _∷_, Permᴰ·refl}
+use Prim.Native.Nat.{ℕ, zero, suc, _+_, _-_, _*_, _≤_, _<_}
+use native.Mathlib.Omega.{arith}
+use lib.ListN.{length, take, drop}
+use lib.Seq.{take-at}
+use lib.Ieee.{Float}
+use Rattle.spec_tables.specs.Tables.{over}
+use Rattle.spec_lists.specs.Limits.{deepest}
+use Rattle.spec_shapes.specs.Boxes.{Box}
+use Rattle.spec_tree.specs.Trees.{Tree, numbers, nodeCount, levels, Filled, linksFrom, boxesOf}
+use Rattle.spec_tree.specs.Order.{upTo, Permutes}
+use Rattle.spec_tree.specs.Accepted.{Listing, accepted}
+use Rattle.spec_tree.specs.Sort.{Each}
+use Rattle.spec_build.specs.Grown.{Tried, grown, Trying}
+use Rattle.spec_tree.proofs.Trees.{links-length, boxes-length, count-most}
+use Rattle.spec_tree.proofs.Order.{permutes-length}
+use Rattle.spec_tree.proofs.Accepted.{listed-accepted}
+use Rattle.spec_tree.proofs.SortEach.{each-append}
+use Rattle.spec_build.proofs.Grown.{grown-permutes, grown-levels, grown-filled}
+
+-- what was written at the front stands there
+pub front-over : {A : Type 0} (n : ℕ) (new old : List A) → length new ≡ n → take n (over 0 new old) ≡ new
+unfolding over
+front-over n new old e = take-at new (drop (0 + length new) old) n e
+
+-- a tree over the n triangles
+pub record Whole (n : ℕ) (t : Tree) : Type 0 where
+  pub permuted : Permutes n (numbers t)
+  pub filled : Filled t
+  pub shallow : levels t ≤ deepest
+
+module _ {n : ℕ} {t : Tree} (h : Whole n t) where
+  pub whole-count : length (numbers t) ≡ n
+  whole-count = permutes-length n (numbers t) (h .permuted)
+
+  -- it has at most 2n - 1 nodes
+  pub whole-nodes : nodeCount t + 1 ≤ 2 * n
+  whole-nodes = omega (arith, whole-count, count-most t (h .filled))
+
+  module _ (boxAt : ℕ → Box) (order links : List ℕ) (boxes : List Float) where
+    pub whole-listing : Listing boxAt n (take n (over 0 (numbers t) order)) (over 0 (linksFrom 0 0 t) links) (over 0 (boxesOf boxAt t) boxes) (nodeCount t) t
+    whole-listing =
+        let order-is : take n (over 0 (numbers t) order) ≡ numbers t = front-over n (numbers t) order whole-count in
+        record {
+          order-is = order-is;
+          permuted = rw order-is (h .permuted);
+          filled = h .filled;
+          nodes-are = refl;
+          links-are = front-over (3 * nodeCount t) (linksFrom 0 0 t) links (links-length 0 0 t);
+          boxes-are = front-over (6 * nodeCount t) (boxesOf boxAt t) boxes (boxes-length boxAt t);
+          shallow = h .shallow;
+        }
+
+    pub whole-accepted : accepted boxAt n (take n (over 0 (numbers t) order)) (over 0 (linksFrom 0 0 t) links) (over 0 (boxesOf boxAt t) boxes) (nodeCount t) ≡ true
+    whole-accepted = listed-accepted boxAt n _ _ _ _ t whole-listing
+
+-- ---- a tree that is grown from all of them
+pub each-up-to : (P : ℕ → Type 0) (n : ℕ) → ((k : ℕ) → k < n → P k) → Each P (upTo n)
+unfolding upTo
+each-up-to P zero h = tt
+each-up-to P (suc n) h = each-append P (upTo n) (n ∷ []) (each-up-to P n (λ k w. h k (omega arith))) (h n (omega arith), tt)
+
+pub up-to-length : (n : ℕ) → length (upTo n) ≡ n
+up-to-length n = permutes-length n (upTo n) (Permᴰ·refl (upTo n))
+
+pub grown-whole : {tried : List ℕ → Tried} {Used : ℕ → Type 0} → Trying tried Used → (leafMinimum maximumDepth n : ℕ) → 1 ≤ leafMinimum → maximumDepth ≤ deepest → 1 ≤ n
+    → ((k : ℕ) → k < n → Used k) → Whole n (grown tried leafMinimum (maximumDepth - 1) (upTo n))
+grown-whole {Used = Used} h leafMinimum maximumDepth n leaf depth some used = record {
+  permuted = grown-permutes h leafMinimum (maximumDepth - 1) (upTo n);
+  filled = grown-filled h leafMinimum leaf (maximumDepth - 1) (upTo n) (omega (arith, up-to-length n)) (each-up-to Used n used);
+  shallow = omega (arith, grown-levels h leafMinimum (maximumDepth - 1) (upTo n));
+}

@@ -1,0 +1,48 @@
+-- Both rules cut a sorted part inside, so the tries do, of a part whose centres are numbers. Assumes nothing.
+use mathlib.Core.Path.{_≡_, refl}
+use mathlib.Core.Bool.{Bool, true, false}
+use mathlib.Core.List.{List, [], _∷_, map}
+use Prim.Native.Nat.{ℕ, _<_, _≤_}
+use native.Mathlib.Omega.{arith}
+use lib.Dec.{eqb}
+use lib.ListN.{length, length-map}
+use lib.Ieee.{Format}
+use Rattle.spec_numbers.specs.Values.{Number}
+use Rattle.spec_numbers.specs.Axes.{Axis}
+use Rattle.spec_shapes.specs.Boxes.{Box}
+use Rattle.spec_tree.specs.Sort.{Each, Sorted}
+use Rattle.spec_tree.specs.Splits.{Split, cutAt, nowhere, CutsInside, NoneBelow, FirstIsLeast}
+use Rattle.spec_tree.proofs.SplitInside.{median-inside, area-inside}
+use Rattle.spec_build.specs.Grown.{CutInside, Trying}
+use Rattle.spec_build.specs.Tries.{ruleBy, rule, splitAs, centreOn, isBefore, ruled, tried}
+use Rattle.spec_build.proofs.Tries.{tried-trying}
+
+module _ (f : Format) (boxAt : ℕ → Box) where
+  -- on each axis the centre of its box is a number
+  abbrev pub HasCentre : ℕ → Type 0
+  HasCentre t = (axis : Axis) → Number (centreOn f boxAt axis t)
+
+  none-below : (axis : Axis) (t : ℕ) (part : List ℕ) → Each (λ u. isBefore f boxAt axis u t ≡ false) part → NoneBelow f axis (centreOn f boxAt axis t) (map boxAt part)
+  none-below axis t [] h = tt
+  none-below axis t (u ∷ part) h = (h .0, none-below axis t part (h .1))
+
+  first-is-least : (axis : Axis) (part : List ℕ) → Sorted (isBefore f boxAt axis) part → FirstIsLeast f axis (map boxAt part)
+  first-is-least axis [] h = tt
+  first-is-least axis (t ∷ part) h = none-below axis t part (h .0)
+
+  rules-inside : (median : Bool) (axis : Axis) (parent : Box) (bs : List Box) (k : ℕ) → 2 ≤ length bs → FirstIsLeast f axis bs → ruleBy median f axis parent bs ≡ cutAt k → CutsInside k (length bs)
+  rules-inside true axis parent bs k w h e = median-inside f axis parent bs k w e
+  rules-inside false axis parent bs k w h e = area-inside f axis parent bs k h e
+
+  split-inside : (part : List ℕ) (s : Split) → ((k : ℕ) → s ≡ cutAt k → CutsInside k (length part)) → CutInside (splitAs part s)
+  split-inside part (cutAt k) h = let i = h k refl in (i .after-first, i .before-end)
+  split-inside part nowhere h = tt
+
+  rule-inside : (strategy : ℕ) (axis : Axis) (parent : Box) (part : List ℕ) → 1 < length part → Sorted (isBefore f boxAt axis) part → CutInside (ruled f boxAt strategy axis parent part)
+  unfolding rule
+  rule-inside strategy axis parent part w s =
+      let same : length (map boxAt part) ≡ length part = length-map part boxAt in
+      split-inside part (ruleBy (eqb strategy 1) f axis parent (map boxAt part)) (λ k e. rw same at (rules-inside (eqb strategy 1) axis parent (map boxAt part) k (omega arith) (first-is-least axis part s) e))
+
+  pub tries-inside : (strategy : ℕ) → Trying (tried f boxAt strategy) HasCentre
+  tries-inside strategy = tried-trying f boxAt strategy HasCentre (λ axis t h. h axis) (λ axis parent part w u s. rule-inside strategy axis parent part w s)

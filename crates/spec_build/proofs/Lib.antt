@@ -1,0 +1,15 @@
+pub mod Grown
+pub mod Boxes
+pub mod Tries
+pub mod Centres
+pub mod Inside
+pub mod Alike
+pub mod Built
+pub mod Build
+pub mod Writing
+pub mod Growing
+pub mod Building
+pub mod Parts
+pub mod Numbering
+pub mod Tabling
+pub mod Trying

@@ -1,0 +1,11 @@
+-- The numbers from 0 on, stored one behind the other. Assumes nothing.
+use mathlib.Core.Path.{_≡_, refl, ap}
+use mathlib.Core.List.{List, [], _∷_, _++_}
+use Prim.Native.Nat.{ℕ, zero, suc}
+use Rattle.spec_tables.specs.Tables.{many}
+use Rattle.spec_tree.specs.Order.{upTo}
+
+pub up-to-many : (n : ℕ) → many (λ t. t ∷ []) n ≡ upTo n
+unfolding many upTo
+up-to-many zero = refl
+up-to-many (suc n) = ap (λ (l : List ℕ). l ++ (n ∷ [])) (up-to-many n)

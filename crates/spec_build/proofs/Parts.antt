@@ -1,0 +1,70 @@
+-- Parts of a list that was written over: the part that was written, and the parts in front of it and behind it. Assumes nothing.
+use mathlib.Core.Path.{_≡_, refl, sym, ap, _∙_}
+use mathlib.Core.Logic.{⊎-elim}
+use mathlib.Core.List.{List, [], _∷_, _++_}
+use Prim.Native.Nat.{ℕ, zero, suc, _+_, _-_, _≤_, _<_}
+use native.Mathlib.Nat.{eq-or-lt-of-le, le-of-suc-le-suc}
+use native.Mathlib.Omega.{arith}
+use lib.ListN.{length, take, drop, getD, length-drop, List·getD-append}
+use lib.Seq.{take-nil, drop-nil, length-take-le, take-at, drop-at, drop-drop, take-take, take-append-le, drop-append-le, getD-at}
+use Rattle.spec_tables.specs.Tables.{over, many, part}
+use Rattle.spec_tables.proofs.Tables.{length-many}
+
+module _ {A : Type 0} where
+  drop-take : (b n : ℕ) (l : List A) → drop b (take n l) ≡ take (n - b) (drop b l)
+  drop-take zero n l = let e : n ≡ n - 0 = omega arith in ap (λ (k : ℕ). take k l) e
+  drop-take (suc b) zero l = let e : 0 ≡ 0 - suc b = omega arith in drop-nil (suc b) ∙ ap (λ (k : ℕ). take k (drop (suc b) l)) e
+  drop-take (suc b) (suc n) [] = sym (take-nil (suc n - suc b))
+  drop-take (suc b) (suc n) (x ∷ l) = let e : n - b ≡ suc n - suc b = omega arith in drop-take b n l ∙ ap (λ (k : ℕ). take k (drop b l)) e
+
+  -- a part that is lent and comes back is a write
+  pub put-back : (at size : ℕ) (new old : List A) → length new ≡ size → take at old ++ (new ++ drop size (drop at old)) ≡ over at new old
+  unfolding over
+  put-back at size new old e = ap (λ (l : List A). take at old ++ (new ++ l)) (drop-drop size at old ∙ ap (λ (k : ℕ). drop (at + k) old) (sym e))
+
+  module _ (at : ℕ) (new old : List A) (room : at + length new ≤ length old) where
+    pub part-written : (size : ℕ) → length new ≡ size → part (over at new old) at size ≡ new
+    unfolding over
+    part-written size e =
+        ap (take size) (drop-at (take at old) (new ++ drop (at + length new) old) at (length-take-le at old (omega arith)))
+        ∙ take-at new (drop (at + length new) old) size e
+
+    pub part-in-front : (b size : ℕ) → b + size ≤ at → part (over at new old) b size ≡ part old b size
+    unfolding over
+    part-in-front b size h =
+        let front : length (take at old) ≡ at = length-take-le at old (omega arith) in
+        let within : b ≤ length (take at old) = omega arith in
+        let long : size ≤ length (drop b (take at old)) = omega (arith, length-drop b (take at old)) in
+        ap (take size) (drop-append-le b (take at old) (new ++ drop (at + length new) old) within)
+        ∙ take-append-le size (drop b (take at old)) (new ++ drop (at + length new) old) long
+        ∙ ap (take size) (drop-take b at old)
+        ∙ take-take size (at - b) (drop b old) (omega arith)
+
+    pub part-behind : (b size : ℕ) → at + length new ≤ b → part (over at new old) b size ≡ part old b size
+    unfolding over
+    part-behind b size h =
+        let rest : List A = drop (at + length new) old in
+        let k : ℕ = b - at - length new in
+        let past : at + length new + k ≡ b = omega arith in
+        ap (take size)
+        (ap (λ (n : ℕ). drop n (take at old ++ (new ++ rest))) (sym past)
+        ∙ sym (drop-drop k (at + length new) (take at old ++ (new ++ rest)))
+        ∙ ap (drop k) (sym (drop-drop (length new) at (take at old ++ (new ++ rest))) ∙ ap (drop (length new)) (drop-at (take at old) (new ++ rest) at (length-take-le at old (omega arith))) ∙ drop-at new rest (length new) refl)
+        ∙ drop-drop k (at + length new) old
+        ∙ ap (λ (n : ℕ). drop n old) past)
+
+  -- ---- pieces of one element
+  pub many-at : (g : ℕ → A) (n t : ℕ) (d : A) → t < n → getD (many (λ k. g k ∷ []) n) t d ≡ g t
+  unfolding many
+  many-at g zero t d h = absurd (omega arith)
+  many-at g (suc n) t d h =
+      let long : length (many (λ k. g k ∷ []) n) ≡ n = length-many (λ k. g k ∷ []) 1 n (λ k. refl) ∙ omega arith in
+      ⊎-elim
+      (λ (e : t ≡ n). rw e (getD-at (many (λ k. g k ∷ []) n) (g n) [] d n long))
+      (λ (l : t < n). List·getD-append (many (λ k. g k ∷ []) n) (g n ∷ []) d t (omega arith) ∙ many-at g n t d l)
+      (eq-or-lt-of-le (le-of-suc-le-suc h))
+
+  -- what stands in the front that was written
+  pub front-at : (new old : List A) (t : ℕ) (d : A) → t < length new → getD (over 0 new old) t d ≡ getD new t d
+  unfolding over
+  front-at new old t d h = List·getD-append new (drop (0 + length new) old) d t h

@@ -1,0 +1,91 @@
+-- The tries only bring a part into another order. Where the rule cuts a sorted part inside, they do. Assumes nothing.
+use mathlib.Core.Path.{_≡_, refl}
+use mathlib.Core.List.{List, [], _∷_, map, List·Permᴰ, List·Permᴰ·trans, Permᴰ·refl, Permᴰ·symm}
+use Prim.Native.Nat.{ℕ, _<_}
+use native.Mathlib.Omega.{arith}
+use lib.ListN.{length}
+use lib.Ieee.{Float, Format}
+use lib.Ieee.Bits.{is-true, is-false}
+use Rattle.spec_numbers.specs.Axes.{Axis}
+use Rattle.spec_numbers.specs.Values.{Number}
+use Rattle.spec_numbers.proofs.Tests.{passed, failed}
+use Rattle.spec_numbers.proofs.Order.{transitive, lt→le, not-lt→le, le→not-lt, lt-le-transitive}
+use Rattle.spec_shapes.specs.Boxes.{Box}
+use Rattle.spec_tree.specs.Trees.{joined}
+use Rattle.spec_tree.specs.Sort.{Each, Sorted, Ordered}
+use Rattle.spec_tree.specs.Splits.{Split, cutAt, nowhere}
+use Rattle.spec_build.specs.Grown.{Tried, cut, uncut, partOf, CutInside, Trying}
+use Rattle.spec_build.specs.Tries.{rule, splitAs, orElse, centreOn, isBefore, sortedOn, ruled, triedOn, triedIn, triedWithin, tried}
+use Rattle.spec_tree.proofs.Order.{permuted-length}
+use Rattle.spec_tree.proofs.SortEach.{each-permuted, each-weaker}
+use Rattle.spec_tree.proofs.SortPermutes.{sorted-permutes}
+use Rattle.spec_tree.proofs.SortMerges.{sorted-is-sorted}
+
+pub split-part : (part : List ℕ) (s : Split) → partOf (splitAs part s) ≡ part
+split-part part (cutAt k) = refl
+split-part part nowhere = refl
+
+or-else-permutes : (next : List ℕ → Tried) → ((part : List ℕ) → List·Permᴰ (partOf (next part)) part) → (r : Tried) → List·Permᴰ (partOf (orElse next r)) (partOf r)
+or-else-permutes next p (cut part k) = Permᴰ·refl part
+or-else-permutes next p (uncut part) = p part
+
+module _ (f : Format) (boxAt : ℕ → Box) where
+  -- by their centres on an axis, the triangles whose centres are numbers are ordered
+  pub centres-ordered : (axis : Axis) → Ordered (isBefore f boxAt axis) (λ t. Number (centreOn f boxAt axis t))
+  centres-ordered axis = record {
+    asymmetric = λ a b h. is-false _ (le→not-lt (key a) (key b) (lt→le (key a) (key b) (passed h)));
+    transitive = λ a b c h k. is-true _ (lt-le-transitive (key a) (key b) (key c) (passed h) (lt→le (key b) (key c) (passed k)));
+    not-before-transitive = λ a b c ka kb kc h k.
+        is-false _ (le→not-lt (key c) (key a) (transitive (key c) (key b) (key a) (not-lt→le (key b) (key c) kb kc (failed k)) (not-lt→le (key a) (key b) ka kb (failed h))));
+  }
+    where
+      key : ℕ → Float
+      key t = centreOn f boxAt axis t
+
+  module _ (strategy : ℕ) where
+    -- ---- only another order
+    pub tried-on-permutes : (axis : Axis) (parent : Box) (part : List ℕ) → List·Permᴰ (partOf (triedOn f boxAt strategy axis parent part)) part
+    unfolding triedOn
+    tried-on-permutes axis parent part =
+        rw (split-part (sortedOn f boxAt axis part) (rule f strategy axis parent (map boxAt (sortedOn f boxAt axis part))))
+        (sorted-permutes (isBefore f boxAt axis) part)
+
+    pub tried-in-permutes : (axes : List Axis) (parent : Box) (part : List ℕ) → List·Permᴰ (partOf (triedIn f boxAt strategy axes parent part)) part
+    unfolding triedIn
+    tried-in-permutes [] parent part = Permᴰ·refl part
+    tried-in-permutes (axis ∷ axes) parent part =
+        List·Permᴰ·trans
+        (or-else-permutes (triedIn f boxAt strategy axes parent) (tried-in-permutes axes parent) (triedOn f boxAt strategy axis parent part))
+        (tried-on-permutes axis parent part)
+
+    pub tried-permutes : (part : List ℕ) → List·Permᴰ (partOf (tried f boxAt strategy part)) part
+    unfolding tried triedWithin
+    tried-permutes part = tried-in-permutes _ (joined boxAt part) part
+
+    -- ---- inside
+    module _ (Used : ℕ → Type 0) (centred : (axis : Axis) (t : ℕ) → Used t → Number (centreOn f boxAt axis t))
+        (rule-inside : (axis : Axis) (parent : Box) (part : List ℕ) → 1 < length part → Each Used part → Sorted (isBefore f boxAt axis) part → CutInside (ruled f boxAt strategy axis parent part)) where
+      tried-on-inside : (axis : Axis) (parent : Box) (part : List ℕ) → 1 < length part → Each Used part → CutInside (triedOn f boxAt strategy axis parent part)
+      unfolding triedOn
+      tried-on-inside axis parent part w u =
+          let p : List·Permᴰ (sortedOn f boxAt axis part) part = sorted-permutes (isBefore f boxAt axis) part in
+          let numbers : Each (λ t. Number (centreOn f boxAt axis t)) part = each-weaker Used _ (centred axis) part u in
+          rule-inside axis parent (sortedOn f boxAt axis part) (omega (arith, permuted-length p)) (each-permuted Used (Permᴰ·symm p) u)
+          (sorted-is-sorted (centres-ordered axis) part numbers)
+
+      or-else-inside : (next : List ℕ → Tried) → ((part : List ℕ) → 1 < length part → Each Used part → CutInside (next part))
+          → (r : Tried) → 1 < length (partOf r) → Each Used (partOf r) → CutInside r → CutInside (orElse next r)
+      or-else-inside next p (cut part k) w u i = i
+      or-else-inside next p (uncut part) w u i = p part w u
+
+      tried-in-inside : (axes : List Axis) (parent : Box) (part : List ℕ) → 1 < length part → Each Used part → CutInside (triedIn f boxAt strategy axes parent part)
+      unfolding triedIn
+      tried-in-inside [] parent part w u = tt
+      tried-in-inside (axis ∷ axes) parent part w u =
+          let p = tried-on-permutes axis parent part in
+          or-else-inside (triedIn f boxAt strategy axes parent) (tried-in-inside axes parent) (triedOn f boxAt strategy axis parent part)
+          (omega (arith, permuted-length p)) (each-permuted Used (Permᴰ·symm p) u) (tried-on-inside axis parent part w u)
+
+      pub tried-trying : Trying (tried f boxAt strategy) Used
+      unfolding tried triedWithin
+      tried-trying = record { permutes = tried-permutes; inside = λ part w u. tried-in-inside _ (joined boxAt part) part w u }

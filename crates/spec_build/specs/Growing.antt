@@ -1,0 +1,127 @@
+-- What growing a part of the order list asks of the tables and the lists that are lent, and what it leaves in them. Definitions only.
+use mathlib.Core.Path.{_≡_}
+use mathlib.Core.List.{List, [], _∷_}
+use Prim.Native.Nat.{ℕ, _+_, _*_, _≤_, _<_, max}
+use lib.ListN.{length, getD}
+use lib.Ieee.{Float, Format, nan}
+use Rattle.spec_tables.specs.Tables as Tables
+use Rattle.spec_numbers.specs.Values.{Number}
+use Rattle.spec_numbers.specs.Axes.{Axis}
+use Rattle.spec_shapes.specs.Boxes.{Box, union, Proper}
+use Rattle.spec_shapes.specs.Plain.{PlainBox}
+use Rattle.spec_lists.specs.Limits.{mostTriangles, deepest}
+use Rattle.spec_tree.specs.Trees.{Tree, numbers, levels, rootFrom, linksFrom, sixOf, boxOver, boxesOf}
+use Rattle.spec_tree.specs.Sort.{Each, Keyed}
+use Rattle.spec_tree.specs.Splits.{place, InTable, AllInTable, Boxed, boxIn}
+use Rattle.spec_build.specs.Grown.{grown}
+use Rattle.spec_build.specs.Tries.{centreOn, tried}
+
+-- ---- the tables
+-- the centres on one axis, by triangle number
+abbrev pub keysOn : Axis → List Float → List Float
+keysOn axis centres = Tables.part centres (place axis * mostTriangles) mostTriangles
+
+-- what the tables have of triangle t
+pub record Tabled (f : Format) (bounds centres : List Float) (t : ℕ) : Type 0 where
+  pub few : t < mostTriangles
+  pub in-table : InTable bounds t
+  pub plain : PlainBox f (boxIn bounds t)
+  pub proper : Proper (boxIn bounds t)
+  pub centre-is : (axis : Axis) → getD (keysOn axis centres) t nan ≡ centreOn f (boxIn bounds) axis t
+  pub centred : (axis : Axis) → Number (centreOn f (boxIn bounds) axis t)
+
+-- making them, for the first so many triangles
+pub record CentresAsked (bounds : List Float) (count : ℕ) (keys : List Float) : Type 0 where
+  pub in-table : 6 * count ≤ length bounds
+  pub few : count ≤ mostTriangles
+  pub room : count ≤ length keys
+
+-- the centres on this axis stand in their part of the table, and the rest is as it was
+pub record CentresPut (f : Format) (bounds : List Float) (axis : Axis) (count : ℕ) (old new : List Float) : Type 0 where
+  pub here : (t : ℕ) → t < count → getD (keysOn axis new) t nan ≡ centreOn f (boxIn bounds) axis t
+  pub elsewhere : (other : Axis) → (place other ≡ place axis → ⊥) → keysOn other new ≡ keysOn other old
+  pub long : length new ≡ length old
+
+-- on each axis
+pub record Centred (f : Format) (bounds : List Float) (count : ℕ) (old new : List Float) : Type 0 where
+  pub centre-is : (axis : Axis) (t : ℕ) → t < count → getD (keysOn axis new) t nan ≡ centreOn f (boxIn bounds) axis t
+  pub long : length new ≡ length old
+
+-- ---- a part, tried
+-- sorting it on an axis
+pub record SortAsked (axis : Axis) (centres : List Float) (part scratch : List ℕ) : Type 0 where
+  pub keyed : Each (Keyed (keysOn axis centres)) part
+  pub long : length centres ≡ 3 * mostTriangles
+  pub room : length part ≤ length scratch
+
+-- asking the rule
+pub record RuleAsked (f : Format) (bounds : List Float) (part : List ℕ) : Type 0 where
+  pub boxed : Boxed f bounds part
+  pub some : 2 ≤ length part
+  pub few : length part ≤ mostTriangles
+
+-- both, on one axis or on all
+pub record Triable (f : Format) (bounds centres : List Float) (part scratch : List ℕ) : Type 0 where
+  pub tabled : Each (Tabled f bounds centres) part
+  pub long : length centres ≡ 3 * mostTriangles
+  pub some : 2 ≤ length part
+  pub few : length part ≤ mostTriangles
+  pub room : length part ≤ length scratch
+
+-- ---- a part, grown
+-- the lists have room for the nodes of so many triangles, from this node on
+pub record RoomFor (count node : ℕ) (links : List ℕ) (boxes : List Float) : Type 0 where
+  pub links-room : 3 * (node + 2 * count) ≤ length links + 3
+  pub boxes-room : 6 * (node + 2 * count) ≤ length boxes + 6
+  pub few : node + 2 * count ≤ 2 * mostTriangles
+
+pub record Growable (f : Format) (bounds centres : List Float) (leafMinimum left : ℕ) (part scratch : List ℕ) (entry : ℕ) (links : List ℕ) (boxes : List Float) (node : ℕ) : Type 0 where
+  pub tabled : Each (Tabled f bounds centres) part
+  pub long : length centres ≡ 3 * mostTriangles
+  pub leaf : 1 ≤ leafMinimum
+  pub shallow : left ≤ deepest
+  pub some : 1 ≤ length part
+  pub few : entry + length part ≤ mostTriangles
+  pub scratch-room : length part ≤ length scratch
+  pub room : RoomFor (length part) node links boxes
+
+-- ---- the nodes
+pub record LeafAsked (bounds : List Float) (part : List ℕ) (entry : ℕ) (links : List ℕ) (boxes : List Float) (node : ℕ) : Type 0 where
+  pub in-table : AllInTable bounds part
+  pub some : 0 < length part
+  pub few : entry + length part ≤ mostTriangles
+  pub links-room : 3 * node + 3 ≤ length links
+  pub boxes-room : 6 * node + 6 ≤ length boxes
+
+-- a branch stands right behind its right subtree
+pub record BranchAsked (leftRoot leftLevels rightRoot rightLevels : ℕ) (links : List ℕ) (boxes : List Float) : Type 0 where
+  pub left-shallow : leftLevels ≤ deepest
+  pub right-shallow : rightLevels ≤ deepest
+  pub left-few : leftRoot < 2 * mostTriangles
+  pub right-few : rightRoot < 2 * mostTriangles
+  pub links-room : 3 * (rightRoot + 1) + 3 ≤ length links
+  pub boxes-room : 6 * (rightRoot + 1) + 6 ≤ length boxes
+
+pub record BranchPut (leftRoot leftLevels : ℕ) (leftBox : Box) (rightRoot rightLevels : ℕ) (rightBox : Box) (links links′ : List ℕ) (boxes boxes′ : List Float) (root deep : ℕ) (box : Box) : Type 0 where
+  pub links-are : links′ ≡ Tables.over (3 * (rightRoot + 1)) (2 ∷ leftRoot ∷ rightRoot ∷ []) links
+  pub boxes-are : boxes′ ≡ Tables.over (6 * (rightRoot + 1)) (sixOf (union leftBox rightBox)) boxes
+  pub root-is : root ≡ rightRoot + 1
+  pub levels-are : deep ≡ max leftLevels rightLevels + 1
+  pub box-is : box ≡ union leftBox rightBox
+
+-- the nodes of the tree, put into the lists from this node on, and what is told of them
+pub record Written (boxAt : ℕ → Box) (t : Tree) (entry node : ℕ) (links links′ : List ℕ) (boxes boxes′ : List Float) (root deep : ℕ) (box : Box) : Type 0 where
+  pub links-are : links′ ≡ Tables.over (3 * node) (linksFrom node entry t) links
+  pub boxes-are : boxes′ ≡ Tables.over (6 * node) (boxesOf boxAt t) boxes
+  pub root-is : root ≡ rootFrom node t
+  pub levels-are : deep ≡ levels t
+  pub box-is : box ≡ boxOver boxAt t
+
+-- the tree of a part, over the table of boxes
+abbrev pub grownIn : Format → List Float → (strategy leafMinimum left : ℕ) → List ℕ → Tree
+grownIn f bounds strategy leafMinimum left part = grown (tried f (boxIn bounds) strategy) leafMinimum left part
+
+-- the part is left in the order of the tree's leaves, and the tree's nodes are written
+pub record GrownIs (f : Format) (bounds : List Float) (strategy leafMinimum left : ℕ) (part part′ : List ℕ) (entry : ℕ) (links links′ : List ℕ) (boxes boxes′ : List Float) (node root deep : ℕ) (box : Box) : Type 0 where
+  pub order-is : part′ ≡ numbers (grownIn f bounds strategy leafMinimum left part)
+  pub written : Written (boxIn bounds) (grownIn f bounds strategy leafMinimum left part) entry node links links′ boxes boxes′ root deep box

@@ -1,0 +1,4 @@
+pub mod Grown
+pub mod Tries
+pub mod Growing
+pub mod Build
