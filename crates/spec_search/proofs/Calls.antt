@@ -1,0 +1,92 @@
+-- What lists that passed the tests of a query give the searches, and what the loop over the points writes. Assumes nothing.
+use mathlib.Core.Path.{_≡_, refl, sym, ap, _∙_}
+use mathlib.Core.Bool.{true, true≢false}
+use mathlib.Core.List.{List}
+use Prim.Native.Nat.{ℕ, _+_, _-_, _*_, _/_, _≤_, _<_}
+use native.Mathlib.Omega.{arith}
+use lib.ListN.{length}
+use lib.Ieee.{Float, Format}
+use Rattle.spec_tables.specs.Tables.{over, many}
+use Rattle.spec_tables.proofs.Runs.{Run, run-start, run-front, run-end}
+use Rattle.spec_shapes.specs.Points.{Point}
+use Rattle.spec_lists.specs.Limits.{deepest, mostTriangles}
+use Rattle.spec_lists.specs.Reading.{boxAt, triangleCount, pointAt, pointCount}
+use Rattle.spec_lists.specs.Refusals.{Verdict, passes, refused, refuses}
+use Rattle.spec_lists.proofs.Verdicts.{all-pass, so}
+use Rattle.spec_lists.proofs.Passed.{triangles-passed, points-passed, room-passed}
+use Rattle.spec_tree.specs.Trees.{Tree, numbers}
+use Rattle.spec_tree.specs.Accepted.{Listing}
+use Rattle.spec_tree.specs.Refusals.{treeRefusal}
+use Rattle.spec_tree.proofs.Order.{permutes-length}
+use Rattle.spec_tree.proofs.Accepted.{accepted-listed, listing-some}
+use Rattle.spec_tree.proofs.Hangs.{listing-hangs, listing-sound}
+use Rattle.spec_search.specs.Answers.{Answer, nothing, found, sixWords}
+use Rattle.spec_search.specs.Safe.{NodeSafe}
+use Rattle.spec_search.specs.Calls.{queryRefusal, answerWords, afterQuery, Searchable, Askable}
+
+-- ---- an accepted tree is safe to walk from its root
+module _ (triangles : List Float) (order links : List ℕ) (boxes : List Float) (nodes : ℕ) (s : Searchable triangles order links boxes nodes) where
+  listed : (t : Tree) × Listing (boxAt triangles) (triangleCount triangles) order links boxes nodes t
+  listed = accepted-listed (boxAt triangles) (triangleCount triangles) order links boxes nodes (s .tree-accepted)
+
+  pub root-there : 1 ≤ nodes
+  root-there = listing-some (boxAt triangles) (triangleCount triangles) order links boxes nodes (listed .0) (listed .1)
+
+  pub root-safe : NodeSafe triangles order links boxes (deepest - 1) (nodes - 1) 0
+  root-safe =
+      let l = listed .1 in
+      let count : length (numbers (listed .0)) ≡ triangleCount triangles = ap length (sym (l .order-is)) ∙ permutes-length (triangleCount triangles) order (l .permuted) in
+      let few : triangleCount triangles ≤ mostTriangles = s .triangles-good .few in
+      record {
+        tree = listed .0;
+        hangs = listing-hangs (boxAt triangles) (triangleCount triangles) order links boxes nodes (listed .0) l;
+        deep = l .shallow;
+        room = omega arith;
+        listed = listing-sound (boxAt triangles) (triangleCount triangles) order links boxes nodes (listed .0) l .entries;
+      }
+
+-- ---- the tests that passed
+module _ (triangles : List Float) (order links : List ℕ) (boxes : List Float) (nodes : ℕ) (points : List Float) (distance : Float) (room : ℕ) where
+  pub query-passed : queryRefusal triangles order links boxes nodes points distance room ≡ passes → Askable triangles order links boxes nodes points × (6 * pointCount points ≤ room)
+  unfolding queryRefusal treeRefusal
+  query-passed h =
+      let all = all-pass _ h in
+      let fits : pointCount points ≤ room / 6 = room-passed _ _ (all .1 .0) in (
+        record {
+          searchable = record { triangles-good = triangles-passed triangles (all .0); tree-accepted = so _ _ _ (all .1 .1 .0) };
+          points-good = points-passed points (all .1 .1 .1 .0);
+        },
+        omega arith,
+      )
+
+-- ---- the lent list afterwards
+module _ (f : Format) (answer : Point → Answer) (points : List Float) (old : List ℕ) where
+  pub as-it-was : (v : Verdict) → refuses v ≡ true → old ≡ afterQuery f answer points v old
+  unfolding afterQuery
+  as-it-was (refused number place) h = refl
+  as-it-was passes h = absurd (true≢false (sym h))
+
+  pub is-answered : (v : Verdict) (new : List ℕ) → v ≡ passes → new ≡ over 0 (answerWords f answer points) old → new ≡ afterQuery f answer points v old
+  unfolding afterQuery
+  is-answered v new e h = rw e h
+
+  -- ---- the loop over the points
+  six-long : (a : Answer) → length (sixWords f a) ≡ 6
+  unfolding sixWords
+  six-long nothing = refl
+  six-long (found h) = refl
+
+  -- k of n answers stand at the front of out
+  abbrev pub Answered : (n : ℕ) (out : List ℕ) (k : ℕ) → Type 0
+  Answered n out k = Run (λ j. sixWords f (answer (pointAt points (3 * j)))) 0 n old out k
+
+  pub answered-start : (n : ℕ) → Answered n old 0
+  answered-start n = run-start (λ j. sixWords f (answer (pointAt points (3 * j)))) 6 0 n old
+
+  pub answered-more : (n : ℕ) (out new : List ℕ) (k : ℕ) (a : Answer) → 6 * n ≤ length old → k < n → Answered n out k → a ≡ answer (pointAt points (3 * k)) → new ≡ over (6 * k) (sixWords f a) out → Answered n new (k + 1)
+  answered-more n out new k a room l r e h =
+      run-front (λ j. sixWords f (answer (pointAt points (3 * j)))) 6 n old out new k (λ j. six-long (answer (pointAt points (3 * j)))) room l r (h ∙ ap (λ (b : Answer). over (6 * k) (sixWords f b) out) e)
+
+  pub answered-end : (n : ℕ) (out : List ℕ) (k : ℕ) → n ≡ pointCount points → n ≤ k → Answered n out k → out ≡ over 0 (answerWords f answer points) old
+  unfolding answerWords
+  answered-end n out k e l r = run-end (λ j. sixWords f (answer (pointAt points (3 * j)))) 0 n old out k l r ∙ ap (λ (m : ℕ). over 0 (many (λ j. sixWords f (answer (pointAt points (3 * j)))) m) old) e

@@ -1,0 +1,9 @@
+pub mod Scan
+pub mod Smallest
+pub mod Sure
+pub mod Nearest
+pub mod Turns
+pub mod Ways
+pub mod Walked
+pub mod Steps
+pub mod Calls

@@ -1,0 +1,150 @@
+-- What a scan's answer is: it counts, nothing that counts is smaller, nothing equal has a lower number, and it is nothing exactly when no triangle counts. Assumes nothing.
+use mathlib.Core.Path.{_≡_, refl, sym, ap, subst, _∙_}
+use mathlib.Core.Bool.{Bool, true, false, not, _&&_, _||_}
+use mathlib.Core.Logic.{_⊎_, inl, inr, ⊎-elim}
+use mathlib.Core.List.{List, [], _∷_}
+use Prim.Native.Nat.{ℕ, zero, suc, _<_}
+use native.Mathlib.Nat.{eq-or-lt-of-le, le-of-suc-le-suc, le-refl}
+use native.Mathlib.Omega.{arith}
+use borrow.Author.Tests.{le-ltb}
+use lib.Dec.{T, T-not}
+use lib.Ieee.{Float, Format, lt, le, eq}
+use lib.Ieee.Bits.{is-true}
+use Rattle.spec_numbers.specs.Values.{Number}
+use Rattle.spec_numbers.proofs.Tests.{passed, failed, or-r}
+use Rattle.spec_numbers.proofs.Order.{reflexive, lt→le, lt→not-le, lt-le-transitive, le-lt-transitive, not-lt→le}
+use Rattle.spec_shapes.specs.Points.{Point}
+use Rattle.spec_lists.specs.Reading.{triangleCount}
+use Rattle.spec_tree.specs.Order.{upTo}
+use Rattle.spec_search.specs.Answers.{Hit, Answer, nothing, found}
+use Rattle.spec_search.specs.Walk.{keptBy}
+use Rattle.spec_search.specs.Sure.{counts, better, offered, hit, tookSure, scan}
+use Rattle.spec_search.specs.Nearest.{IsNearest, NoneCounts, Nearest}
+use Rattle.spec_search.proofs.Scan.{kept-append}
+use Rattle.spec_search.proofs.Smallest.{counts-number}
+
+either : (b : Bool) → (b ≡ true) ⊎ (b ≡ false)
+either true = inl refl
+either false = inr refl
+
+module _ (hit : ℕ → Hit) (named : (t : ℕ) → hit t .triangle ≡ t) (limit : Float) where
+  number : (x : Float) → T (counts limit x) → Number x
+  number x h = counts-number limit x (is-true (counts limit x) h)
+
+  -- what equals a distance that counts, counts
+  equal-counts : (x y : Float) → T (eq x y) → T (counts limit y) → T (counts limit x)
+  unfolding counts le
+  equal-counts x y e h = le-lt-transitive x y limit (or-r (lt x y) (eq x y) e) h
+
+  -- ---- one triangle more
+  one-more : (n t : ℕ) → t < suc n → (t ≡ n) ⊎ (t < n)
+  one-more n t h = eq-or-lt-of-le (le-of-suc-le-suc h)
+
+  -- the last one does not count
+  uncounted : (n : ℕ) (a : Answer) → Nearest hit limit n a → T (not (counts limit (hit n .squared))) → Nearest hit limit (suc n) a
+  uncounted n nothing m c = λ t h. ⊎-elim (λ (e : t ≡ n). rw e c) (λ (l : t < n). m t l) (one-more n t h)
+  uncounted n (found h) m c =
+      let no-counting : (t : ℕ) → t ≡ n → T (counts limit (hit t .squared)) → ⊥ = λ t e k. T-not (counts limit (hit n .squared)) c (subst (λ (j : ℕ). T (counts limit (hit j .squared))) e k) in
+      record {
+        one-of-them = omega (arith, m .one-of-them);
+        measured-there = m .measured-there;
+        counted = m .counted;
+        smallest = λ t l k. ⊎-elim (λ (e : t ≡ n). absurd (no-counting t e k)) (λ (b : t < n). m .smallest t b k) (one-more n t l);
+        lowest = λ t l k.
+            ⊎-elim (λ (e : t ≡ n). absurd (no-counting t e (equal-counts (hit t .squared) (h .squared) k (m .counted)))) (λ (b : t < n). m .lowest t b k) (one-more n t l);
+      }
+
+  -- the last one counts, and is the first that does
+  first-counted : (n : ℕ) → NoneCounts hit limit n → T (counts limit (hit n .squared)) → IsNearest hit limit (suc n) (hit n)
+  first-counted n none c =
+      let nothing-before : (t : ℕ) → t < n → T (counts limit (hit t .squared)) → ⊥ = λ t l k. T-not (counts limit (hit t .squared)) (none t l) k in
+      record {
+        one-of-them = rw (named n) (le-refl (suc n));
+        measured-there = ap hit (sym (named n));
+        counted = c;
+        smallest = λ t l k.
+            ⊎-elim (λ (e : t ≡ n). rw e (reflexive (hit n .squared) (number (hit n .squared) c))) (λ (b : t < n). absurd (nothing-before t b k)) (one-more n t l);
+        lowest = λ t l k.
+            ⊎-elim (λ (e : t ≡ n). rw (named n, e) (le-refl n)) (λ (b : t < n). absurd (nothing-before t b (equal-counts (hit t .squared) (hit n .squared) k c))) (one-more n t l);
+      }
+
+  -- the last one counts, and is smaller than the best so far
+  smaller : (n : ℕ) (h : Hit) → IsNearest hit limit n h → T (counts limit (hit n .squared)) → T (lt (hit n .squared) (h .squared)) → IsNearest hit limit (suc n) (hit n)
+  smaller n h m c l =
+      let below : (t : ℕ) → t < n → T (counts limit (hit t .squared)) → T (lt (hit n .squared) (hit t .squared)) =
+      λ t b k. lt-le-transitive (hit n .squared) (h .squared) (hit t .squared) l (m .smallest t b k) in
+      record {
+        one-of-them = rw (named n) (le-refl (suc n));
+        measured-there = ap hit (sym (named n));
+        counted = c;
+        smallest = λ t b k.
+            ⊎-elim (λ (e : t ≡ n). rw e (reflexive (hit n .squared) (number (hit n .squared) c))) (λ (s : t < n). lt→le (hit n .squared) (hit t .squared) (below t s k)) (one-more n t b);
+        lowest = λ t b k.
+            ⊎-elim (λ (e : t ≡ n). rw (named n, e) (le-refl n))
+            (λ (s : t < n). absurd (lt→not-le (hit n .squared) (hit t .squared) (below t s (equal-counts (hit t .squared) (hit n .squared) k c)) (equal-at-most (hit t .squared) (hit n .squared) k)))
+            (one-more n t b);
+      }
+    where
+      equal-at-most : (x y : Float) → T (eq x y) → T (le x y)
+      equal-at-most x y e = unfold le in or-r (lt x y) (eq x y) e
+
+  -- the last one counts, and is not smaller: what was best stays
+  not-smaller : (n : ℕ) (h : Hit) → IsNearest hit limit n h → T (counts limit (hit n .squared)) → T (not (lt (hit n .squared) (h .squared))) → IsNearest hit limit (suc n) h
+  not-smaller n h m c l =
+      let above : T (le (h .squared) (hit n .squared)) = not-lt→le (hit n .squared) (h .squared) (number (hit n .squared) c) (number (h .squared) (m .counted)) l in
+      record {
+        one-of-them = omega (arith, m .one-of-them);
+        measured-there = m .measured-there;
+        counted = m .counted;
+        smallest = λ t b k. ⊎-elim (λ (e : t ≡ n). rw e above) (λ (s : t < n). m .smallest t s k) (one-more n t b);
+        lowest = λ t b k. ⊎-elim (λ (e : t ≡ n). omega (arith, m .one-of-them)) (λ (s : t < n). m .lowest t s k) (one-more n t b);
+      }
+
+  -- ---- what is kept once the next triangle is offered
+  better-is-smaller : (n : ℕ) (h : Hit) → h .triangle < n → better (hit n) (found h) ≡ lt (hit n .squared) (h .squared)
+  better-is-smaller n h l = rw (le-ltb (hit n .triangle) (h .triangle) (omega (arith, named n, l))) (alone (lt (hit n .squared) (h .squared)) (eq (hit n .squared) (h .squared)))
+    where
+      alone : (a b : Bool) → (a || (b && false)) ≡ a
+      alone true b = refl
+      alone false true = refl
+      alone false false = refl
+
+  offered-not : (h : Hit) (a : Answer) (b c : Bool) → counts limit (h .squared) ≡ c → better h a ≡ b → (c && b) ≡ false → offered limit h a ≡ a
+  unfolding offered
+  offered-not h a b c p q e = rw (p, q, e)
+
+  offered-yes : (h : Hit) (a : Answer) → counts limit (h .squared) ≡ true → better h a ≡ true → offered limit h a ≡ found h
+  unfolding offered
+  offered-yes h a p q = rw (p, q)
+
+  taken : (n : ℕ) (a : Answer) → Nearest hit limit n a → Nearest hit limit (suc n) (offered limit (hit n) a)
+  taken n a m = ⊎-elim (counted a m) (λ (c : counts limit (hit n .squared) ≡ false). rw (offered-not (hit n) a _ false c refl refl) (uncounted n a m (failed c))) (either (counts limit (hit n .squared)))
+    where
+      counted : (a : Answer) → Nearest hit limit n a → counts limit (hit n .squared) ≡ true → Nearest hit limit (suc n) (offered limit (hit n) a)
+      counted nothing m c = rw (offered-yes (hit n) nothing c refl) (first-counted n m (passed c))
+      counted (found h) m c =
+          ⊎-elim
+          (λ (l : lt (hit n .squared) (h .squared) ≡ true). rw (offered-yes (hit n) (found h) c (better-is-smaller n h (m .one-of-them) ∙ l)) (smaller n h m (passed c) (passed l)))
+          (λ (l : lt (hit n .squared) (h .squared) ≡ false).
+          rw (offered-not (hit n) (found h) false true c (better-is-smaller n h (m .one-of-them) ∙ l) refl) (not-smaller n h m (passed c) (failed l)))
+          (either (lt (hit n .squared) (h .squared)))
+
+  pub kept-nearest : (n : ℕ) → Nearest hit limit n (keptBy (λ t k. offered limit (hit t) k) (upTo n) nothing)
+  unfolding upTo keptBy
+  kept-nearest zero = λ t l. absurd (omega arith)
+  kept-nearest (suc n) = rw (kept-append (λ t k. offered limit (hit t) k) (upTo n) (n ∷ []) nothing) (taken n _ (kept-nearest n))
+
+-- ---- the scan
+module _ (f : Format) (triangles : List Float) (p : Point) (limit : Float) where
+  pub scan-nearest : Nearest (hit f triangles p) limit (triangleCount triangles) (scan f triangles p limit)
+  unfolding scan tookSure hit
+  scan-nearest = kept-nearest (hit f triangles p) (λ t. refl) limit (triangleCount triangles)
+
+  -- it is nothing exactly when no triangle counts
+  pub scan-nothing : NoneCounts (hit f triangles p) limit (triangleCount triangles) → scan f triangles p limit ≡ nothing
+  scan-nothing none = go (scan f triangles p limit) scan-nearest
+    where
+      go : (a : Answer) → Nearest (hit f triangles p) limit (triangleCount triangles) a → a ≡ nothing
+      go nothing m = refl
+      go (found h) m =
+          absurd (T-not (counts limit (hit f triangles p (h .triangle) .squared)) (none (h .triangle) (m .one-of-them)) (subst (λ (k : Hit). T (counts limit (k .squared))) (m .measured-there) (m .counted)))

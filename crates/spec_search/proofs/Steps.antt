@@ -1,0 +1,144 @@
+-- One step of a walk, over plain lists: what each call asks, and what its answer makes of the node's or the pair's. The proofs of the cycles of calls only apply these. Assumes nothing.
+use mathlib.Core.Path.{_≡_, sym, ap, _∙_}
+use mathlib.Core.Bool.{Bool, true, false}
+use mathlib.Core.List.{List}
+use Prim.Native.Nat.{ℕ, suc, _+_, _-_, _^_, _≤_, _<_}
+use native.Mathlib.Nat.{le-max-left, le-max-right}
+use native.Mathlib.Omega.{arith}
+use borrow.Author.Tests.{eq-eqb, ne-eqb}
+use lib.ListN.{length, length-append}
+use lib.Seq.{getD-take, getD-drop}
+use lib.Ieee.{Float, Format, lt}
+use Rattle.spec_tables.specs.Tables.{part}
+use Rattle.spec_shapes.specs.Points.{Point}
+use Rattle.spec_lists.specs.Reading.{boxAt, triangleCount}
+use Rattle.spec_tree.specs.Trees.{Tree, leaf, branch, numbers, levels, kindAt, leftAt, rightAt}
+use Rattle.spec_tree.specs.Order.{EntriesBelow}
+use Rattle.spec_tree.specs.Hangs.{Hangs, There}
+use Rattle.spec_tree.proofs.Standing.{part-length}
+use Rattle.spec_tree.proofs.Trees.{levels-least}
+use Rattle.spec_search.specs.Walk.{Search, Sought, isLeaf, tookAll, nodeWalk, pairWalk, rootWalk}
+use Rattle.spec_search.specs.Answers.{Answer}
+use Rattle.spec_search.specs.Sure.{isPassed, nodeSquared, passedSure, rightNearer}
+use Rattle.spec_search.specs.Safe.{NodeSafe, PairSafe, LinksAre}
+use Rattle.spec_search.proofs.Walked.{walk-leaf, walk-branch, root-leaf, root-branch, pair-right, pair-left, counted-most}
+
+-- a part of a list of triangle numbers is one
+pub part-below : (n : ℕ) (order : List ℕ) (first last : ℕ) → first ≤ last → last ≤ length order → EntriesBelow n order → EntriesBelow n (part order first (last - first))
+part-below n order first last h k l i b =
+    let inside : i < last - first = omega (arith, part-length order first (last - first) (omega arith)) in
+    rw (getD-take, getD-drop) (l (first + i) (omega arith))
+
+-- the node of a tree that hangs there is there
+pub hangs-there : (triangles : List Float) (order links : List ℕ) (boxes : List Float) (t : Tree) (node : ℕ) → Hangs (boxAt triangles) order links boxes t node → There links boxes node
+hangs-there triangles order links boxes (leaf ks) node h = h .there
+hangs-there triangles order links boxes (branch l r) node h = h .there
+
+module _ (triangles : List Float) (order links : List ℕ) (boxes : List Float) (d node m kind l r : ℕ) (here : LinksAre links node kind l r) where
+  leaf-yes : kind ≡ 1 → isLeaf links node ≡ true
+  leaf-yes e = eq-eqb _ _ (sym (here .kind-is) ∙ e)
+
+  leaf-no : (kind ≡ 1 → ⊥) → isLeaf links node ≡ false
+  leaf-no e = ne-eqb _ _ (λ (q : kindAt links node ≡ 1). e (here .kind-is ∙ q))
+
+  -- what the measuring of a leaf asks
+  abbrev pub LeafAsks : Type 0
+  LeafAsks = EntriesBelow (triangleCount triangles) order × (((l ≤ r) × (r ≤ length order)) × (m + (r - l) < 2 ^ 64))
+
+  leaf-asks-of : (t : Tree) → Hangs (boxAt triangles) order links boxes t node → m + length (numbers t) < 2 ^ 64 → EntriesBelow (triangleCount triangles) order → kind ≡ 1 → LeafAsks
+  unfolding numbers
+  leaf-asks-of (leaf ks) h room listed e =
+      let size : rightAt links node - leftAt links node ≡ length ks =
+      sym (part-length order (leftAt links node) (rightAt links node - leftAt links node) (omega (arith, h .nonempty, h .within))) ∙ ap length (h .part-is) in
+      (listed, ((omega (arith, here, h .nonempty), omega (arith, here, h .within)), omega (arith, here, size, room)))
+  leaf-asks-of (branch a b) h room listed e = absurd (omega (arith, h .kind-is, here .kind-is))
+
+  pair-asks-of : (t : Tree) → Hangs (boxAt triangles) order links boxes t node → levels t ≤ suc d → m + length (numbers t) < 2 ^ 64 → EntriesBelow (triangleCount triangles) order → (kind ≡ 1 → ⊥)
+      → (0 < d) × PairSafe triangles order links boxes (d - 1) l r m
+  unfolding numbers levels
+  pair-asks-of (leaf ks) h deep room listed e = absurd (e (here .kind-is ∙ h .kind-is))
+  pair-asks-of (branch a b) h deep room listed e =
+      let enough : 0 < d = omega (arith, levels-least a, le-max-left (levels a) (levels b)) in (
+        enough,
+        record {
+          left-tree = a;
+          right-tree = b;
+          left-hangs = rw (here .left-is) (h .left);
+          right-hangs = rw (here .right-is) (h .right);
+          left-deep = omega (arith, le-max-left (levels a) (levels b));
+          right-deep = omega (arith, le-max-right (levels a) (levels b));
+          room = omega (arith, length-append (numbers a) (numbers b));
+          listed = listed;
+        },
+      )
+
+  module _ (safe : NodeSafe triangles order links boxes d node m) where
+    pub leaf-asks : kind ≡ 1 → LeafAsks
+    leaf-asks = leaf-asks-of (safe .tree) (safe .hangs) (safe .room) (safe .listed)
+
+    pub pair-asks : (kind ≡ 1 → ⊥) → PairSafe triangles order links boxes (d - 1) l r m
+    pair-asks e = pair-asks-of (safe .tree) (safe .hangs) (safe .deep) (safe .room) (safe .listed) e .1
+
+    pub levels-left : (kind ≡ 1 → ⊥) → 0 < d
+    levels-left e = pair-asks-of (safe .tree) (safe .hangs) (safe .deep) (safe .room) (safe .listed) e .0
+
+    module _ {S : Type 0} (how : Search S) (s next : Sought S) where
+      pub leaf-answers : how .passed node (s .best) ≡ false → kind ≡ 1 → next ≡ tookAll (how .took) (part order l (r - l)) s → next ≡ nodeWalk how order links d node s
+      leaf-answers looked e a = a ∙ rw (here .left-is, here .right-is) (sym (walk-leaf how order links d node s looked (leaf-yes e)))
+
+      pub pair-answers : how .passed node (s .best) ≡ false → (kind ≡ 1 → ⊥) → next ≡ pairWalk how order links (d - 1) l r s → next ≡ nodeWalk how order links d node s
+      pair-answers looked e a =
+          let more : 0 < d = levels-left e in
+          a ∙ rw (here .left-is, here .right-is) (sym (walk-branch how order links d node s looked (leaf-no e) (λ (z : d ≡ 0). omega arith)))
+
+      pub root-leaf-answers : kind ≡ 1 → next ≡ tookAll (how .took) (part order l (r - l)) s → next ≡ rootWalk how order links d node s
+      root-leaf-answers e a = a ∙ rw (here .left-is, here .right-is) (sym (root-leaf how order links d node s (leaf-yes e)))
+
+      pub root-pair-answers : (kind ≡ 1 → ⊥) → next ≡ pairWalk how order links (d - 1) l r s → next ≡ rootWalk how order links d node s
+      root-pair-answers e a =
+          let more : 0 < d = levels-left e in
+          a ∙ rw (here .left-is, here .right-is) (sym (root-branch how order links d node s (leaf-no e) (λ (z : d ≡ 0). omega arith)))
+
+-- ---- two children
+module _ (triangles : List Float) (order links : List ℕ) (boxes : List Float) (d l r m : ℕ) (safe : PairSafe triangles order links boxes d l r m) where
+  pub left-asks : NodeSafe triangles order links boxes d l m
+  left-asks = record { tree = safe .left-tree; hangs = safe .left-hangs; deep = safe .left-deep; room = omega (arith, safe .room); listed = safe .listed }
+
+  pub right-asks : NodeSafe triangles order links boxes d r m
+  right-asks = record { tree = safe .right-tree; hangs = safe .right-hangs; deep = safe .right-deep; room = omega (arith, safe .room); listed = safe .listed }
+
+  module _ {S : Type 0} (how : Search S) (s first : Sought S) (counted : s .measured ≡ m) where
+    pub then-left-asks : first ≡ nodeWalk how order links d r s → NodeSafe triangles order links boxes d l (first .measured)
+    then-left-asks e = record {
+      tree = safe .left-tree;
+      hangs = safe .left-hangs;
+      deep = safe .left-deep;
+      room = omega (arith, safe .room, counted-most how (boxAt triangles) order links boxes (safe .right-tree) d r s (safe .right-hangs) (safe .right-deep), ap (λ (x : Sought S). x .measured) e, counted);
+      listed = safe .listed;
+    }
+
+    pub then-right-asks : first ≡ nodeWalk how order links d l s → NodeSafe triangles order links boxes d r (first .measured)
+    then-right-asks e = record {
+      tree = safe .right-tree;
+      hangs = safe .right-hangs;
+      deep = safe .right-deep;
+      room = omega (arith, safe .room, counted-most how (boxAt triangles) order links boxes (safe .left-tree) d l s (safe .left-hangs) (safe .left-deep), ap (λ (x : Sought S). x .measured) e, counted);
+      listed = safe .listed;
+    }
+
+module _ {S : Type 0} (how : Search S) (order links : List ℕ) (d l r : ℕ) (s first next : Sought S) where
+  pub right-answers : how .rightFirst l r ≡ true → first ≡ nodeWalk how order links d r s → next ≡ nodeWalk how order links d l first → next ≡ pairWalk how order links d l r s
+  right-answers e a b = b ∙ ap (nodeWalk how order links d l) a ∙ sym (pair-right how order links d l r s e)
+
+  pub left-answers : how .rightFirst l r ≡ false → first ≡ nodeWalk how order links d l s → next ≡ nodeWalk how order links d r first → next ≡ pairWalk how order links d l r s
+  left-answers e a b = b ∙ ap (nodeWalk how order links d r) a ∙ sym (pair-left how order links d l r s e)
+
+-- ---- what the tests of the sure walk say, of distances that were measured
+module _ (f : Format) (boxes : List Float) (p : Point) where
+  pub passed-here : (limit squared : Float) (node : ℕ) (k : Answer) (b flag : Bool) → squared ≡ nodeSquared f boxes p node → b ≡ isPassed limit squared k → b ≡ flag → passedSure f boxes p limit node k ≡ flag
+  unfolding passedSure
+  passed-here limit squared node k b flag s e h = ap (λ (d : Float). isPassed limit d k) (sym s) ∙ sym e ∙ h
+
+  pub right-first-here : (l r : ℕ) (toLeft toRight : Float) (flag : Bool) → toLeft ≡ nodeSquared f boxes p l → toRight ≡ nodeSquared f boxes p r → lt toRight toLeft ≡ flag → rightNearer f boxes p l r ≡ flag
+  unfolding rightNearer
+  right-first-here l r toLeft toRight flag s t h = rw (← s, ← t) h

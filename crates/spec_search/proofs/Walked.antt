@@ -1,0 +1,103 @@
+-- The walk's equations, one for each way through a node and a pair, and how many triangles it measures at most: those of the tree that hangs at the node. Assumes nothing.
+use mathlib.Core.Path.{_≡_, refl, _∙_}
+use mathlib.Core.Bool.{Bool, true, false}
+use mathlib.Core.List.{List, [], _∷_}
+use Prim.Native.Nat.{ℕ, zero, suc, _+_, _-_, _≤_}
+use native.Mathlib.Nat.{le-max-left, le-max-right}
+use native.Mathlib.Numerals.{sub-one}
+use native.Mathlib.Omega.{arith}
+use borrow.Author.Tests.{eq-eqb, ne-eqb}
+use lib.ListN.{length, length-append}
+use lib.Ieee.{Float}
+use Rattle.spec_shapes.specs.Boxes.{Box}
+use Rattle.spec_tree.specs.Trees.{Tree, leaf, branch, numbers, levels, kindAt, leftAt, rightAt}
+use Rattle.spec_tree.specs.Hangs.{Hangs, leafPart}
+use Rattle.spec_tree.proofs.Trees.{levels-least}
+use Rattle.spec_search.specs.Walk.{Search, Sought, isLeaf, tookOne, tookAll, inTurn, lookedAt, visited, nodeWalk, pairWalk, rootWalk}
+
+module _ {S : Type 0} (how : Search S) (order links : List ℕ) where
+  pub walk-passed : (d node : ℕ) (s : Sought S) → how .passed node (s .best) ≡ true → nodeWalk how order links d node s ≡ s
+  unfolding nodeWalk
+  walk-passed zero node s e = simp e
+  walk-passed (suc d) node s e = simp e
+
+  pub walk-leaf : (d node : ℕ) (s : Sought S) → how .passed node (s .best) ≡ false → isLeaf links node ≡ true → nodeWalk how order links d node s ≡ tookAll (how .took) (leafPart order links node) s
+  unfolding nodeWalk
+  walk-leaf zero node s e k = simp (e, k)
+  walk-leaf (suc d) node s e k = simp (e, k)
+
+  pub walk-branch : (d node : ℕ) (s : Sought S) → how .passed node (s .best) ≡ false → isLeaf links node ≡ false → (d ≡ 0 → ⊥)
+      → nodeWalk how order links d node s ≡ pairWalk how order links (d - 1) (leftAt links node) (rightAt links node) s
+  unfolding nodeWalk pairWalk
+  walk-branch zero node s e k z = absurd (z refl)
+  walk-branch (suc d) node s e k z = simp (e, k, sub-one)
+
+  pub root-leaf : (d node : ℕ) (s : Sought S) → isLeaf links node ≡ true → rootWalk how order links d node s ≡ tookAll (how .took) (leafPart order links node) s
+  unfolding rootWalk
+  root-leaf zero node s k = simp k
+  root-leaf (suc d) node s k = simp k
+
+  pub root-branch : (d node : ℕ) (s : Sought S) → isLeaf links node ≡ false → (d ≡ 0 → ⊥) → rootWalk how order links d node s ≡ pairWalk how order links (d - 1) (leftAt links node) (rightAt links node) s
+  unfolding rootWalk
+  root-branch zero node s k z = absurd (z refl)
+  root-branch (suc d) node s k z = simp (k, sub-one)
+
+  -- a node that is not passed over is looked at as a root is
+  pub walk-looked : (d node : ℕ) (s : Sought S) → how .passed node (s .best) ≡ false → rootWalk how order links d node s ≡ nodeWalk how order links d node s
+  unfolding nodeWalk rootWalk pairWalk
+  walk-looked zero node s e = simp e
+  walk-looked (suc d) node s e = simp e
+
+  pub pair-right : (d l r : ℕ) (s : Sought S) → how .rightFirst l r ≡ true → pairWalk how order links d l r s ≡ nodeWalk how order links d l (nodeWalk how order links d r s)
+  unfolding pairWalk
+  pair-right d l r s e = simp e
+
+  pub pair-left : (d l r : ℕ) (s : Sought S) → how .rightFirst l r ≡ false → pairWalk how order links d l r s ≡ nodeWalk how order links d r (nodeWalk how order links d l s)
+  unfolding pairWalk
+  pair-left d l r s e = simp e
+
+-- ---- the kind of the node at which a tree hangs
+module _ (boxAt : ℕ → Box) (order links : List ℕ) (boxes : List Float) (node : ℕ) where
+  pub leaf-kind : (part : List ℕ) → Hangs boxAt order links boxes (leaf part) node → isLeaf links node ≡ true
+  leaf-kind part h = eq-eqb _ _ (h .kind-is)
+
+  pub branch-kind : (l r : Tree) → Hangs boxAt order links boxes (branch l r) node → isLeaf links node ≡ false
+  branch-kind l r h = ne-eqb _ _ (λ (e : kindAt links node ≡ 1). not-both (h .kind-is) e)
+    where
+      not-both : kindAt links node ≡ 2 → kindAt links node ≡ 1 → ⊥
+      not-both p q = omega arith
+
+-- ---- how many triangles are measured
+pub counted-all : {S : Type 0} (took : ℕ → S → S) (ts : List ℕ) (s : Sought S) → (tookAll took ts s) .measured ≡ s .measured + length ts
+unfolding tookAll
+counted-all took [] s = omega arith
+counted-all took (t ∷ ts) s = counted-all took ts (tookOne took t s) ∙ omega arith
+
+module _ {S : Type 0} (how : Search S) (boxAt : ℕ → Box) (order links : List ℕ) (boxes : List Float) where
+  in-turn-most : (first : Bool) (walk : ℕ → Sought S → Sought S) (a b l r : ℕ) (s : Sought S)
+      → ((s′ : Sought S) → (walk l s′) .measured ≤ s′ .measured + a) → ((s′ : Sought S) → (walk r s′) .measured ≤ s′ .measured + b)
+      → (inTurn first walk l r s) .measured ≤ s .measured + (a + b)
+  in-turn-most true walk a b l r s h k = omega (arith, k s, h (walk r s))
+  in-turn-most false walk a b l r s h k = omega (arith, h s, k (walk l s))
+
+  visited-most : (over : Bool) (pair : ℕ → ℕ → Sought S → Sought S) (node most : ℕ) (s : Sought S) → (lookedAt how order links (isLeaf links node) pair node s) .measured ≤ s .measured + most
+      → (visited how order links over pair node s) .measured ≤ s .measured + most
+  visited-most true pair node most s h = omega arith
+  visited-most false pair node most s h = h
+
+  looked-leaf : (part : List ℕ) (pair : ℕ → ℕ → Sought S → Sought S) (node : ℕ) (s : Sought S) → Hangs boxAt order links boxes (leaf part) node
+      → (lookedAt how order links (isLeaf links node) pair node s) .measured ≤ s .measured + length part
+  looked-leaf part pair node s h = rw (leaf-kind boxAt order links boxes node part h, ← h .part-is) (omega (arith, counted-all (how .took) (leafPart order links node) s))
+
+  -- a walk measures at most the triangles of the tree that hangs at its node
+  pub counted-most : (t : Tree) (d node : ℕ) (s : Sought S) → Hangs boxAt order links boxes t node → levels t ≤ suc d → (nodeWalk how order links d node s) .measured ≤ s .measured + length (numbers t)
+  unfolding nodeWalk numbers levels
+  counted-most (leaf part) zero node s h deep = visited-most (how .passed node (s .best)) _ node (length part) s (looked-leaf part _ node s h)
+  counted-most (leaf part) (suc d) node s h deep = visited-most (how .passed node (s .best)) _ node (length part) s (looked-leaf part _ node s h)
+  counted-most (branch l r) zero node s h deep = absurd (omega (arith, levels-least l, le-max-left (levels l) (levels r)))
+  counted-most (branch l r) (suc d) node s h deep =
+      visited-most (how .passed node (s .best)) _ node (length (numbers (branch l r))) s
+      (rw (branch-kind boxAt order links boxes node l r h, length-append (numbers l) (numbers r))
+      (in-turn-most (how .rightFirst (leftAt links node) (rightAt links node)) (nodeWalk how order links d) (length (numbers l)) (length (numbers r)) (leftAt links node) (rightAt links node) s
+      (λ s′. counted-most l d (leftAt links node) s′ (h .left) (omega (arith, le-max-left (levels l) (levels r))))
+      (λ s′. counted-most r d (rightAt links node) s′ (h .right) (omega (arith, le-max-right (levels l) (levels r))))))

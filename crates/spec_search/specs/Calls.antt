@@ -1,0 +1,52 @@
+-- The two public queries over lists of points: what they refuse, and what they write, six numbers a point. Definitions only.
+use mathlib.Core.Path.{_≡_}
+use mathlib.Core.Bool.{true}
+use mathlib.Core.List.{List, [], _∷_}
+use Prim.Native.Nat.{ℕ, _*_, _/_}
+use lib.Ieee.{Float, Format}
+use Rattle.spec_tables.specs.Tables.{over, many}
+use Rattle.spec_shapes.specs.Points.{Point}
+use Rattle.spec_lists.specs.Reading.{boxAt, triangleCount, pointAt, pointCount}
+use Rattle.spec_lists.specs.Passed.{GoodTriangles, GoodPoints}
+use Rattle.spec_lists.specs.Refusals.{Verdict, firstRefusal, trianglesRefusal, roomRefusal, pointsRefusal, distanceRefusal, afterVerdict}
+use Rattle.spec_tree.specs.Accepted.{accepted}
+use Rattle.spec_tree.specs.Refusals.{treeRefusal}
+use Rattle.spec_search.specs.Answers.{Answer, sixWords}
+use Rattle.spec_search.specs.Sure.{limitOf, scan}
+use Rattle.spec_search.specs.Source.{sourceWalk}
+
+-- 1 to 4, 6, 7, 8, 9; the room is counted in answers
+unfoldable pub queryRefusal : (triangles : List Float) (order links : List ℕ) (boxes : List Float) (nodes : ℕ) (points : List Float) (distance : Float) (room : ℕ) → Verdict
+queryRefusal triangles order links boxes nodes points distance room =
+    firstRefusal
+    (trianglesRefusal triangles
+    ∷ roomRefusal (room / 6) (pointCount points)
+    ∷ treeRefusal triangles order links boxes nodes
+    ∷ pointsRefusal points
+    ∷ distanceRefusal distance
+    ∷ [])
+
+-- the answers, one point after another
+unfoldable pub answerWords : Format → (Point → Answer) → List Float → List ℕ
+answerWords f answer points = many (λ k. sixWords f (answer (pointAt points (3 * k)))) (pointCount points)
+
+-- the lent list afterwards: the answers from the front, what was there behind them; on a refusal as it was
+unfoldable pub afterQuery : Format → (Point → Answer) → List Float → Verdict → List ℕ → List ℕ
+afterQuery f answer points verdict old = afterVerdict verdict (over 0 (answerWords f answer points) old) old
+
+-- what a sure query answers at a point: the scan alone, whatever accepted tree is used
+unfoldable pub sureAnswer : Format → (triangles : List Float) (distance : Float) → Point → Answer
+sureAnswer f triangles distance p = scan f triangles p (limitOf f distance)
+
+-- what a source query answers at a point
+unfoldable pub sourceAnswer : Format → (triangles : List Float) (order links : List ℕ) (boxes : List Float) (nodes : ℕ) (distance : Float) → Point → Answer
+sourceAnswer f triangles order links boxes nodes distance p = sourceWalk f triangles order links boxes nodes p (limitOf f distance) .best
+
+-- ---- what the inner searches ask
+pub record Searchable (triangles : List Float) (order links : List ℕ) (boxes : List Float) (nodes : ℕ) : Type 0 where
+  pub triangles-good : GoodTriangles triangles
+  pub tree-accepted : accepted (boxAt triangles) (triangleCount triangles) order links boxes nodes ≡ true
+
+pub record Askable (triangles : List Float) (order links : List ℕ) (boxes : List Float) (nodes : ℕ) (points : List Float) : Type 0 where
+  pub searchable : Searchable triangles order links boxes nodes
+  pub points-good : GoodPoints points

@@ -1,0 +1,67 @@
+-- The walk of a tree, over any search: what is kept, when a node is passed over, which child goes first, and what a triangle does to what is kept. Definitions only.
+use mathlib.Core.Bool.{Bool, true, false}
+use mathlib.Core.List.{List, [], _∷_}
+use Prim.Native.Nat.{ℕ, zero, suc, _+_}
+use lib.Dec.{eqb}
+use Rattle.spec_tree.specs.Trees.{kindAt, leftAt, rightAt}
+use Rattle.spec_tree.specs.Hangs.{leafPart}
+
+-- a search that keeps an S
+pub record Search (S : Type 0) : Type 0 where
+  -- this node is passed over, at what is kept so far
+  pub passed : ℕ → S → Bool
+  -- of a left and a right child, the right one goes first
+  pub rightFirst : ℕ → ℕ → Bool
+  -- what is kept once this triangle is measured
+  pub took : ℕ → S → S
+
+-- what is kept, and how many triangles were measured
+pub record Sought (S : Type 0) : Type 0 where
+  pub best : S
+  pub measured : ℕ
+
+abbrev pub isLeaf : List ℕ → ℕ → Bool
+isLeaf links node = eqb (kindAt links node) 1
+
+abbrev pub tookOne : {S : Type 0} → (ℕ → S → S) → ℕ → Sought S → Sought S
+tookOne took t s = record { best = took t (s .best); measured = s .measured + 1 }
+
+-- each triangle of the list in turn
+unfoldable pub tookAll : {S : Type 0} → (ℕ → S → S) → List ℕ → Sought S → Sought S
+tookAll took [] s = s
+tookAll took (t ∷ ts) s = tookAll took ts (tookOne took t s)
+
+-- two nodes, the right one first where the flag says so
+abbrev pub inTurn : {S : Type 0} → Bool → (ℕ → Sought S → Sought S) → ℕ → ℕ → Sought S → Sought S
+inTurn true walk l r s = walk l (walk r s)
+inTurn false walk l r s = walk r (walk l s)
+
+module _ {S : Type 0} (how : Search S) (order links : List ℕ) where
+  -- a node that is looked at: a leaf is measured whole, a branch's children are walked as a pair
+  abbrev pub lookedAt : Bool → (ℕ → ℕ → Sought S → Sought S) → ℕ → Sought S → Sought S
+  lookedAt true pair node s = tookAll (how .took) (leafPart order links node) s
+  lookedAt false pair node s = pair (leftAt links node) (rightAt links node) s
+
+  -- a node, by whether it is passed over
+  abbrev pub visited : Bool → (ℕ → ℕ → Sought S → Sought S) → ℕ → Sought S → Sought S
+  visited true pair node s = s
+  visited false pair node s = lookedAt (isLeaf links node) pair node s
+
+  -- The walk of a node, with d levels of branches left to open: below them nothing is looked at.
+  unfoldable pub nodeWalk : ℕ → ℕ → Sought S → Sought S
+  nodeWalk zero node s = visited (how .passed node (s .best)) (λ l r s′. s′) node s
+  nodeWalk (suc d) node s = visited (how .passed node (s .best)) (λ l r s′. inTurn (how .rightFirst l r) (nodeWalk d) l r s′) node s
+
+  -- The walk of two children, each with d levels left.
+  unfoldable pub pairWalk : ℕ → ℕ → ℕ → Sought S → Sought S
+  pairWalk d l r s = inTurn (how .rightFirst l r) (nodeWalk d) l r s
+
+  -- The walk from a root that is always looked at.
+  unfoldable pub rootWalk : ℕ → ℕ → Sought S → Sought S
+  rootWalk zero node s = lookedAt (isLeaf links node) (λ l r s′. s′) node s
+  rootWalk (suc d) node s = lookedAt (isLeaf links node) (pairWalk d) node s
+
+-- what is kept once each triangle of the list is measured, in this order
+unfoldable pub keptBy : {S : Type 0} → (ℕ → S → S) → List ℕ → S → S
+keptBy took [] s = s
+keptBy took (t ∷ ts) s = keptBy took ts (took t s)
