@@ -1,0 +1,11 @@
+use mathlib.Core.Path.{refl}
+use Rattle.spec_search.specs.Sure.{counts}
+use Rattle.closest.proofs.sure.does_count.Statement.{statement}
+use Rattle.closest.proofs.sure.does_count.Tie as tie
+
+returns : tie.Need-returns
+unfolding counts
+returns c = refl
+
+pub does-count-spec : {M : Type 1} → statement M
+does-count-spec = tie.close (tie.spec returns)

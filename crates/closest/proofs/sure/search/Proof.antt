@@ -1,0 +1,28 @@
+-- `closest::sure::search` meets its contract: an accepted tree is safe to walk from its root.
+-- Assumes nothing.
+use Rattle.spec_search.specs.Sure.{sureWalk}
+use Rattle.spec_search.proofs.Calls.{root-there, root-safe}
+use Rattle.spec_search.proofs.Steps.{hangs-there}
+use borrow.Author.Needs.{needs}
+use Rattle.closest.proofs.sure.search.Statement.{statement}
+use Rattle.closest.proofs.sure.search.Tie as tie
+
+sub-root : tie.Need-sub-root
+sub-root c = root-there _ _ _ _ _ (c .before .before .before .before .pre)
+
+node-squared-requires : tie.Need-node-squared-requires
+node-squared-requires c κs = let safe = root-safe _ _ _ _ _ (c .before .before .before .before .pre) in hangs-there _ _ _ _ (safe .tree) _ (safe .hangs) .boxes-there
+
+sub-node-walk : tie.Need-sub-node-walk
+sub-node-walk c = search needs
+
+node-walk-requires : tie.Need-node-walk-requires
+node-walk-requires c κs = (root-safe _ _ _ _ _ (c .before .before .before .before .before .pre), c .node-squared .ensures)
+
+returns : tie.Need-returns
+unfolding sureWalk
+returns c = c .node-walk .ensures
+
+pub search-spec : {M : Type 1} → statement M
+search-spec =
+    tie.close (tie.spec sub-root node-squared-requires sub-node-walk node-walk-requires returns)
