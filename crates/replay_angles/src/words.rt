@@ -1,0 +1,74 @@
+// The list as words, u32 little-endian: a word past the end reads as 0.
+ghost use mathlib.Core.Path.{_≡_};
+ghost use Prim.Native.Nat.{_<_, _≤_};
+ghost use lib.ListN.{length};
+use primitives::vec3::Vec3;
+
+fn wide(b: u8) -> u32
+    ensures { λ r. ⌜ r < 256 ⌝ }
+{
+    b as u32
+}
+
+pub fn word_at(block: &[u8], index: usize) -> u32 {
+    if index < 16384 {
+        let at = 4 * index;
+        if at + 4 <= block.len() {
+            let low = wide(block[at]) + 256 * wide(block[at + 1]);
+            let high = wide(block[at + 2]) + 256 * wide(block[at + 3]);
+            return low + 65536 * high;
+        }
+    }
+    0
+}
+
+// A count, at most 16384.
+pub fn size_at(block: &[u8], index: usize) -> usize
+    ensures { λ r. ⌜ r ≤ 16384 ⌝ }
+{
+    let size = word_at(block, index);
+    if size < 16384 { size as usize } else { 16384 }
+}
+
+pub fn number_at(block: &[u8], index: usize) -> f32 {
+    floats::from_bits(word_at(block, index))
+}
+
+// at + size * i, or the end where that is past it.
+pub fn place(at: usize, size: usize, i: usize) -> usize
+    ensures { λ r. ⌜ r ≤ 16384 ⌝ }
+{
+    if (at < 16384) & (size < 16384) & (i < 16384) {
+        let found = at + size * i;
+        if found < 16384 {
+            return found;
+        }
+    }
+    16384
+}
+
+pub fn point_of(block: &[u8], at: usize) -> Vec3 {
+    Vec3 {
+        x: number_at(block, place(at, 1, 0)),
+        y: number_at(block, place(at, 1, 1)),
+        z: number_at(block, place(at, 1, 2)),
+    }
+}
+
+// How many words the mesh at `at` takes: two counts, nine a triangle, and four a point.
+pub fn mesh_words(block: &[u8], at: usize) -> usize {
+    let triangles = size_at(block, at);
+    let points = size_at(block, place(at, 1, 1));
+    place(place(2, 9, triangles), 4, points)
+}
+
+// The numbers from `at` on: more than a mesh has.
+pub fn numbers_from(block: &[u8], at: usize) -> [f32; 720]
+    ensures { λ r. ⌜ length r ≡ 720 ⌝ }
+{
+    let mut numbers = [0.0f32; 720];
+    for i in 0..720 {
+        numbers[i] = number_at(block, place(at, 1, i));
+    }
+    numbers
+}

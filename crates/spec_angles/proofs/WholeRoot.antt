@@ -1,0 +1,50 @@
+-- The root of a whole number: cut, digit by digit (`whole-root`), and no other number is (`whole-root-unique`); to the nearest whole number (`nearer-root`), since it is never half way
+-- between two. Assumes nothing.
+use mathlib.Core.Path.{_≡_}
+use mathlib.Core.Bool.{Bool, true, false, not, cond}
+use Prim.Native.Nat.{ℕ, zero, suc, _+_, _-_, _*_, _/_, _^_, _≤_, _<_}
+use native.Mathlib.Nat.{lt-of-le-of-lt, lt-of-lt-of-le, pow-suc}
+use native.Mathlib.Omega.{arith}
+use lib.Dec.{T, leb, ltb, leb→le, nleb→lt, ltb→lt, nltb→le}
+use Rattle.spec_angles.specs.Root.{square, digit, wholeRoot, nearer, WholeRoot, Near}
+use Rattle.spec_angles.proofs.Powers.{square-lt, square-reflects}
+
+next-digit : (n r : ℕ) → WholeRoot (n / 4) r → WholeRoot n (digit n (2 * r))
+next-digit n r p = go (leb (square (2 * r + 1)) n) (leb→le (square (2 * r + 1)) n) (nleb→lt (square (2 * r + 1)) n)
+  where
+    go : (b : Bool) → (T b → square (2 * r + 1) ≤ n) → (T (not b) → n < square (2 * r + 1)) → WholeRoot n (cond b (2 * r + 1) (2 * r))
+    go true h k = record { low = h tt; high = omega (arith, p .high) }
+    go false h k = record { low = omega (arith, p .low); high = k tt }
+
+pub whole-root : (d n : ℕ) → n < 2 ^ d * 2 ^ d → WholeRoot n (wholeRoot d n)
+unfolding wholeRoot
+whole-root zero n h = record { low = omega arith; high = omega arith }
+whole-root (suc d) n h = next-digit n (wholeRoot d (n / 4)) (whole-root d (n / 4) (omega (arith, rw (pow-suc 2 d) at h)))
+
+pub whole-root-unique : {n r s : ℕ} → WholeRoot n r → WholeRoot n s → r ≡ s
+whole-root-unique {n} {r} {s} p q =
+    let l : r < s + 1 = square-reflects (lt-of-le-of-lt (p .low) (q .high)) in
+    let h : s < r + 1 = square-reflects (lt-of-le-of-lt (q .low) (p .high)) in
+    omega arith
+
+near-up : (n r : ℕ) → WholeRoot n r → r < n - r * r → Near n (r + 1)
+near-up n r w g =
+    let odd : 2 * (r + 1) - 1 ≡ 2 * r + 1 = omega arith in
+    record { low = rw odd (omega arith); high = omega (arith, w .high) }
+
+near-stay : (n r : ℕ) → 0 < r → WholeRoot n r → n - r * r ≤ r → Near n r
+near-stay n r s w g = record { low = lt-of-lt-of-le (square-lt {a = 2 * r - 1} {b = 2 * r} (omega arith)) (omega (arith, w .low)); high = omega (arith, w .low) }
+
+pub nearer-root : (n r : ℕ) → 0 < r → WholeRoot n r → Near n (nearer n r)
+nearer-root n r s w = go (ltb r (n - r * r)) (ltb→lt r (n - r * r)) (nltb→le r (n - r * r))
+  where
+    go : (b : Bool) → (T b → r < n - r * r) → (T (not b) → n - r * r ≤ r) → Near n (cond b (r + 1) r)
+    go true h k = near-up n r w (h tt)
+    go false h k = near-stay n r s w (k tt)
+
+pub nearer-between : (n r : ℕ) → (r ≤ nearer n r) × (nearer n r ≤ r + 1)
+nearer-between n r = go (ltb r (n - r * r))
+  where
+    go : (b : Bool) → (r ≤ cond b (r + 1) r) × (cond b (r + 1) r ≤ r + 1)
+    go true = omega arith
+    go false = omega arith

@@ -1,0 +1,79 @@
+-- The loops that make winding numbers: the sum over the triangles, one a turn (`Summed`), and the lent list, one number a turn (`Filled`). Then what stands in that list when the call is done,
+-- or refused. Assumes nothing.
+use mathlib.Core.Path.{_≡_, refl, ap, _∙_}
+use mathlib.Core.Bool.{true}
+use mathlib.Core.List.{List, [], _∷_}
+use Prim.Native.Nat.{ℕ, _+_, _*_, _≤_, _<_}
+use native.Mathlib.Nat.{zero-add}
+use native.Mathlib.Numerals.{add-one}
+use native.Mathlib.Omega.{arith}
+use lib.ListN.{length, set}
+use lib.Ieee.{Float, Format, add, mul, div}
+use Rattle.spec_numbers.specs.Values.{zero}
+use Rattle.spec_tables.specs.Tables.{over, many}
+use Rattle.spec_tables.proofs.Runs.{Run, run-start, run-store, run-end}
+use Rattle.spec_shapes.specs.Points.{Point}
+use Rattle.spec_shapes.specs.Triangles.{Triangle}
+use Rattle.spec_lists.specs.Reading.{triangleAt, triangleCount, pointAt, pointCount}
+use Rattle.spec_lists.specs.Refusals.{Verdict, passes, refused, refuses, afterVerdict}
+use Rattle.spec_lists.proofs.Verdicts.{all-pass}
+use Rattle.spec_lists.proofs.Passed.{room-passed}
+use Rattle.spec_numbers.proofs.Tests.{passed}
+use Rattle.spec_angles.specs.Winding.{solidAngle, sumOf, windingNumber, pi, four}
+use Rattle.spec_angles.specs.Windings.{windingAbout, windingAt, windingRefusal, written, afterWinding}
+
+-- ---- the sum: k of the triangles are in it
+pub record Summed (f : Format) (triangles : List Float) (q : Point) (count : ℕ) (sum : Float) (k : ℕ) : Type 0 where
+  pub within : k ≤ count
+  pub is : sum ≡ sumOf f (triangleAt triangles) q k
+
+module _ (f : Format) (triangles : List Float) (q : Point) (count : ℕ) where
+  pub sum-start : Summed f triangles q count zero 0
+  unfolding sumOf
+  sum-start = record { within = omega arith; is = refl }
+
+  pub sum-more : (sum angle : Float) (t : Triangle) (k : ℕ) → k < count → Summed f triangles q count sum k → t ≡ triangleAt triangles k → angle ≡ solidAngle f t q
+      → Summed f triangles q count (add f sum angle) (k + 1)
+  unfolding sumOf
+  sum-more sum angle t k l s T' A = record { within = omega arith; is = rw (add-one k, s .is, A, T') refl }
+
+  pub sum-end : (sum : Float) (k : ℕ) → count ≡ triangleCount triangles → count ≤ k → Summed f triangles q count sum k → div f sum (mul f four (pi f)) ≡ windingAbout f triangles q
+  unfolding windingAbout windingNumber
+  sum-end sum k C l s =
+      let e : k ≡ count = omega (arith, s .within) in
+      rw (s .is, e, C)
+
+-- ---- the list: the first k winding numbers stand in it
+pub record Filled (f : Format) (triangles points old : List Float) (count : ℕ) (out : List Float) (k : ℕ) : Type 0 where
+  pub run : Run (λ j. windingAt f triangles points j ∷ []) 0 count old out k
+
+module _ (f : Format) (triangles points old : List Float) (count : ℕ) where
+  pub fill-start : Filled f triangles points old count old 0
+  fill-start = record { run = run-start _ 1 0 count old }
+
+  pub fill-more : (out : List Float) (k : ℕ) (q : Point) (w : Float) → count ≤ length old → k < count → Filled f triangles points old count out k → q ≡ pointAt points (3 * k)
+      → w ≡ windingAbout f triangles q → Filled f triangles points old count (set out k w) (k + 1)
+  unfolding windingAt
+  fill-more out k q w room l h Q W = record { run = rw (zero-add k) at (run-store (windingAt f triangles points) 0 count old out k w (rw (zero-add count) room) l (h .run) (W ∙ ap (windingAbout f triangles) Q)) }
+
+  pub fill-end : (out : List Float) (k : ℕ) → count ≡ pointCount points → count ≤ k → Filled f triangles points old count out k → out ≡ written f triangles points old
+  unfolding written
+  fill-end out k C l h = run-end _ 0 count old out k l (h .run) ∙ ap (λ (n : ℕ). over 0 (many (λ j. windingAt f triangles points j ∷ []) n) old) C
+
+-- ---- the call
+module _ (triangles points old : List Float) where
+  pub as-it-was : (f : Format) (v : Verdict) → v ≡ windingRefusal triangles points (length old) → refuses v ≡ true → old ≡ afterWinding f triangles points old
+  unfolding afterWinding
+  as-it-was f v is h = rw (← is) (go v h)
+    where
+      go : (v : Verdict) → refuses v ≡ true → old ≡ afterVerdict v (written f triangles points old) old
+      go passes h = absurd (passed h)
+      go (refused number place) h = refl
+
+  pub room-for-all : windingRefusal triangles points (length old) ≡ passes → pointCount points ≤ length old
+  unfolding windingRefusal
+  room-for-all h = room-passed (length old) (pointCount points) (all-pass _ h .1 .0)
+
+  pub is-written : (f : Format) (new : List Float) → windingRefusal triangles points (length old) ≡ passes → new ≡ written f triangles points old → new ≡ afterWinding f triangles points old
+  unfolding afterWinding
+  is-written f new h e = rw (e, h)

@@ -1,0 +1,6 @@
+pub mod Root
+pub mod Table
+pub mod Angle
+pub mod Winding
+pub mod Windings
+pub mod RootByBits
