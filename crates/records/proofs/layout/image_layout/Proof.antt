@@ -1,0 +1,146 @@
+-- `records::image_layout` meets its contract: each way out is a place that was reached (`Reached`).
+-- Assumes nothing.
+use mathlib.Core.Path.{sym, ap, _∙_}
+use native.Mathlib.Omega.{arith}
+use borrow.Author.Tests.{not-true, not-false}
+use denote.Ref.{now}
+use Rattle.spec_records.specs.Records.{bodies, whole}
+use Prim.Native.Nat.{_+_, _*_, _/_}
+use Rattle.spec_records.specs.Layouts.{version1, imageWants}
+use Rattle.spec_records.proofs.Records.{right-within, reach-start, reach-on, reach-wrong, reach-end, reach-extra}
+use Rattle.spec_records.proofs.Layouts.{exactly-right, settings-right, whole-size, tree-wanted, image-spans}
+use Rattle.records.proofs.Answers.{is-right, is-wrong}
+use borrow.Author.Needs.{needs}
+use Rattle.records.proofs.layout.image_layout.Statement.{statement}
+use Rattle.records.proofs.layout.image_layout.Tie as tie
+
+has-settings-requires : tie.Need-has-settings-requires
+has-settings-requires c κs = search needs
+
+returns : tie.Need-returns
+returns c =
+    let s = now (c .before .before .before .args .bytes) in
+    sym (reach-wrong (reach-start (imageWants version1) s) (sym (c .before .«has-settings» .ensures) ∙ not-true _ (c .if1 .taken)))
+
+whole-body-requires : tie.Need-whole-body-requires
+whole-body-requires c κs = search needs
+
+enum-known-triangles : tie.Need-enum-known-triangles
+enum-known-triangles c = search needs
+
+enum-told : tie.Need-enum-told
+enum-told c = search needs
+
+returns-2 : tie.Need-returns-2
+returns-2 c =
+    let s = now (c .before .before .before .before .before .before .args .bytes) in
+    let settings = settings-right version1 s (sym (c .before .before .before .before .«has-settings» .ensures) ∙ not-false _ (c .before .before .before .if1 .left)) in
+    sym (reach-wrong (reach-on (reach-start (imageWants version1) s) settings) (is-wrong 2 (whole 36) s 14 (c .before .before .«whole-body» .ensures) (c .«enum-told» .given .1)))
+
+add-third : tie.Need-add-third
+add-third c =
+    let s = now (c .before .before .before .before .before .before .before .args .bytes) in
+    let triangles = is-right 2 (whole 36) s 14 (c .before .before .before .«whole-body» .ensures) (c .before .triangles .given .1) in
+    omega (arith, right-within triangles)
+
+mul-order : tie.Need-mul-order
+mul-order c = search needs
+
+has-body-requires : tie.Need-has-body-requires
+has-body-requires c κs = search needs
+
+returns-3 : tie.Need-returns-3
+returns-3 c =
+    let s = now (c .before .before .before .before .before .before .before .before .before .args .bytes) in
+    let settings = settings-right version1 s (sym (c .before .before .before .before .before .before .before .«has-settings» .ensures) ∙ not-false _ (c .before .before .before .before .before .before .if1 .left)) in
+    let triangles = is-right 2 (whole 36) s 14 (c .before .before .before .before .before .«whole-body» .ensures) (c .before .before .before .triangles .given .1) in
+    sym (reach-wrong (tree-wanted settings triangles) (sym (c .before .«has-body» .ensures) ∙ not-true _ (c .if2 .taken)))
+
+add-fourth : tie.Need-add-fourth
+add-fourth c =
+    let s = now (c .before .before .before .before .before .before .before .before .before .args .bytes) in
+    let size = c .before .before .before .triangles .given .0 .0 in
+    let order = exactly-right 3 (2 * (size / 36)) s (20 + size) (sym (c .before .«has-body» .ensures) ∙ not-false _ (c .if2 .left)) in
+    omega (arith, right-within order)
+
+add-fourth-2 : tie.Need-add-fourth-2
+add-fourth-2 c =
+    let s = now (c .before .before .before .before .before .before .before .before .before .args .bytes) in
+    let size = c .before .before .before .triangles .given .0 .0 in
+    let order = exactly-right 3 (2 * (size / 36)) s (20 + size) (sym (c .before .«has-body» .ensures) ∙ not-false _ (c .if2 .left)) in
+    omega (arith, right-within order)
+
+whole-body-requires-2 : tie.Need-whole-body-requires-2
+whole-body-requires-2 c κs = search needs
+
+enum-known-nodes : tie.Need-enum-known-nodes
+enum-known-nodes c = search needs
+
+enum-told-2 : tie.Need-enum-told-2
+enum-told-2 c = search needs
+
+returns-4 : tie.Need-returns-4
+returns-4 c =
+    let s = now (c .before .before .before .before .before .before .before .before .before .before .before .before .args .bytes) in
+    let settings = settings-right version1 s (sym (c .before .before .before .before .before .before .before .before .before .before .«has-settings» .ensures) ∙ not-false _ (c .before .before .before .before .before .before .before .before .before .if1 .left)) in
+    let size = c .before .before .before .before .before .before .triangles .given .0 .0 in
+    let triangles = is-right 2 (whole 36) s 14 (c .before .before .before .before .before .before .before .before .«whole-body» .ensures) (c .before .before .before .before .before .before .triangles .given .1) in
+    let order = exactly-right 3 (2 * (size / 36)) s (20 + size) (sym (c .before .before .before .before .«has-body» .ensures) ∙ not-false _ (c .before .before .before .if2 .left)) in
+    sym (reach-wrong (reach-on (tree-wanted settings triangles) order) (is-wrong 4 (whole 30) s _ (c .before .before .«whole-body2» .ensures) (c .«enum-told2» .given .1)))
+
+add-end : tie.Need-add-end
+add-end c =
+    let s = now (c .before .before .before .before .before .before .before .before .before .before .before .before .before .args .bytes) in
+    let nodes = is-right 4 (whole 30) s _ (c .before .before .before .«whole-body2» .ensures) (c .before .nodes .given .1) in
+    omega (arith, right-within nodes)
+
+add-end-2 : tie.Need-add-end-2
+add-end-2 c =
+    let s = now (c .before .before .before .before .before .before .before .before .before .before .before .before .before .args .bytes) in
+    let nodes = is-right 4 (whole 30) s _ (c .before .before .before .«whole-body2» .ensures) (c .before .nodes .given .1) in
+    omega (arith, right-within nodes)
+
+returns-5 : tie.Need-returns-5
+returns-5 c =
+    let s = now (c .before .before .before .before .before .before .before .before .before .before .before .before .before .before .args .bytes) in
+    let settings = settings-right version1 s (sym (c .before .before .before .before .before .before .before .before .before .before .before .before .«has-settings» .ensures) ∙ not-false _ (c .before .before .before .before .before .before .before .before .before .before .before .if1 .left)) in
+    let size = c .before .before .before .before .before .before .before .before .triangles .given .0 .0 in
+    let triangles = is-right 2 (whole 36) s 14 (c .before .before .before .before .before .before .before .before .before .before .«whole-body» .ensures) (c .before .before .before .before .before .before .before .before .triangles .given .1) in
+    let order = exactly-right 3 (2 * (size / 36)) s (20 + size) (sym (c .before .before .before .before .before .before .«has-body» .ensures) ∙ not-false _ (c .before .before .before .before .before .if2 .left)) in
+    let nodes = is-right 4 (whole 30) s _ (c .before .before .before .before .«whole-body2» .ensures) (c .before .before .nodes .given .1) in
+    sym (reach-extra (reach-on (reach-on (tree-wanted settings triangles) order) nodes) (c .if3 .taken))
+
+returns-6 : tie.Need-returns-6
+returns-6 c =
+    let s = now (c .before .before .before .before .before .before .before .before .before .before .before .before .before .before .args .bytes) in
+    let settings = settings-right version1 s (sym (c .before .before .before .before .before .before .before .before .before .before .before .before .«has-settings» .ensures) ∙ not-false _ (c .before .before .before .before .before .before .before .before .before .before .before .if1 .left)) in
+    let size = c .before .before .before .before .before .before .before .before .triangles .given .0 .0 in
+    let triangles = is-right 2 (whole 36) s 14 (c .before .before .before .before .before .before .before .before .before .before .«whole-body» .ensures) (c .before .before .before .before .before .before .before .before .triangles .given .1) in
+    let order = exactly-right 3 (2 * (size / 36)) s (20 + size) (sym (c .before .before .before .before .before .before .«has-body» .ensures) ∙ not-false _ (c .before .before .before .before .before .if2 .left)) in
+    let nodes = is-right 4 (whole 30) s _ (c .before .before .before .before .«whole-body2» .ensures) (c .before .before .nodes .given .1) in
+    ap bodies (image-spans size _ (whole-size 36 triangles) (whole-size 30 nodes)) ∙ sym (reach-end (reach-on (reach-on (tree-wanted settings triangles) order) nodes) (c .if3 .left))
+
+pub image-layout-spec : {M : Type 1} → statement M
+image-layout-spec =
+    tie.close
+    (tie.spec
+    has-settings-requires
+    returns
+    whole-body-requires
+    enum-known-triangles
+    enum-told
+    returns-2
+    add-third
+    mul-order
+    has-body-requires
+    returns-3
+    add-fourth
+    add-fourth-2
+    whole-body-requires-2
+    enum-known-nodes
+    enum-told-2
+    returns-4
+    add-end
+    add-end-2
+    returns-5
+    returns-6)

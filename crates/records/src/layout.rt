@@ -1,0 +1,76 @@
+// The records of an image and of `gauge`'s input, one behind the other, and nothing behind the last.
+use crate::body::Body;
+use crate::body::has_body;
+use crate::body::has_settings;
+use crate::body::whole_body;
+ghost use mathlib.Core.Path.{_≡_};
+ghost use Rattle.spec_records.specs.Records.{laidOut};
+ghost use Rattle.spec_records.specs.Layouts.{version1, imageWants, gaugeWants};
+ghost use Rattle.records.specs.Values.{imageLaid, gaugeLaid};
+
+// How many triangles and nodes there are, or the offset of the first wrong record.
+pub enum ImageLayout {
+    Right { triangles: usize, nodes: usize },
+    Wrong(usize),
+}
+
+// How many triangles and points there are, or the offset of the first wrong record.
+pub enum GaugeLayout {
+    Right { triangles: usize, points: usize },
+    Wrong(usize),
+}
+
+pub fn image_layout(bytes: &[u8]) -> ImageLayout
+    ensures { λ r. ⌜ imageLaid r ≡ laidOut (imageWants version1) (now (bytes .entry)) 0 ⌝ }
+{
+    if !has_settings(bytes) {
+        return ImageLayout::Wrong(0);
+    }
+    let Body::Right(triangles) = whole_body(bytes, 14, 2, 36) else {
+        return ImageLayout::Wrong(14);
+    };
+    let third = 20 + triangles;
+    let order = 2 * (triangles / 36);
+    if !has_body(bytes, third, 3, order) {
+        return ImageLayout::Wrong(third);
+    }
+    let fourth = third + 6 + order;
+    let Body::Right(nodes) = whole_body(bytes, fourth, 4, 30) else {
+        return ImageLayout::Wrong(fourth);
+    };
+    let end = fourth + 6 + nodes;
+    if end != bytes.len() {
+        return ImageLayout::Wrong(end);
+    }
+    ImageLayout::Right {
+        triangles: triangles / 36,
+        nodes: nodes / 30,
+    }
+}
+
+pub fn gauge_layout(bytes: &[u8]) -> GaugeLayout
+    ensures { λ r. ⌜ gaugeLaid r ≡ laidOut gaugeWants (now (bytes .entry)) 0 ⌝ }
+{
+    if !has_settings(bytes) {
+        return GaugeLayout::Wrong(0);
+    }
+    let Body::Right(triangles) = whole_body(bytes, 14, 2, 36) else {
+        return GaugeLayout::Wrong(14);
+    };
+    let third = 20 + triangles;
+    let Body::Right(points) = whole_body(bytes, third, 5, 12) else {
+        return GaugeLayout::Wrong(third);
+    };
+    let fourth = third + 6 + points;
+    if !has_body(bytes, fourth, 6, 4) {
+        return GaugeLayout::Wrong(fourth);
+    }
+    let end = fourth + 6 + 4;
+    if end != bytes.len() {
+        return GaugeLayout::Wrong(end);
+    }
+    GaugeLayout::Right {
+        triangles: triangles / 36,
+        points: points / 12,
+    }
+}

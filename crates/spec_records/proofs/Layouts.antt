@@ -1,0 +1,96 @@
+-- Whether a record is right, by the size of its body and by the version. Assumes nothing.
+use mathlib.Core.Path.{_≡_, sym, ap, _∙_, subst}
+use mathlib.Core.List.{List, [], _∷_}
+use mathlib.Core.Bool.{Bool, true, false, _&&_, and-assoc}
+use Prim.Native.Nat.{ℕ, _+_, _*_, _/_, _%_, _≤_}
+use native.Mathlib.Omega.{arith}
+use borrow.Author.Tests.{eqb-true}
+use lib.ListN.{length}
+use lib.Dec.{eqb}
+use Rattle.spec_tables.specs.Tables.{part}
+use Rattle.spec_tables.proofs.Pieces.{length-part}
+use Rattle.spec_records.specs.Little.{littleAt}
+use Rattle.spec_records.specs.Records.{bodies, done, one, exactly, whole, sizeAt, bodyAt, isRecord, isRight, laidOut}
+use Rattle.spec_records.specs.Layouts.{Shape, version1, settingsRight, imageWants, queryWants, gaugeWants, imageSpans, pointsStart, distanceStart, gaugeSpans}
+use Rattle.spec_records.proofs.Little.{number-part}
+use Rattle.spec_records.proofs.Records.{both, RightRecord, right-within, right-parts, test-decides, record-within, Reached, reach-start, reach-on, one-back, done-back}
+
+module _ (kind : ℕ) (s : List ℕ) (at size : ℕ) (there : isRecord kind s at ≡ true) (sized : sizeAt s at ≡ size) where
+  long : length (part s (at + 6) size) ≡ size
+  long = length-part s (at + 6) size (omega (arith, record-within kind s at there))
+
+  pub exactly-decides : (wanted : ℕ) → isRight kind (exactly wanted) s at ≡ eqb size wanted
+  exactly-decides wanted = test-decides kind (exactly wanted) s at size (eqb size wanted) there sized (rw long)
+
+  pub whole-decides : (entry : ℕ) → isRight kind (whole entry) s at ≡ eqb (size % entry) 0
+  whole-decides entry = test-decides kind (whole entry) s at size (eqb (size % entry) 0) there sized (rw long)
+
+-- ---- what it says that a record is right
+body-long : {kind at size : ℕ} {test : List ℕ → Bool} {s : List ℕ} → RightRecord kind test s at size → length (part s (at + 6) size) ≡ size
+body-long {kind} {at} {size} {test} {s} r = length-part s (at + 6) size (right-within r)
+
+pub whole-size : (entry : ℕ) {kind at size : ℕ} {s : List ℕ} → RightRecord kind (whole entry) s at size → size % entry ≡ 0
+whole-size entry r = ap (λ (n : ℕ). n % entry) (sym (body-long r)) ∙ eqb-true _ 0 (r .passes)
+
+pub exactly-right : (kind wanted : ℕ) (s : List ℕ) (at : ℕ) → isRight kind (exactly wanted) s at ≡ true → RightRecord kind (exactly wanted) s at wanted
+exactly-right kind wanted s at e =
+    let r = right-parts kind (exactly wanted) s at e in
+    subst (RightRecord kind (exactly wanted) s at) (sym (body-long r) ∙ eqb-true _ wanted (r .passes)) r
+
+-- ---- settings
+settings-are : (sh : Shape) (s : List ℕ) → isRight 1 (settingsRight sh) s 0 ≡ isRight 1 (exactly 8) s 0 && eqb (littleAt 2 (bodyAt s 0) 0) (sh .version)
+unfolding isRight
+settings-are sh s = sym (and-assoc (isRecord 1 s 0) (exactly 8 (bodyAt s 0)) (eqb (littleAt 2 (bodyAt s 0) 0) (sh .version)))
+
+pub settings-missing : (sh : Shape) (s : List ℕ) → isRight 1 (exactly 8) s 0 ≡ false → isRight 1 (settingsRight sh) s 0 ≡ false
+settings-missing sh s e = rw (settings-are sh s, e)
+
+-- of settings of the right size the version decides
+pub version-decides : (sh : Shape) (s : List ℕ) → isRight 1 (exactly 8) s 0 ≡ true → isRight 1 (settingsRight sh) s 0 ≡ eqb (littleAt 2 s 6) (sh .version)
+version-decides sh s e =
+    let two : 2 ≤ 8 = omega arith in
+    let eight : sizeAt s 0 ≡ 8 = exactly-right 1 8 s 0 e .sized in
+    rw (settings-are sh s, e, eight, number-part 2 s 6 8 two)
+
+pub settings-right : (sh : Shape) (s : List ℕ) → isRight 1 (settingsRight sh) s 0 ≡ true → RightRecord 1 (settingsRight sh) s 0 8
+settings-right sh s e =
+    let r = right-parts 1 (settingsRight sh) s 0 e in
+    let size = exactly-right 1 8 s 0 (both (isRight 1 (exactly 8) s 0) (eqb (littleAt 2 (bodyAt s 0) 0) (sh .version)) (sym (settings-are sh s) ∙ e) .0) .sized in
+    subst (RightRecord 1 (settingsRight sh) s 0) size r
+
+-- ---- past the triangles of an image
+pub tree-wanted : {s : List ℕ} {size : ℕ} → RightRecord 1 (settingsRight version1) s 0 8 → RightRecord 2 (whole 36) s 14 size
+    → Reached (imageWants version1) s (record { start = 6; size = 8 } ∷ record { start = 20; size = size } ∷ [])
+    (one 3 (exactly (2 * (size / 36))) (λ _. one 4 (whole 30) (λ _. done))) (20 + size)
+tree-wanted {s} {size} settings triangles =
+    subst (λ (n : ℕ). Reached (imageWants version1) s (record { start = 6; size = 8 } ∷ record { start = 20; size = size } ∷ []) (one 3 (exactly (2 * (n / 36))) (λ _. one 4 (whole 30) (λ _. done))) (20 + size)) (body-long triangles)
+    (reach-on (reach-on (reach-start (imageWants version1) s) settings) triangles)
+
+-- ---- the bodies by the counts
+pub image-spans : (triangles nodes : ℕ) → triangles % 36 ≡ 0 → nodes % 30 ≡ 0
+    → imageSpans version1 (triangles / 36) (nodes / 30)
+    ≡ record { start = 6; size = 8 } ∷ record { start = 20; size = triangles } ∷ record { start = 20 + triangles + 6; size = 2 * (triangles / 36) } ∷ record { start = 20 + triangles + 6 + 2 * (triangles / 36) + 6; size = nodes } ∷ []
+unfolding imageSpans
+image-spans triangles nodes a b =
+    let e : 36 * (triangles / 36) ≡ triangles = omega arith in
+    let f : 30 * (nodes / 30) ≡ nodes = omega arith in
+    rw (e, f)
+
+pub gauge-spans : (triangles points : ℕ) → triangles % 36 ≡ 0 → points % 12 ≡ 0
+    → gaugeSpans (triangles / 36) (points / 12)
+    ≡ record { start = 6; size = 8 } ∷ record { start = 20; size = triangles } ∷ record { start = 20 + triangles + 6; size = points } ∷ record { start = 20 + triangles + 6 + points + 6; size = 4 } ∷ []
+unfolding gaugeSpans
+gauge-spans triangles points a b =
+    let e : 36 * (triangles / 36) ≡ triangles = omega arith in
+    let f : 12 * (points / 12) ≡ points = omega arith in
+    rw (e, f)
+
+-- ---- gauge's input ends with the search distance
+pub gauge-long : (s : List ℕ) (t p : ℕ) → laidOut gaugeWants s 0 ≡ bodies (gaugeSpans t p) → distanceStart t p + 4 ≡ length s
+unfolding gaugeSpans
+gauge-long s t p e =
+    let a = one-back 1 (settingsRight version1) (λ _. one 2 (whole 36) queryWants) s 0 _ _ e in
+    let b = one-back 2 (whole 36) queryWants s 14 _ _ (a .onward) in
+    let c = one-back 5 (whole 12) (λ _. one 6 (exactly 4) (λ _. done)) s (20 + 36 * t) _ _ (b .onward) in
+    let d = one-back 6 (exactly 4) (λ _. done) s (pointsStart t + 12 * p) _ _ (c .onward) in
+    done-back s (distanceStart t p + 4) [] (d .onward)

@@ -1,0 +1,4 @@
+pub mod Little
+pub mod Entries
+pub mod Records
+pub mod Layouts
