@@ -1,0 +1,25 @@
+-- `printing::put_named` meets its contract: the word, and the number behind it.
+-- Assumes nothing.
+use native.Mathlib.Omega.{arith}
+use Rattle.spec_tables.proofs.Tables.{put-then}
+use Rattle.spec_printing.specs.Printed.{named}
+use borrow.Author.Needs.{needs}
+use Rattle.printing.proofs.lines.put_named.Statement.{statement}
+use Rattle.printing.proofs.lines.put_named.Tie as tie
+
+put-word-requires : tie.Need-put-word-requires
+put-word-requires c κs = search needs
+
+put-spaced-decimal-requires : tie.Need-put-spaced-decimal-requires
+put-spaced-decimal-requires c κs = search needs
+
+same-length : tie.Need-same-length
+same-length c = search needs
+
+returns : tie.Need-returns
+unfolding named
+returns c = (put-then (c .before .before .before .before .before .before .«put-word» .ensures) (c .before .before .«put-spaced-decimal» .ensures .0), omega arith)
+
+pub put-named-spec : {M : Type 1} → statement M
+put-named-spec =
+    tie.close (tie.spec put-word-requires put-spaced-decimal-requires same-length returns)

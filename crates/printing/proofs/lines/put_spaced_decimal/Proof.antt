@@ -1,0 +1,25 @@
+-- `printing::put_spaced_decimal` meets its contract: a space, and the number behind it.
+-- Assumes nothing.
+use native.Mathlib.Omega.{arith}
+use Rattle.spec_tables.proofs.Tables.{put-then}
+use Rattle.spec_printing.specs.Printed.{spacedDecimal}
+use borrow.Author.Needs.{needs}
+use Rattle.printing.proofs.lines.put_spaced_decimal.Statement.{statement}
+use Rattle.printing.proofs.lines.put_spaced_decimal.Tie as tie
+
+put-byte-requires : tie.Need-put-byte-requires
+put-byte-requires c κs = search needs
+
+put-decimal-requires : tie.Need-put-decimal-requires
+put-decimal-requires c κs = search needs
+
+same-length : tie.Need-same-length
+same-length c = search needs
+
+returns : tie.Need-returns
+unfolding spacedDecimal
+returns c = (put-then (c .before .before .before .before .before .before .«put-byte» .ensures .0) (c .before .before .«put-decimal» .ensures .0), omega arith)
+
+pub put-spaced-decimal-spec : {M : Type 1} → statement M
+put-spaced-decimal-spec =
+    tie.close (tie.spec put-byte-requires put-decimal-requires same-length returns)

@@ -1,0 +1,24 @@
+-- `printing::put_spaced_hex` meets its contract: a space, and the number behind it.
+-- Assumes nothing.
+use native.Mathlib.Omega.{arith}
+use Rattle.spec_tables.proofs.Tables.{put-then}
+use Rattle.spec_printing.specs.Printed.{spacedHex}
+use borrow.Author.Needs.{needs}
+use Rattle.printing.proofs.lines.put_spaced_hex.Statement.{statement}
+use Rattle.printing.proofs.lines.put_spaced_hex.Tie as tie
+
+put-byte-requires : tie.Need-put-byte-requires
+put-byte-requires c κs = search needs
+
+put-hex-requires : tie.Need-put-hex-requires
+put-hex-requires c κs = search needs
+
+same-length : tie.Need-same-length
+same-length c = search needs
+
+returns : tie.Need-returns
+unfolding spacedHex
+returns c = (put-then (c .before .before .before .before .before .before .«put-byte» .ensures .0) (c .before .before .«put-hex» .ensures .0), omega arith)
+
+pub put-spaced-hex-spec : {M : Type 1} → statement M
+put-spaced-hex-spec = tie.close (tie.spec put-byte-requires put-hex-requires same-length returns)

@@ -1,0 +1,70 @@
+-- `printing::put_word` meets its contract: a turn stores one byte more (`Run`).
+-- Assumes nothing.
+use mathlib.Core.Path.{refl}
+use mathlib.Core.List.{[], _∷_}
+use Prim.Native.Nat.{_-_}
+use lib.ListN.{length, getD}
+use denote.Ref.{now}
+use Rattle.spec_tables.proofs.Runs.{Run, run-start, run-store, copy-end}
+use borrow.Author.Needs.{needs}
+use Rattle.printing.proofs.lines.put_word.Statement.{statement}
+use Rattle.printing.proofs.lines.put_word.Tie as tie
+
+abbrev Inv-loop : tie.InvT-loop
+Inv-loop out₀ at word i₀ out i = Run (λ j. getD word j 0 ∷ []) at (length word) out₀ out i
+
+abbrev μ-loop : tie.MeasureT-loop
+μ-loop out₀ at word i₀ out i = length word - i
+
+loop-holds : tie.Need-loop-holds Inv-loop μ-loop
+loop-holds c =
+    let a = c .args in
+    run-start (λ j. getD (now (a .word)) j 0 ∷ []) 1 (a .at) (length (now (a .word))) (now (a .out))
+
+shared-slice-read-out : tie.Need-shared-slice-read-out Inv-loop μ-loop
+shared-slice-read-out c = search needs
+
+add-out : tie.Need-add-out Inv-loop μ-loop
+add-out c = search needs
+
+slice-write-out : tie.Need-slice-write-out Inv-loop μ-loop
+slice-write-out c = search needs
+
+add-i : tie.Need-add-i Inv-loop μ-loop
+add-i c = search needs
+
+loop-less : tie.Need-loop-less Inv-loop μ-loop
+loop-less c = search needs
+
+loop-again : tie.Need-loop-again Inv-loop μ-loop
+loop-again c =
+    let a = c .before .before .before .args in
+    run-store (λ j. getD (now (a .word)) j 0) (a .at) (length (now (a .word))) (now (a .out)) _ (c .before .before .loop .i) _ (c .before .before .before .pre) (c .before .«loop-test» .taken) (c .before .before .loop .inv) refl
+
+add-result : tie.Need-add-result Inv-loop μ-loop
+add-result c = search needs
+
+same-length : tie.Need-same-length Inv-loop μ-loop
+same-length c = c .before .loop .inv .long
+
+returns : tie.Need-returns Inv-loop μ-loop
+returns c =
+    let a = c .before .before .args in
+    copy-end 0 (now (a .word)) (a .at) (now (a .out)) _ (c .before .loop .i) (c .before .before .pre) (c .«loop-test» .left) (c .before .loop .inv)
+
+pub put-word-spec : {M : Type 1} → statement M
+put-word-spec =
+    tie.close
+    (tie.spec
+    Inv-loop
+    μ-loop
+    loop-holds
+    shared-slice-read-out
+    add-out
+    slice-write-out
+    add-i
+    loop-less
+    loop-again
+    add-result
+    same-length
+    returns)

@@ -1,0 +1,113 @@
+// Lines: words and numbers with one space between, and a line feed.
+use crate::numbers::put_decimal;
+use crate::numbers::put_hex;
+ghost use mathlib.Core.Path.{_≡_};
+ghost use mathlib.Core.List.{[], _∷_};
+ghost use Prim.Native.Nat.{_+_, _≤_};
+ghost use lib.ListN.{length};
+ghost use Rattle.spec_tables.specs.Tables.{Put};
+ghost use Rattle.spec_printing.specs.Printed.{spacedDecimal, spacedHex, named, countsLine, foundLine, nothingLine, refusedLine};
+ghost use Rattle.printing.specs.Values.{foundOf};
+
+fn put_byte(out: &mut [u8], at: usize, byte: u8) -> usize
+    requires { ⌜ at + 1 ≤ length (now out) ⌝ }
+    ensures { λ r. ⌜ Put at (byte ∷ []) (now (out .entry)) (now (out .exit)) r ⌝ }
+    ensures { λ r. ⌜ r ≡ at + 1 ⌝ }
+{
+    out[at] = byte;
+    at + 1
+}
+
+fn put_word(out: &mut [u8], at: usize, word: &[u8]) -> usize
+    requires { ⌜ at + length (now word) ≤ length (now out) ⌝ }
+    ensures { λ r. ⌜ Put at (now (word .entry)) (now (out .entry)) (now (out .exit)) r ⌝ }
+{
+    let mut i = 0;
+    while i < word.len() {
+        out[at + i] = word[i];
+        i += 1;
+    }
+    at + i
+}
+
+fn put_spaced_decimal(out: &mut [u8], at: usize, n: usize) -> usize
+    requires { ⌜ at + 21 ≤ length (now out) ⌝ }
+    ensures { λ r. ⌜ Put at (spacedDecimal n) (now (out .entry)) (now (out .exit)) r ⌝ }
+    ensures { λ r. ⌜ r ≤ at + 21 ⌝ }
+{
+    let next = put_byte(out, at, b' ');
+    put_decimal(out, next, n)
+}
+
+fn put_spaced_hex(out: &mut [u8], at: usize, n: u32) -> usize
+    requires { ⌜ at + 9 ≤ length (now out) ⌝ }
+    ensures { λ r. ⌜ Put at (spacedHex n) (now (out .entry)) (now (out .exit)) r ⌝ }
+    ensures { λ r. ⌜ r ≡ at + 9 ⌝ }
+{
+    let next = put_byte(out, at, b' ');
+    put_hex(out, next, n)
+}
+
+// A word, and a number behind it.
+fn put_named(out: &mut [u8], at: usize, word: &[u8], n: usize) -> usize
+    requires { ⌜ at + length (now word) + 21 ≤ length (now out) ⌝ }
+    ensures { λ r. ⌜ Put at (named (now (word .entry)) n) (now (out .entry)) (now (out .exit)) r ⌝ }
+    ensures { λ r. ⌜ r ≤ at + length (now (word .entry)) + 21 ⌝ }
+{
+    let next = put_word(out, at, word);
+    put_spaced_decimal(out, next, n)
+}
+
+pub fn put_refused(out: &mut [u8], at: usize, number: usize, place: usize) -> usize
+    requires { ⌜ at + 50 ≤ length (now out) ⌝ }
+    ensures { λ r. ⌜ Put at (refusedLine number place) (now (out .entry)) (now (out .exit)) r ⌝ }
+    ensures { λ r. ⌜ r ≤ at + 50 ⌝ }
+{
+    let a = put_named(out, at, b"refused", number);
+    let b = put_spaced_decimal(out, a, place);
+    put_byte(out, b, b'\n')
+}
+
+pub fn put_counts(out: &mut [u8], at: usize, triangles: usize, nodes: usize, depth: usize) -> usize
+    requires { ⌜ at + 85 ≤ length (now out) ⌝ }
+    ensures { λ r. ⌜ Put at (countsLine triangles nodes depth) (now (out .entry)) (now (out .exit)) r ⌝ }
+    ensures { λ r. ⌜ r ≤ at + 85 ⌝ }
+{
+    let a = put_named(out, at, b"triangles", triangles);
+    let b = put_named(out, a, b" nodes", nodes);
+    let c = put_named(out, b, b" depth", depth);
+    put_byte(out, c, b'\n')
+}
+
+pub fn put_nothing(out: &mut [u8], at: usize, point: usize) -> usize
+    requires { ⌜ at + 29 ≤ length (now out) ⌝ }
+    ensures { λ r. ⌜ Put at (nothingLine point) (now (out .entry)) (now (out .exit)) r ⌝ }
+    ensures { λ r. ⌜ r ≤ at + 29 ⌝ }
+{
+    let a = put_decimal(out, at, point);
+    let b = put_word(out, a, b" nothing");
+    put_byte(out, b, b'\n')
+}
+
+// What was found for a point: the triangle's number, and the surface point and its squared distance as bits.
+pub struct Found {
+    pub triangle: usize,
+    pub x: u32,
+    pub y: u32,
+    pub z: u32,
+    pub squared: u32,
+}
+
+pub fn put_found(out: &mut [u8], at: usize, point: usize, found: Found) -> usize
+    requires { ⌜ at + 84 ≤ length (now out) ⌝ }
+    ensures { λ r. ⌜ Put at (foundLine point (foundOf found)) (now (out .entry)) (now (out .exit)) r ⌝ }
+    ensures { λ r. ⌜ r ≤ at + 84 ⌝ }
+{
+    let a = put_decimal(out, at, point);
+    let b = put_named(out, a, b" found", found.triangle);
+    let c = put_spaced_hex(out, b, found.x);
+    let d = put_spaced_hex(out, c, found.y);
+    let e = put_spaced_hex(out, d, found.z);
+    let f = put_spaced_hex(out, e, found.squared);
+    put_byte(out, f, b'\n')
+}

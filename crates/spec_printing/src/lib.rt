@@ -1,0 +1,1 @@
+// Definitions and laws of what `gauge` prints: no code.
