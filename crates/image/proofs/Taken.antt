@@ -1,0 +1,80 @@
+-- What was read, put together: a node's links, the answer, and lists that a refusal leaves as they were. Assumes nothing.
+use mathlib.Core.Path.{_≡_, sym, ap, _∙_}
+use mathlib.Core.List.{List}
+use mathlib.Core.Bool.{Bool, true, _&&_}
+use Prim.Native.Nat.{ℕ, _+_, _*_, _/_, _≤_}
+use native.Mathlib.Omega.{arith}
+use borrow.Author.Tests.{leb-true}
+use lib.ListN.{length}
+use lib.Dec.{leb}
+use lib.Ieee.{Float}
+use Rattle.spec_tables.specs.Tables.{over}
+use Rattle.spec_tables.proofs.Tables.{then-over, over-none}
+use Rattle.spec_tables.proofs.Pieces.{length-singles}
+use Rattle.spec_records.specs.Entries.{numbersIn}
+use Rattle.spec_records.specs.Records.{bodies, laidOut}
+use Rattle.spec_records.specs.Layouts.{version1, imageSpans, imageSize, imageWants}
+use Rattle.spec_records.proofs.Records.{both}
+use Rattle.spec_image.specs.Image.{linksIn}
+use Rattle.spec_image.specs.Reading.{Rooms, refused, roomFor, byRoom, imageRead, filledBy}
+use Rattle.spec_image.proofs.Sizes.{image-is}
+use Rattle.records.specs.Values.{imageLaid}
+use Rattle.records.specs.declared.layout.ImageLayout.{ImageLayout}
+use Rattle.records.specs.declared.layout.ImageLayout.the-variants.{Right, Wrong}
+use Rattle.image.specs.Values.{Filled}
+
+pub links-over : (s : List ℕ) (start i : ℕ) (old mid out : List ℕ) → 3 * i + 3 ≤ length old
+    → mid ≡ over (3 * i) (numbersIn 2 s (start + 30 * i) 1) old → out ≡ over (3 * i + 1) (numbersIn 2 s (start + 30 * i + 2) 2) mid
+    → out ≡ over (3 * i) (linksIn version1 s start i) old
+unfolding linksIn
+links-over s start i old mid out room p q =
+    let a : length (numbersIn 2 s (start + 30 * i) 1) ≡ 1 = length-singles _ 1 in
+    let b : length (numbersIn 2 s (start + 30 * i + 2) 2) ≡ 2 = length-singles _ 2 in
+    then-over (3 * i) (3 * i + 1) (numbersIn 2 s (start + 30 * i) 1) (numbersIn 2 s (start + 30 * i + 2) 2) old mid out p q (omega arith) (omega arith)
+
+-- nothing is changed on a refusal
+pub unchanged : (number place : ℕ) (s : List ℕ) (t : List Float) (o l : List ℕ) (b : List Float) → Filled (filledBy version1 s (refused number place)) t o l b t o l b
+unchanged number place s t o l b = record { triangles = sym (over-none 0 t); order = sym (over-none 0 o); links = sym (over-none 0 l); boxes = sym (over-none 0 b) }
+
+-- ---- what the layout's answer says
+module _ {r : ImageLayout} (s : List ℕ) (laid : imageLaid r ≡ laidOut (imageWants version1) s 0) where
+  pub answer-wrong : {at : ℕ} (rooms : Rooms) → r ≡ Wrong at → refused 10 at ≡ imageRead version1 s rooms
+  unfolding imageRead
+  answer-wrong rooms off = rw (← laid, off)
+
+  module _ {t n : ℕ} (right : r ≡ Right t n) where
+    spans : laidOut (imageWants version1) s 0 ≡ bodies (imageSpans version1 t n)
+    spans = sym laid ∙ ap imageLaid right
+
+    pub image-long : imageSize version1 t n ≡ length s
+    image-long = image-is version1 s t n spans .long
+
+    pub answer-by-room : (rooms : Rooms) → imageRead version1 s rooms ≡ byRoom s rooms t n
+    unfolding imageRead imageSpans
+    answer-by-room rooms =
+        let a : 36 * t / 36 ≡ t = omega arith in
+        let b : 30 * n / 30 ≡ n = omega arith in
+        rw (spans, a, b)
+
+-- ---- what the test of the rooms says
+pub record Enough (r : Rooms) (t n : ℕ) : Type 0 where
+  pub triangles : 9 * t ≤ r .triangles
+  pub order : t ≤ r .order
+  pub links : 3 * n ≤ r .links
+  pub boxes : 6 * n ≤ r .boxes
+
+pub enough : (r : Rooms) (t n : ℕ) → roomFor r t n ≡ true → Enough r t n
+enough r t n e =
+    let a : Bool = leb (9 * t) (r .triangles) in
+    let b : Bool = leb t (r .order) in
+    let c : Bool = leb (3 * n) (r .links) in
+    let d : Bool = leb (6 * n) (r .boxes) in
+    let three = both (a && b && c) d e in
+    let two = both (a && b) c (three .0) in
+    let one = both a b (two .0) in
+    record {
+      triangles = leb-true (9 * t) (r .triangles) (one .0);
+      order = leb-true t (r .order) (one .1);
+      links = leb-true (3 * n) (r .links) (two .1);
+      boxes = leb-true (6 * n) (r .boxes) (three .1);
+    }

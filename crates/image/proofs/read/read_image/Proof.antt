@@ -1,0 +1,91 @@
+-- `image::read_image` meets its contract: the layout, then the room, then the lists.
+-- Assumes nothing.
+use mathlib.Core.Path.{sym, _∙_}
+use native.Mathlib.Omega.{arith}
+use denote.Ref.{now}
+use Rattle.image.specs.Values.{roomsIn}
+use Rattle.image.proofs.Taken.{unchanged, answer-wrong, image-long, answer-by-room, enough}
+use borrow.Author.Needs.{needs}
+use Rattle.image.proofs.read.read_image.Statement.{statement}
+use Rattle.image.proofs.read.read_image.Tie as tie
+
+image-layout-requires : tie.Need-image-layout-requires
+image-layout-requires c κs = search needs
+
+enum-known-at : tie.Need-enum-known-at
+enum-known-at c = search needs
+
+enum-known-count : tie.Need-enum-known-count
+enum-known-count c = search needs
+
+has-room-requires : tie.Need-has-room-requires
+has-room-requires c κs =
+    let long = image-long (now (c .before .before .before .before .before .before .before .before .before .args .bytes)) (c .before .before .before .«image-layout» .ensures) (c .before .count .given .1) in
+    (omega (arith, long), omega (arith, long))
+
+read-lists-requires : tie.Need-read-lists-requires
+read-lists-requires c κs =
+    let a = c .before .before .before .before .before .before .before .before .before .before .before .before .before .before .before .args in
+    let long = image-long (now (a .bytes)) (c .before .before .before .before .before .before .before .before .before .«image-layout» .ensures) (c .before .before .before .before .before .before .before .count .given .1) in
+    let room = enough (roomsIn (now (a .triangles)) (now (a .order)) (now (a .links)) (now (a .boxes))) _ _ (sym (c .before .before .before .before .before .«has-room» .ensures) ∙ c .before .before .before .before .if1 .taken) in
+    (omega (arith, long), ((room .triangles, room .order), (room .links, room .boxes)))
+
+settings-of-requires : tie.Need-settings-of-requires
+settings-of-requires c κs = omega (arith, image-long (now (c .before .before .before .before .before .before .before .before .before .before .before .before .before .before .before .before .before .before .before .before .before .before .before .before .args .bytes)) (c .before .before .before .before .before .before .before .before .before .before .before .before .before .before .before .before .before .before .«image-layout» .ensures) (c .before .before .before .before .before .before .before .before .before .before .before .before .before .before .before .before .count .given .1))
+
+same-length : tie.Need-same-length
+same-length c = search needs
+
+same-length-2 : tie.Need-same-length-2
+same-length-2 c = search needs
+
+same-length-3 : tie.Need-same-length-3
+same-length-3 c = search needs
+
+same-length-4 : tie.Need-same-length-4
+same-length-4 c = search needs
+
+returns : tie.Need-returns
+returns c =
+    let a = c .before .before .before .before .before .before .before .before .before .before .before .before .before .before .before .before .before .before .before .before .before .before .before .before .before .args in
+    let s = now (a .bytes) in
+    let rooms = roomsIn (now (a .triangles)) (now (a .order)) (now (a .links)) (now (a .boxes)) in
+    let answer = answer-by-room s (c .before .before .before .before .before .before .before .before .before .before .before .before .before .before .before .before .before .before .before .«image-layout» .ensures) (c .before .before .before .before .before .before .before .before .before .before .before .before .before .before .before .before .before .count .given .1) rooms in
+    let room = sym (c .before .before .before .before .before .before .before .before .before .before .before .before .before .before .before .«has-room» .ensures) ∙ c .before .before .before .before .before .before .before .before .before .before .before .before .before .before .if1 .taken in
+    record { answer = rw (answer, room, c .«settings-of» .ensures); filled = c .before .before .before .before .before .before .before .before .before .«read-lists» .ensures }
+
+returns-2 : tie.Need-returns-2
+returns-2 c =
+    let a = c .before .before .before .before .before .before .before .before .before .args in
+    let s = now (a .bytes) in
+    record {
+      answer = answer-wrong s (c .before .before .before .«image-layout» .ensures) (roomsIn (now (a .triangles)) (now (a .order)) (now (a .links)) (now (a .boxes))) (c .before .at .given .1);
+      filled = unchanged 10 (c .before .at .given .0 .0) s (now (a .triangles)) (now (a .order)) (now (a .links)) (now (a .boxes));
+    }
+
+returns-3 : tie.Need-returns-3
+returns-3 c =
+    let a = c .before .before .before .before .before .before .before .before .before .before .before .args in
+    let s = now (a .bytes) in
+    let rooms = roomsIn (now (a .triangles)) (now (a .order)) (now (a .links)) (now (a .boxes)) in
+    let answer = answer-by-room s (c .before .before .before .before .before .«image-layout» .ensures) (c .before .before .before .count .given .1) rooms in
+    let room = sym (c .before .«has-room» .ensures) ∙ c .if1 .left in
+    record { answer = rw (answer, room); filled = unchanged 6 0 s (now (a .triangles)) (now (a .order)) (now (a .links)) (now (a .boxes)) }
+
+pub read-image-spec : {M : Type 1} → statement M
+read-image-spec =
+    tie.close
+    (tie.spec
+    image-layout-requires
+    enum-known-at
+    enum-known-count
+    has-room-requires
+    read-lists-requires
+    settings-of-requires
+    same-length
+    same-length-2
+    same-length-3
+    same-length-4
+    returns
+    returns-2
+    returns-3)

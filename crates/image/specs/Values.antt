@@ -1,0 +1,48 @@
+-- The crate's values in the terms of `spec_image`, and what reading leaves in the lent lists. Definitions only.
+use Prim.Native.Nat.{ℕ}
+use mathlib.Core.Path.{_≡_}
+use mathlib.Core.List.{List}
+use lib.ListN.{length}
+use lib.Ieee.{Float}
+use Rattle.spec_tables.specs.Tables.{over}
+use Rattle.spec_records.specs.Layouts.{version1}
+use Rattle.spec_image.specs.Image.{Image}
+use Rattle.spec_image.specs.Reading as Reading
+use Rattle.lists.specs.declared.settings.Settings.{Settings}
+use Rattle.lists.specs.Values.{asSettings}
+use Rattle.image.specs.declared.read.Rooms.{Rooms}
+use Rattle.image.specs.declared.read.ImageRead.{ImageRead}
+use Rattle.image.specs.declared.read.ImageRead.the-variants.{Refused, Read}
+
+-- a tree in lent lists
+abbrev pub imageOf : Settings → List Float → List ℕ → List ℕ → List Float → ℕ → Image
+imageOf s triangles order links boxes nodes = record {
+  settings = asSettings s;
+  triangles = triangles;
+  order = order;
+  nodes = nodes;
+  links = links;
+  boxes = boxes;
+}
+
+abbrev pub roomsOf : Rooms → Reading.Rooms
+roomsOf r = record { triangles = r .triangles; order = r .order; links = r .links; boxes = r .boxes }
+
+abbrev pub answerOf : ImageRead → Reading.ImageRead
+answerOf (Refused number place) = Reading.refused number place
+answerOf (Read settings triangles nodes) = Reading.holds (asSettings settings) triangles nodes
+
+-- the image's lists stand at the front of the lent ones, and all else is as it was
+pub record Filled (x : Image) (t : List Float) (o l : List ℕ) (b t′ : List Float) (o′ l′ : List ℕ) (b′ : List Float) : Type 0 where
+  pub triangles : t′ ≡ over 0 (x .triangles) t
+  pub order : o′ ≡ over 0 (x .order) o
+  pub links : l′ ≡ over 0 (x .links) l
+  pub boxes : b′ ≡ over 0 (x .boxes) b
+
+abbrev pub roomsIn : List Float → List ℕ → List ℕ → List Float → Reading.Rooms
+roomsIn t o l b = record { triangles = length t; order = length o; links = length l; boxes = length b }
+
+-- layout, then room, then the lists
+pub record ReadIs (s : List ℕ) (r : ImageRead) (t : List Float) (o l : List ℕ) (b t′ : List Float) (o′ l′ : List ℕ) (b′ : List Float) : Type 0 where
+  pub answer : answerOf r ≡ Reading.imageRead version1 s (roomsIn t o l b)
+  pub filled : Filled (Reading.filledBy version1 s (answerOf r)) t o l b t′ o′ l′ b′

@@ -1,0 +1,4 @@
+pub mod Sizes
+pub mod Written
+pub mod Rewritten
+pub mod Used

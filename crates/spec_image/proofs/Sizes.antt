@@ -1,0 +1,83 @@
+-- How long the parts of an image are, and what the layout of an image says of the numbers in it. Assumes nothing.
+use mathlib.Core.Path.{_≡_, sym, _∙_}
+use mathlib.Core.List.{List, []}
+use Prim.Native.Nat.{ℕ, _+_, _*_, _/_, _≤_}
+use native.Mathlib.Omega.{arith}
+use borrow.Author.Tests.{eqb-true}
+use lib.ListN.{length, length-append}
+use lib.Dec.{eqb}
+use lib.Ieee.{Float}
+use Rattle.spec_tables.specs.Tables.{part}
+use Rattle.spec_tables.proofs.Tables.{length-many}
+use Rattle.spec_tables.proofs.Pieces.{length-singles}
+use Rattle.spec_records.specs.Little.{littleAt}
+use Rattle.spec_records.specs.Entries.{floatSize}
+use Rattle.spec_records.specs.Records.{bodies, done, one, exactly, whole, laidOut}
+use Rattle.spec_records.specs.Layouts.{Shape, triangleSize, nodeSize, settingsRight, treeWants, imageWants, orderStart, imageSize, imageSpans}
+use Rattle.spec_records.proofs.Little.{length-little, number-part}
+use Rattle.spec_records.proofs.Entries.{length-numbers, length-floats}
+use Rattle.spec_records.proofs.Records.{both, record-kind, one-back, done-back, length-record}
+use Rattle.spec_lists.specs.Refusals.{Settings}
+use Rattle.spec_image.specs.Image.{Image, settingsBytes, nodeBytes, trianglesBody, orderBody, nodesBody, imageBytes, linksIn, boxIn}
+use Rattle.spec_image.specs.Stored.{Complete, ImageIs}
+
+-- ---- of what is written
+pub length-settings : (sh : Shape) (x : Settings) → length (settingsBytes sh x) ≡ 8
+unfolding settingsBytes
+length-settings sh x = simp (length-append, length-little)
+
+pub length-node : (sh : Shape) (links : List ℕ) (boxes : List Float) (i : ℕ) → length (nodeBytes sh links boxes i) ≡ nodeSize sh
+unfolding nodeBytes
+length-node sh links boxes i =
+    simp (length-append, length-numbers 2 links (3 * i) 1, length-numbers (sh .entry) links (3 * i + 1) 2, length-floats (sh .float) boxes (6 * i) 6) (omega arith)
+
+module _ (sh : Shape) (x : Image) where
+  nine : (w n t : ℕ) → n ≡ 9 * t → w * n ≡ 9 * w * t
+  nine w n t e = rw e (omega arith)
+
+  pub length-triangles : Complete x → length (trianglesBody sh x) ≡ triangleSize sh * length (x .order)
+  length-triangles ok =
+      length-floats (sh .float) (x .triangles) 0 (length (x .triangles)) ∙ nine (floatSize (sh .float)) (length (x .triangles)) (length (x .order)) (ok .triples)
+
+  pub length-order : length (orderBody sh x) ≡ sh .entry * length (x .order)
+  length-order = length-numbers (sh .entry) (x .order) 0 (length (x .order))
+
+  pub length-nodes : length (nodesBody sh x) ≡ nodeSize sh * x .nodes
+  length-nodes = length-many (nodeBytes sh (x .links) (x .boxes)) (nodeSize sh) (x .nodes) (length-node sh (x .links) (x .boxes))
+
+  pub length-image : Complete x → length (imageBytes sh x) ≡ imageSize sh (length (x .order)) (x .nodes)
+  unfolding imageBytes
+  length-image ok =
+      simp (length-append, length-record, length-settings, length-triangles ok, length-order, length-nodes) (omega arith)
+
+-- ---- of what is read
+pub length-links : (sh : Shape) (s : List ℕ) (start i : ℕ) → length (linksIn sh s start i) ≡ 3
+unfolding linksIn
+length-links sh s start i = simp (length-append, length-singles)
+
+pub length-box : (sh : Shape) (s : List ℕ) (start i : ℕ) → length (boxIn sh s start i) ≡ 6
+unfolding boxIn
+length-box sh s start i = length-singles _ 6
+
+-- ---- of a layout
+pub image-is : (sh : Shape) (s : List ℕ) (t n : ℕ) → laidOut (imageWants sh) s 0 ≡ bodies (imageSpans sh t n) → ImageIs sh s t n
+unfolding imageSpans
+image-is sh s t n e =
+    let a = one-back 1 (settingsRight sh) (λ _. one 2 (whole (triangleSize sh)) (treeWants sh)) s 0 _ _ e in
+    let b = one-back 2 (whole (triangleSize sh)) (treeWants sh) s 14 _ _ (a .onward) in
+    let wanted : ℕ = sh .entry * (length (part s 20 (triangleSize sh * t)) / triangleSize sh) in
+    let c = one-back 3 (exactly wanted) (λ _. one 4 (whole (nodeSize sh)) (λ _. done)) s (20 + triangleSize sh * t) _ _ (b .onward) in
+    let d = one-back 4 (whole (nodeSize sh)) (λ _. done) s (orderStart sh t + sh .entry * t) _ _ (c .onward) in
+    let two : 2 ≤ 8 = omega arith in
+    record {
+      size1 = a .right .sized;
+      kind1 = record-kind 1 s 0 (a .right .there);
+      version = sym (number-part 2 s 6 8 two) ∙ eqb-true _ _ (both (exactly 8 (part s 6 8)) (eqb (littleAt 2 (part s 6 8) 0) (sh .version)) (a .right .passes) .1);
+      size2 = b .right .sized;
+      kind2 = record-kind 2 s 14 (b .right .there);
+      size3 = c .right .sized;
+      kind3 = record-kind 3 s (20 + triangleSize sh * t) (c .right .there);
+      size4 = d .right .sized;
+      kind4 = record-kind 4 s (orderStart sh t + sh .entry * t) (d .right .there);
+      long = done-back s (imageSize sh t n) [] (d .onward);
+    }

@@ -1,0 +1,3 @@
+pub mod Image
+pub mod Stored
+pub mod Reading

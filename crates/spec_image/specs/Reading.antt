@@ -1,0 +1,45 @@
+-- What reading an image answers and leaves in the lent lists: layout first, then room. Definitions only.
+use Prim.Native.Nat.{ℕ, _*_, _/_}
+use mathlib.Core.List.{List, []}
+use mathlib.Core.Bool.{Bool, cond, _&&_}
+use lib.ListN.{getD}
+use lib.Dec.{leb}
+use Rattle.spec_records.specs.Records.{Span, Layout, wrong, bodies, laidOut}
+use Rattle.spec_records.specs.Layouts.{Shape, triangleSize, nodeSize, imageWants}
+use Rattle.spec_lists.specs.Refusals.{Settings}
+use Rattle.spec_image.specs.Image.{Image, settingsIn, imageIn}
+
+-- how many entries the lent lists have
+pub record Rooms : Type 0 where
+  pub triangles : ℕ
+  pub order : ℕ
+  pub links : ℕ
+  pub boxes : ℕ
+
+-- a refusal's number and place, or what was read besides the lists
+pub data ImageRead : Type 0 where
+  refused : (number place : ℕ) → ImageRead
+  holds : (settings : Settings) (triangles nodes : ℕ) → ImageRead
+
+abbrev pub roomFor : Rooms → ℕ → ℕ → Bool
+roomFor r t n = leb (9 * t) (r .triangles) && leb t (r .order) && leb (3 * n) (r .links) && leb (6 * n) (r .boxes)
+
+-- of an image of t triangles and n nodes
+abbrev pub byRoom : List ℕ → Rooms → ℕ → ℕ → ImageRead
+byRoom s r t n = cond (roomFor r t n) (holds (settingsIn s) t n) (refused 6 0)
+
+-- the size of body k
+abbrev pub sizeOf : List Span → ℕ → ℕ
+sizeOf bs k = getD bs k (record { start = 0; size = 0 }) .size
+
+abbrev pub judged : Shape → List ℕ → Rooms → Layout → ImageRead
+judged sh s r (wrong at) = refused 10 at
+judged sh s r (bodies bs) = byRoom s r (sizeOf bs 1 / triangleSize sh) (sizeOf bs 3 / nodeSize sh)
+
+unfoldable pub imageRead : Shape → List ℕ → Rooms → ImageRead
+imageRead sh s r = judged sh s r (laidOut (imageWants sh) s 0)
+
+-- what is written to the front of the lent lists: nothing on a refusal
+abbrev pub filledBy : Shape → List ℕ → ImageRead → Image
+filledBy sh s (refused number place) = record { settings = settingsIn s; triangles = []; order = []; nodes = 0; links = []; boxes = [] }
+filledBy sh s (holds settings t n) = imageIn sh s t n

@@ -1,0 +1,1 @@
+// Definitions and laws of the image of a tree: no code.

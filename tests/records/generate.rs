@@ -1,0 +1,173 @@
+//! Makes the cases of crates/image_run and what it must print, by a reading of the document of its own.
+//!
+//!     rustc --edition 2021 -O tests/records/generate.rs -o /tmp/generate && /tmp/generate crates/image_run
+
+use std::fmt::Write as _;
+
+type Record = (u16, Vec<u8>);
+
+/// What a record must be, given the bodies before it.
+type Test = fn(&[Vec<u8>]) -> bool;
+
+fn settings(version: u16) -> Record {
+    (1, [version, 1, 2, 40].iter().flat_map(|n| n.to_le_bytes()).collect())
+}
+
+fn floats(kind: u16, bits: &[u32]) -> Record {
+    (kind, bits.iter().flat_map(|b| b.to_le_bytes()).collect())
+}
+
+fn image(triangles: &[u32], nodes: u16) -> Vec<Record> {
+    let order = (0..triangles.len() as u16 / 9).rev().flat_map(|n| n.to_le_bytes()).collect();
+    let mut body = Vec::new();
+    for i in 0..nodes {
+        for link in [1 + i % 2, 7 * i, 65535 - i] {
+            body.extend(link.to_le_bytes());
+        }
+        for k in 0..6u32 {
+            body.extend((0x3f80_0000 + 4096 * u32::from(i) + k).to_le_bytes());
+        }
+    }
+    vec![settings(1), floats(2, triangles), (3, order), (4, body)]
+}
+
+fn input(triangles: &[u32], points: &[u32]) -> Vec<Record> {
+    vec![settings(1), floats(2, triangles), floats(5, points), floats(6, &[0x4248_0000])]
+}
+
+fn bytes(records: &[Record]) -> Vec<u8> {
+    let mut out = Vec::new();
+    for (kind, body) in records {
+        out.extend((body.len() as u32).to_le_bytes());
+        out.extend(kind.to_le_bytes());
+        out.extend(body);
+    }
+    out
+}
+
+/// The sizes of the bodies, or where the first wrong record starts.
+fn layout(case: &[u8], wanted: [(u16, Test); 4]) -> Result<Vec<usize>, usize> {
+    let mut bodies: Vec<Vec<u8>> = Vec::new();
+    let mut rest = case;
+    for (kind, test) in wanted {
+        let start = case.len() - rest.len();
+        let Some((header, tail)) = rest.split_at_checked(6) else { return Err(start) };
+        let size = u32::from_le_bytes(header[..4].try_into().unwrap()) as usize;
+        let Some((body, tail)) = tail.split_at_checked(size) else { return Err(start) };
+        bodies.push(body.to_vec());
+        if u16::from_le_bytes(header[4..].try_into().unwrap()) != kind || !test(&bodies) {
+            return Err(start);
+        }
+        rest = tail;
+    }
+    if rest.is_empty() { Ok(bodies.iter().map(Vec::len).collect()) } else { Err(case.len() - rest.len()) }
+}
+
+fn is_settings(b: &[Vec<u8>]) -> bool {
+    b[0].len() == 8 && b[0][..2] == [1, 0]
+}
+
+fn is_triangles(b: &[Vec<u8>]) -> bool {
+    b[1].len() % 36 == 0
+}
+
+fn line(out: &mut String, layout: Result<[usize; 2], usize>) {
+    match layout {
+        Ok([triangles, others]) => writeln!(out, "triangles {triangles} nodes {others} depth 0"),
+        Err(at) => writeln!(out, "refused 10 {at}"),
+    }
+    .unwrap();
+}
+
+/// A NaN is written as 7FC00000: the only floats that do not come back as they were.
+fn comes_back(case: &[u8], sizes: &[usize]) -> bool {
+    let same = |b: &[u8]| {
+        let bits = u32::from_le_bytes(b.try_into().unwrap());
+        !f32::from_bits(bits).is_nan() || bits == 0x7fc0_0000
+    };
+    let nodes = case.len() - sizes[3];
+    case[20..20 + sizes[1]].chunks(4).all(same) && case[nodes..].chunks(30).all(|n| n[6..].chunks(4).all(same))
+}
+
+fn expected(out: &mut String, case: &[u8]) {
+    let as_image = layout(case, [(1, is_settings), (2, is_triangles), (3, |b| 18 * b[2].len() == b[1].len()), (4, |b| b[3].len() % 30 == 0)]);
+    let as_input = layout(case, [(1, is_settings), (2, is_triangles), (5, |b| b[2].len() % 12 == 0), (6, |b| b[3].len() == 4)]);
+    line(out, as_image.as_ref().map(|s| [s[1] / 36, s[3] / 30]).map_err(|at| *at));
+    line(out, as_input.map(|s| [s[1] / 36, s[2] / 12]));
+    match as_image {
+        Err(at) => writeln!(out, "refused 10 {at}"),
+        Ok(s) if s[1] > 4 * 36 || s[3] > 7 * 30 => writeln!(out, "refused 6 0"),
+        Ok(s) if comes_back(case, &s) => writeln!(out, "the same bytes"),
+        Ok(_) => writeln!(out, "other bytes"),
+    }
+    .unwrap();
+}
+
+fn cases() -> Vec<Vec<u8>> {
+    let corners: Vec<u32> = (0..18).map(|k| [0, 0x8000_0000, 0x3f80_0000, 0xc980_0000, 1][k % 5]).collect();
+    let nan: Vec<u32> = [0x7f80_0000, 0x7f80_0001, 0xffc0_0000, 0x7fc0_0000, 0xff80_0000, 0, 0, 0, 0].to_vec();
+    let mut all = vec![Vec::new(), vec![0; 6], b"\n".to_vec()];
+    for good in [image(&corners, 3), input(&corners, &[0, 0x40b0_0000, 0, 1, 2, 3])] {
+        let right = bytes(&good);
+        all.extend((0..=right.len()).map(|n| right[..n].to_vec()));
+        for i in 0..4 {
+            let mut missing = good.clone();
+            missing.remove(i);
+            all.push(bytes(&missing));
+            let mut twice = good.clone();
+            twice.insert(i, good[i].clone());
+            all.push(bytes(&twice));
+            let mut swapped = good.clone();
+            swapped.swap(i, (i + 1) % 4);
+            all.push(bytes(&swapped));
+            let mut other = good.clone();
+            other[i].0 += 256;
+            all.push(bytes(&other));
+            let mut longer = good.clone();
+            longer[i].1.push(0);
+            all.push(bytes(&longer));
+            let mut shorter = good.clone();
+            shorter[i].1.pop();
+            all.push(bytes(&shorter));
+            let mut none = good.clone();
+            none[i].1.clear();
+            all.push(bytes(&none));
+            // one more or less in each byte of the header, the body as it was
+            let header: usize = good[..i].iter().map(|r| 6 + r.1.len()).sum();
+            for k in header..header + 6 {
+                for by in [1, 255] {
+                    let mut changed = right.clone();
+                    changed[k] = changed[k].wrapping_add(by);
+                    all.push(changed);
+                }
+            }
+        }
+        for version in [0, 2, 256, 257] {
+            let mut other = good.clone();
+            other[0] = settings(version);
+            all.push(bytes(&other));
+        }
+        all.push([right, b"\n".to_vec()].concat());
+    }
+    all.push(bytes(&image(&[], 0)));
+    all.push(bytes(&image(&corners, 0)));
+    all.push(bytes(&image(&corners.repeat(2), 7)));
+    all.push(bytes(&image(&corners, 8)));
+    all.push(bytes(&image(&[corners.repeat(2), corners[..9].to_vec()].concat(), 1)));
+    all.push(bytes(&image(&nan, 1)));
+    all.push(bytes(&input(&[], &[])));
+    all
+}
+
+fn main() {
+    let folder = std::env::args().nth(1).expect("the folder of the program");
+    let (mut stdin, mut stdout) = (Vec::new(), String::new());
+    for case in cases() {
+        stdin.extend((case.len() as u32).to_le_bytes());
+        stdin.extend(&case);
+        expected(&mut stdout, &case);
+    }
+    assert!(stdin.len() <= 65536, "{} bytes are more than the program reads", stdin.len());
+    std::fs::write(format!("{folder}/stdin"), stdin).unwrap();
+    std::fs::write(format!("{folder}/stdout"), stdout).unwrap();
+}
