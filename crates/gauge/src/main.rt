@@ -1,0 +1,10 @@
+// gauge: reads records from standard input and prints the run. One byte more than is accepted is
+// read, so that a longer input is told from one that fits.
+
+fn main() {
+    let mut input = [0u8; 32769];
+    let got = io::read_full(0, &mut input);
+    let mut out = [0u8; 229405];
+    let size = gauge_run::print(&input[..got], &mut out);
+    io::write_all(1, &out[..size]);
+}

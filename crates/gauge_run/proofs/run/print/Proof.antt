@@ -1,0 +1,63 @@
+-- `gauge_run::print` meets its contract: too long, laid out wrong, or what its records ask for.
+-- Assumes nothing.
+use denote.Ref.{now}
+use mathlib.Core.Path.{sym, ap, _∙_}
+use Rattle.spec_tables.proofs.Tables.{put-same}
+use Rattle.records.specs.Values.{gaugeLaid}
+use Rattle.spec_gauge.proofs.Printed.{gauge-long, too-long, wrong-printed, right-printed}
+use borrow.Author.Needs.{needs}
+use Rattle.gauge_run.proofs.run.print.Statement.{statement}
+use Rattle.gauge_run.proofs.run.print.Tie as tie
+
+put-refused-requires : tie.Need-put-refused-requires
+put-refused-requires c κs = search needs
+
+same-length : tie.Need-same-length
+same-length c = search needs
+
+returns : tie.Need-returns
+returns c = put-same (too-long (now (c .before .before .before .before .before .before .before .args .input)) (c .before .before .before .before .if1 .taken)) (c .before .before .put-refused .ensures .0)
+
+gauge-layout-requires : tie.Need-gauge-layout-requires
+gauge-layout-requires c κs = search needs
+
+enum-known-at : tie.Need-enum-known-at
+enum-known-at c = search needs
+
+put-refused-requires-2 : tie.Need-put-refused-requires-2
+put-refused-requires-2 c κs = search needs
+
+enum-known-count : tie.Need-enum-known-count
+enum-known-count c = search needs
+
+print-laid-requires : tie.Need-print-laid-requires
+print-laid-requires c κs = ((gauge-long _ _ _ (sym (c .before .before .before .before .gauge-layout .ensures) ∙ ap gaugeLaid (c .before .before .count .given .1)), c .before .before .before .before .before .if1 .left), c .before .before .before .before .before .before .before .before .pre)
+
+same-length-2 : tie.Need-same-length-2
+same-length-2 c = search needs
+
+returns-2 : tie.Need-returns-2
+returns-2 c = put-same (wrong-printed _ (c .before .before .before .before .before .before .before .before .if1 .left) _ (sym (c .before .before .before .before .before .before .before .gauge-layout .ensures) ∙ ap gaugeLaid (c .before .before .before .before .before .at .given .1))) (c .before .before .put-refused2 .ensures .0)
+
+same-length-3 : tie.Need-same-length-3
+same-length-3 c = search needs
+
+returns-3 : tie.Need-returns-3
+returns-3 c = put-same (right-printed _ (c .before .before .before .before .before .before .before .before .if1 .left) _ _ (sym (c .before .before .before .before .before .before .before .gauge-layout .ensures) ∙ ap gaugeLaid (c .before .before .before .before .before .count .given .1))) (c .before .before .print-laid .ensures)
+
+pub print-spec : {M : Type 1} → statement M
+print-spec =
+    tie.close
+    (tie.spec
+    put-refused-requires
+    same-length
+    returns
+    gauge-layout-requires
+    enum-known-at
+    put-refused-requires-2
+    enum-known-count
+    print-laid-requires
+    same-length-2
+    returns-2
+    same-length-3
+    returns-3)

@@ -1,0 +1,51 @@
+-- `gauge_run::print_asked` meets its contract: the refusal's line, or the run.
+-- Assumes nothing.
+use denote.Ref.{now}
+use mathlib.Core.Path.{sym, ap, _∙_}
+use Rattle.spec_tables.proofs.Tables.{put-same}
+use Rattle.lists.specs.Values.{asVerdict}
+use Rattle.spec_gauge.proofs.Printed.{refused-printed, passed-printed}
+use borrow.Author.Needs.{needs}
+use Rattle.gauge_run.proofs.run.print_asked.Statement.{statement}
+use Rattle.gauge_run.proofs.run.print_asked.Tie as tie
+
+asked-refusal-requires : tie.Need-asked-refusal-requires
+asked-refusal-requires c κs = search needs
+
+enum-known-verdict : tie.Need-enum-known-verdict
+enum-known-verdict c = search needs
+
+put-refused-requires : tie.Need-put-refused-requires
+put-refused-requires c κs = search needs
+
+same-length : tie.Need-same-length
+same-length c = search needs
+
+returns : tie.Need-returns
+returns c = put-same (refused-printed _ _ _ (sym (c .before .before .before .before .before .before .before .asked-refusal .ensures) ∙ ap asVerdict (c .before .before .before .before .before .verdict .given .1))) (c .before .before .put-refused .ensures .0)
+
+enum-told : tie.Need-enum-told
+enum-told c = search needs
+
+put-run-requires : tie.Need-put-run-requires
+put-run-requires c κs = (sym (c .before .before .before .asked-refusal .ensures) ∙ ap asVerdict (c .before .enum-told .given .1), c .before .before .before .before .before .before .before .pre)
+
+same-length-2 : tie.Need-same-length-2
+same-length-2 c = search needs
+
+returns-2 : tie.Need-returns-2
+returns-2 c = put-same (passed-printed _ (sym (c .before .before .before .before .before .before .asked-refusal .ensures) ∙ ap asVerdict (c .before .before .before .before .enum-told .given .1))) (c .before .before .put-run .ensures)
+
+pub print-asked-spec : {M : Type 1} → statement M
+print-asked-spec =
+    tie.close
+    (tie.spec
+    asked-refusal-requires
+    enum-known-verdict
+    put-refused-requires
+    same-length
+    returns
+    enum-told
+    put-run-requires
+    same-length-2
+    returns-2)

@@ -1,0 +1,113 @@
+-- `gauge_run::print_laid` meets its contract: the lists that are read are those that the records hold.
+-- Assumes nothing.
+use denote.Ref.{now}
+use mathlib.Core.Path.{sym, ap, _∙_}
+use native.Mathlib.Omega.{arith}
+use lib.Seq.{length-take-le}
+use lib.Ieee.{binary32, ofBits}
+use Rattle.spec_tables.proofs.Tables.{put-same}
+use Rattle.spec_gauge.specs.Printed.{printedRun}
+use Rattle.spec_gauge.proofs.Runs.{fits, asked-is}
+use borrow.Author.Needs.{needs}
+use Rattle.gauge_run.proofs.run.print_laid.Statement.{statement}
+use Rattle.gauge_run.proofs.run.print_laid.Tie as tie
+
+mul-third : tie.Need-mul-third
+mul-third c = search needs
+
+add-third : tie.Need-add-third
+add-third c = search needs
+
+add-third-2 : tie.Need-add-third-2
+add-third-2 c = search needs
+
+mul-fourth : tie.Need-mul-fourth
+mul-fourth c = search needs
+
+add-fourth : tie.Need-add-fourth
+add-fourth c = search needs
+
+add-fourth-2 : tie.Need-add-fourth-2
+add-fourth-2 c = search needs
+
+mul-numbers : tie.Need-mul-numbers
+mul-numbers c = search needs
+
+slice-aggregate-read-f32s : tie.Need-slice-aggregate-read-f32s
+slice-aggregate-read-f32s c = search needs
+
+read-f32s-requires : tie.Need-read-f32s-requires
+read-f32s-requires c κs = search needs
+
+mul-coordinates : tie.Need-mul-coordinates
+mul-coordinates c = search needs
+
+slice-aggregate-read-f32s-2 : tie.Need-slice-aggregate-read-f32s-2
+slice-aggregate-read-f32s-2 c = search needs
+
+read-f32s-requires-2 : tie.Need-read-f32s-requires-2
+read-f32s-requires-2 c κs = search needs
+
+array-share-prefix-triangles : tie.Need-array-share-prefix-triangles
+array-share-prefix-triangles c = search needs
+
+slice-aggregate-print-asked : tie.Need-slice-aggregate-print-asked
+slice-aggregate-print-asked c = sym (length-take-le _ _ (omega (arith, c .before .before .before .before .before .before .before .before .before .pre .0 .0, c .before .before .before .before .before .before .before .before .before .pre .0 .1, c .before .before .before .before .triangles2 .given)))
+
+settings-of-requires : tie.Need-settings-of-requires
+settings-of-requires c κs = search needs
+
+array-share-prefix-points : tie.Need-array-share-prefix-points
+array-share-prefix-points c = search needs
+
+slice-aggregate-print-asked-2 : tie.Need-slice-aggregate-print-asked-2
+slice-aggregate-print-asked-2 c = sym (length-take-le _ _ (omega (arith, c .before .before .before .before .before .before .before .before .before .before .before .pre .0 .0, c .before .before .before .before .before .before .before .before .before .before .before .pre .0 .1, c .before .before .before .points2 .given)))
+
+u32-at-requires : tie.Need-u32-at-requires
+u32-at-requires c κs = search needs
+
+from-bits-requires : tie.Need-from-bits-requires
+from-bits-requires c κs = search needs
+
+print-asked-requires : tie.Need-print-asked-requires
+print-asked-requires c κs =
+    fits (c .before .before .before .before .before .before .before .before .before .before .before .before .before .before .args .count) (c .before .before .before .before .before .before .before .before .before .before .before .before .before .before .args .touched) _ _ _
+    (length-take-le _ _ (omega (arith, c .before .before .before .before .before .before .before .before .before .before .before .before .before .before .pre .0 .0, c .before .before .before .before .before .before .before .before .before .before .before .before .before .before .pre .0 .1, c .before .before .before .before .before .before .before .before .before .triangles2 .given)))
+    (length-take-le _ _ (omega (arith, c .before .before .before .before .before .before .before .before .before .before .before .before .before .before .pre .0 .0, c .before .before .before .before .before .before .before .before .before .before .before .before .before .before .pre .0 .1, c .before .before .before .before .before .before .points2 .given)))
+    (omega (arith, c .before .before .before .before .before .before .before .before .before .before .before .before .before .before .pre .0 .0, c .before .before .before .before .before .before .before .before .before .before .before .before .before .before .pre .0 .1)) (c .before .before .before .before .before .before .before .before .before .before .before .before .before .before .pre .1)
+
+same-length : tie.Need-same-length
+same-length c = search needs
+
+returns : tie.Need-returns
+returns c =
+    put-same
+    (ap printedRun (asked-is (now (c .before .before .before .before .before .before .before .before .before .before .before .before .before .before .before .before .before .args .input)) (c .before .before .before .before .before .before .before .before .before .before .before .before .before .before .before .before .before .args .count) (c .before .before .before .before .before .before .before .before .before .before .before .before .before .before .before .before .before .args .touched) _ _ _ _ _ _ (c .before .before .before .before .before .before .before .settings-of .ensures) (c .before .before .before .before .before .before .before .before .before .before .before .before .before .read-f32s .ensures) (c .before .before .before .before .before .before .before .before .before .before .read-f32s2 .ensures) (c .before .before .before .before .from-bits .ensures ∙ ap (ofBits binary32) (c .before .before .before .before .before .u32-at .ensures))))
+    (c .before .before .print-asked .ensures)
+
+pub print-laid-spec : {M : Type 1} → statement M
+print-laid-spec =
+    tie.close
+    (tie.spec
+    mul-third
+    add-third
+    add-third-2
+    mul-fourth
+    add-fourth
+    add-fourth-2
+    mul-numbers
+    slice-aggregate-read-f32s
+    read-f32s-requires
+    mul-coordinates
+    slice-aggregate-read-f32s-2
+    read-f32s-requires-2
+    array-share-prefix-triangles
+    slice-aggregate-print-asked
+    settings-of-requires
+    array-share-prefix-points
+    slice-aggregate-print-asked-2
+    u32-at-requires
+    from-bits-requires
+    print-asked-requires
+    same-length
+    returns)

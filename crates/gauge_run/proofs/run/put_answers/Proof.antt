@@ -1,0 +1,49 @@
+-- `gauge_run::put_answers` meets its contract: no query is refused, and the lines are those of its answers.
+-- Assumes nothing.
+use denote.Ref.{now}
+use native.Mathlib.Omega.{arith}
+use Rattle.spec_tables.proofs.Tables.{put-same}
+use Rattle.spec_search.proofs.Calls.{query-passed}
+use Rattle.spec_gauge.proofs.Lines.{sure-lines}
+use Rattle.spec_gauge.proofs.Runs.{is-answered}
+use borrow.Author.Needs.{needs}
+use Rattle.gauge_run.proofs.run.put_answers.Statement.{statement}
+use Rattle.gauge_run.proofs.run.put_answers.Tie as tie
+
+slice-aggregate-sure-query : tie.Need-slice-aggregate-sure-query
+slice-aggregate-sure-query c = search needs
+
+sure-query-requires : tie.Need-sure-query-requires
+sure-query-requires c κs = search needs
+
+slice-aggregate-put-answer-lines : tie.Need-slice-aggregate-put-answer-lines
+slice-aggregate-put-answer-lines c = search needs
+
+point-count-requires : tie.Need-point-count-requires
+point-count-requires c κs = search needs
+
+put-answer-lines-requires : tie.Need-put-answer-lines-requires
+put-answer-lines-requires c κs =
+    let a = c .before .before .before .before .before .before .before .before .before .before .before .before .args in
+    let p = query-passed (now (a .triangles)) (now (a .order)) (now (a .links)) (now (a .boxes)) (a .nodes) (now (a .points)) (a .distance) 16380 (c .before .before .before .before .before .before .before .before .before .before .before .before .pre .0) in
+    (omega (arith, p .1, c .before .point-count .ensures, c .before .before .before .answers2 .given), omega (arith, c .before .before .before .before .before .before .before .before .before .before .before .before .pre .1, c .before .point-count .ensures))
+
+same-length : tie.Need-same-length
+same-length c = search needs
+
+returns : tie.Need-returns
+returns c =
+    put-same (sure-lines _ _ _ _ _ (is-answered _ _ _ _ _ _ _ (c .before .before .before .before .before .before .before .sure-query .ensures .0) (c .before .before .before .before .before .before .before .before .before .before .before .before .before .before .before .pre .0) (c .before .before .before .before .before .before .before .sure-query .ensures .1)))
+    (rw (c .before .before .before .before .point-count .ensures) at (c .before .before .put-answer-lines .ensures))
+
+pub put-answers-spec : {M : Type 1} → statement M
+put-answers-spec =
+    tie.close
+    (tie.spec
+    slice-aggregate-sure-query
+    sure-query-requires
+    slice-aggregate-put-answer-lines
+    point-count-requires
+    put-answer-lines-requires
+    same-length
+    returns)

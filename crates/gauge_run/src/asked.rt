@@ -1,0 +1,49 @@
+// What the records hold, besides the lists, and which of the tests refuses it.
+ghost use mathlib.Core.Path.{_≡_};
+ghost use Prim.Native.Nat.{_≤_};
+ghost use lib.ListN.{length};
+ghost use Rattle.lists.specs.Values.{asVerdict, asSettings};
+ghost use Rattle.spec_image.specs.Image.{settingsIn};
+ghost use Rattle.spec_gauge.specs.Printed.{askedRefusal};
+use lists::points::distance_refusal;
+use lists::points::points_refusal;
+use lists::refusal::Verdict;
+use lists::settings::Settings;
+use lists::settings::settings_refusal;
+use lists::triangles::triangles_refusal;
+use little_endian::u16_at;
+
+pub fn settings_of(bytes: &[u8]) -> Settings
+    requires { ⌜ 14 ≤ length (now bytes) ⌝ }
+    ensures { λ r. ⌜ asSettings r ≡ settingsIn (now (bytes .entry)) ⌝ }
+{
+    Settings {
+        strategy: u16_at(bytes, 8) as usize,
+        leaf_minimum: u16_at(bytes, 10) as usize,
+        maximum_depth: u16_at(bytes, 12) as usize,
+    }
+}
+
+// The first of the tests 1 to 5, 8 and 9 that refuses.
+pub fn asked_refusal(
+    triangles: &[f32],
+    settings: Settings,
+    points: &[f32],
+    distance: f32,
+) -> Verdict
+    ensures { λ r. ⌜ asVerdict r ≡ askedRefusal (record { settings = asSettings settings; triangles = now (triangles .entry); points = now (points .entry); distance = distance }) ⌝ }
+{
+    let bad_triangles = triangles_refusal(triangles);
+    if bad_triangles.refuses() {
+        return bad_triangles;
+    }
+    let bad_settings = settings_refusal(settings);
+    if bad_settings.refuses() {
+        return bad_settings;
+    }
+    let bad_points = points_refusal(points);
+    if bad_points.refuses() {
+        return bad_points;
+    }
+    distance_refusal(distance)
+}

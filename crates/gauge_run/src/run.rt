@@ -1,0 +1,160 @@
+// A run, from the outside in: the length of the input, its layout, its lists, the tests, the tree,
+// the answers.
+ghost use mathlib.Core.Path.{_≡_};
+ghost use mathlib.Core.List.{_++_};
+ghost use Prim.Native.Nat.{_+_, _*_, _≤_};
+ghost use lib.ListN.{length};
+ghost use Rattle.spec_tables.specs.Tables.{Put};
+ghost use Rattle.spec_records.specs.Records.{bodies, laidOut};
+ghost use Rattle.spec_records.specs.Layouts.{gaugeWants, gaugeSpans};
+ghost use Rattle.spec_lists.specs.Reading.{pointCount};
+ghost use Rattle.spec_lists.specs.Refusals.{passes};
+ghost use Rattle.lists.specs.Values.{asSettings};
+ghost use Rattle.spec_search.specs.Calls.{queryRefusal};
+ghost use Rattle.spec_gauge.specs.Printed.{Fits, mostBytes, mostPrinted, askedIn, askedRefusal, treeLine, answerLines, printedRun, printed};
+use crate::asked::asked_refusal;
+use crate::asked::settings_of;
+use crate::lines::put_answer_lines;
+use aabb_build::build::Built;
+use aabb_build::build::build;
+use closest::queries::sure_query;
+use floats::from_bits;
+use lists::points::point_count;
+use lists::refusal::Verdict;
+use lists::settings::Settings;
+use lists::triangles::triangle_count;
+use little_endian::read_f32s;
+use little_endian::u32_at;
+use printing::put_counts;
+use printing::put_refused;
+use records::GaugeLayout;
+use records::gauge_layout;
+
+// A line a point, by sure queries over a tree that passes the tree check.
+fn put_answers(
+    triangles: &[f32],
+    order: &[u32],
+    links: &[u32],
+    boxes: &[f32],
+    nodes: usize,
+    points: &[f32],
+    distance: f32,
+    out: &mut [u8],
+    at: usize,
+) -> usize
+    requires { ⌜ queryRefusal (now triangles) (now order) (now links) (now boxes) nodes (now points) distance 16380 ≡ passes ⌝ }
+    requires { ⌜ at + 84 * pointCount (now points) ≤ length (now out) ⌝ }
+    ensures { λ r. ⌜ Put at (answerLines (now (triangles .entry)) (now (points .entry)) distance) (now (out .entry)) (now (out .exit)) r ⌝ }
+{
+    let mut answers = [0u32; 16380];
+    sure_query(
+        triangles,
+        order,
+        links,
+        boxes,
+        nodes,
+        points,
+        distance,
+        &mut answers,
+    );
+    put_answer_lines(&answers, point_count(points), out, at)
+}
+
+// The counts and the answers of what passed the tests. A build that refuses cannot come up.
+fn put_run(
+    triangles: &[f32],
+    settings: Settings,
+    points: &[f32],
+    distance: f32,
+    out: &mut [u8],
+) -> usize
+    requires { ⌜ askedRefusal (record { settings = asSettings settings; triangles = now triangles; points = now points; distance = distance }) ≡ passes ⌝ }
+    requires { ⌜ Fits (now triangles) (now points) (now out) ⌝ }
+    ensures { λ r. ⌜ Put 0 (treeLine (now (triangles .entry)) (asSettings settings) ++ answerLines (now (triangles .entry)) (now (points .entry)) distance) (now (out .entry)) (now (out .exit)) r ⌝ }
+{
+    let mut order = [0u32; 909];
+    let mut links = [0u32; 5451];
+    let mut boxes = [0.0f32; 10902];
+    let Built::Tree { nodes, depth } = build(
+        triangles,
+        settings.strategy,
+        settings.leaf_minimum,
+        settings.maximum_depth,
+        &mut order,
+        &mut links,
+        &mut boxes,
+    ) else {
+        return 0;
+    };
+    let count = triangle_count(triangles);
+    let next = put_counts(out, 0, count, nodes, depth);
+    put_answers(
+        triangles,
+        &order[..count],
+        &links,
+        &boxes,
+        nodes,
+        points,
+        distance,
+        out,
+        next,
+    )
+}
+
+// A refusal's line, or the run.
+fn print_asked(
+    triangles: &[f32],
+    settings: Settings,
+    points: &[f32],
+    distance: f32,
+    out: &mut [u8],
+) -> usize
+    requires { ⌜ Fits (now triangles) (now points) (now out) ⌝ }
+    ensures { λ r. ⌜ Put 0 (printedRun (record { settings = asSettings settings; triangles = now (triangles .entry); points = now (points .entry); distance = distance })) (now (out .entry)) (now (out .exit)) r ⌝ }
+{
+    let verdict = asked_refusal(triangles, settings, points, distance);
+    if let Verdict::Refused { number, place } = verdict {
+        return put_refused(out, 0, number, place);
+    }
+    put_run(triangles, settings, points, distance, out)
+}
+
+// What is printed for records of so many triangles and points.
+fn print_laid(input: &[u8], count: usize, touched: usize, out: &mut [u8]) -> usize
+    requires { ⌜ (36 + 36 * count + 12 * touched ≡ length (now input)) × (length (now input) ≤ mostBytes) ⌝ }
+    requires { ⌜ mostPrinted ≤ length (now out) ⌝ }
+    ensures { λ r. ⌜ Put 0 (printedRun (askedIn (now (input .entry)) count touched)) (now (out .entry)) (now (out .exit)) r ⌝ }
+{
+    let third = 20 + 36 * count + 6;
+    let fourth = third + 12 * touched + 6;
+    let numbers = 9 * count;
+    let mut triangles = [0.0f32; 8181];
+    read_f32s(input, 20, numbers, &mut triangles, 0);
+    let coordinates = 3 * touched;
+    let mut points = [0.0f32; 8190];
+    read_f32s(input, third, coordinates, &mut points, 0);
+    print_asked(
+        &triangles[..numbers],
+        settings_of(input),
+        &points[..coordinates],
+        from_bits(u32_at(input, fourth)),
+        out,
+    )
+}
+
+// What gauge prints for this input: into `out` from its front, and how many bytes.
+pub fn print(input: &[u8], out: &mut [u8]) -> usize
+    requires { ⌜ mostPrinted ≤ length (now out) ⌝ }
+    ensures { λ r. ⌜ Put 0 (printed (now (input .entry))) (now (out .entry)) (now (out .exit)) r ⌝ }
+{
+    if 32768 < input.len() {
+        return put_refused(out, 0, 10, 0);
+    }
+    match gauge_layout(input) {
+        GaugeLayout::Wrong(at) => put_refused(out, 0, 10, at),
+        GaugeLayout::Right {
+            triangles: count,
+            points,
+        } => print_laid(input, count, points, out),
+    }
+}

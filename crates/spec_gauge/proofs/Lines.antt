@@ -1,0 +1,96 @@
+-- The lines made from the numbers that a query wrote are the lines of its answers. Assumes nothing.
+use mathlib.Core.Path.{_≡_, refl, sym, ap, _∙_}
+use mathlib.Core.List.{List, _++_}
+use Prim.Native.Nat.{ℕ, _+_, _*_, _<_, _≤_}
+use native.Mathlib.Nat.{zero-add, add-zero}
+use native.Mathlib.Omega.{arith}
+use lib.ListN.{length, getD, drop}
+use lib.Ieee.{Float, binary32}
+use borrow.Author.Tests.{ne-eqb}
+use Rattle.spec_tables.specs.Tables.{over, many, part, Left, Put}
+use Rattle.spec_tables.proofs.Tables.{many-same, put-none, put-more, put-long}
+use Rattle.spec_tables.proofs.Pieces.{getD-part, left-many}
+use Rattle.spec_printing.specs.Printed.{foundLine, nothingLine}
+use Rattle.spec_shapes.specs.Points.{Point}
+use Rattle.spec_lists.specs.Reading.{pointAt, pointCount}
+use Rattle.spec_search.specs.Answers.{Answer, nothing, found, sixWords}
+use Rattle.spec_search.specs.Calls.{answerWords, sureAnswer}
+use Rattle.spec_gauge.specs.Printed.{answerLine, answerLines}
+use Rattle.spec_gauge.specs.Lines.{wordsLine}
+
+module _ (words : List ℕ) (k : ℕ) where
+  pub nothing-words : getD words (6 * k) 0 ≡ 0 → nothingLine k ≡ wordsLine words k
+  unfolding wordsLine
+  nothing-words e = rw e
+
+  pub found-words : (triangle : ℕ) → (getD words (6 * k) 0 ≡ 0 → ⊥) → triangle ≡ getD words (6 * k + 1) 0
+      → foundLine k (record {
+        triangle = triangle;
+        x = getD words (6 * k + 2) 0;
+        y = getD words (6 * k + 3) 0;
+        z = getD words (6 * k + 4) 0;
+        squared = getD words (6 * k + 5) 0;
+      }) ≡ wordsLine words k
+  unfolding wordsLine
+  found-words triangle n e = rw (ne-eqb (getD words (6 * k) 0) 0 n, e)
+
+  six : (a : Answer) → part words (6 * k) 6 ≡ sixWords binary32 a → (i : ℕ) → i < 6 → getD words (6 * k + i) 0 ≡ getD (sixWords binary32 a) i 0
+  six a e i l = sym (getD-part 0 words (6 * k) 6 i l) ∙ ap (λ (s : List ℕ). getD s i 0) e
+
+  first : (a : Answer) → part words (6 * k) 6 ≡ sixWords binary32 a → getD words (6 * k) 0 ≡ getD (sixWords binary32 a) 0 0
+  first a e = rw add-zero at (six a e 0 (omega arith))
+
+  pub words-line : (a : Answer) → part words (6 * k) 6 ≡ sixWords binary32 a → wordsLine words k ≡ answerLine k a
+  unfolding wordsLine answerLine sixWords
+  words-line nothing e = rw (first nothing e)
+  words-line (found h) e =
+      rw (first (found h) e, six (found h) e 1 (omega arith), six (found h) e 2 (omega arith), six (found h) e 3 (omega arith), six (found h) e 4 (omega arith), six (found h) e 5 (omega arith))
+
+six-long : (a : Answer) → length (sixWords binary32 a) ≡ 6
+unfolding sixWords
+six-long nothing = refl
+six-long (found h) = refl
+
+module _ (answer : Point → Answer) (points : List Float) (old words : List ℕ) (e : words ≡ over 0 (answerWords binary32 answer points) old) where
+  pieces : ℕ → List ℕ
+  pieces k = sixWords binary32 (answer (pointAt points (3 * k)))
+
+  words-left : Left words 0 (many pieces (pointCount points) ++ drop (0 + length (answerWords binary32 answer points)) old)
+  unfolding over answerWords pieces
+  words-left = record { within = omega arith; left = e }
+
+  pub lines-of-words : many (wordsLine words) (pointCount points) ≡ many (λ k. answerLine k (answer (pointAt points (3 * k)))) (pointCount points)
+  unfolding pieces
+  lines-of-words =
+      many-same (wordsLine words) (λ k. answerLine k (answer (pointAt points (3 * k)))) (pointCount points)
+      (λ k l. words-line words k (answer (pointAt points (3 * k))) (rw zero-add at (left-many pieces 6 (pointCount points) words 0 _ (λ j. six-long (answer (pointAt points (3 * j)))) words-left k l)))
+
+pub sure-lines : (triangles points : List Float) (distance : Float) (old words : List ℕ) → words ≡ over 0 (answerWords binary32 (sureAnswer binary32 triangles distance) points) old
+    → many (wordsLine words) (pointCount points) ≡ answerLines triangles points distance
+unfolding answerLines
+sure-lines triangles points distance old words e = lines-of-words (sureAnswer binary32 triangles distance) points old words e
+
+-- ---- the loop over the lines: k of n stand one behind the other, each in 84 bytes at most
+pub record Lined (f : ℕ → List ℕ) (at n : ℕ) (old out : List ℕ) (next k : ℕ) : Type 0 where
+  pub within : k ≤ n
+  pub put : Put at (many f k) old out next
+  pub room : next ≤ at + 84 * k
+  pub long : length out ≡ length old
+
+module _ (f : ℕ → List ℕ) (at n : ℕ) (old : List ℕ) where
+  pub lined-start : at ≤ length old → Lined f at n old old at 0
+  unfolding many
+  lined-start h = record { within = omega arith; put = put-none at old h; room = omega arith; long = refl }
+
+  pub lined-more : (mid out : List ℕ) (next end k : ℕ) → k < n → Lined f at n old mid next k → Put next (f k) mid out end → end ≤ next + 84 → Lined f at n old out end (k + 1)
+  lined-more mid out next end k l r p h = record {
+    within = omega arith;
+    put = put-more f k (r .put) p;
+    room = omega (arith, r .room);
+    long = put-long p ∙ r .long;
+  }
+
+  pub lined-end : (out : List ℕ) (next k : ℕ) → n ≤ k → Lined f at n old out next k → Put at (many f n) old out next
+  lined-end out next k l r =
+      let e : k ≡ n = omega (arith, r .within) in
+      rw e at (r .put)

@@ -1,0 +1,67 @@
+-- What is printed, by what was found out of the input: a layout that is wrong, one that is right, tests that passed. Assumes nothing.
+use mathlib.Core.Path.{_≡_}
+use mathlib.Core.List.{List, [], _++_}
+use mathlib.Core.Bool.{false}
+use Prim.Native.Nat.{ℕ, _+_, _*_, _/_, _≤_, _<_}
+use native.Mathlib.Omega.{arith}
+use borrow.Author.Tests.{lt-ltb, le-ltb}
+use lib.Dec.{ltb}
+use lib.ListN.{length}
+use Rattle.spec_records.specs.Records.{bodies, wrong, done, one, exactly, whole, laidOut}
+use Rattle.spec_records.specs.Layouts.{version1, settingsRight, queryWants, gaugeWants, gaugeSpans}
+use Rattle.spec_records.proofs.Records.{one-back, done-back}
+use Rattle.spec_printing.specs.Printed.{refusedLine}
+use Rattle.spec_lists.specs.Refusals.{passes, refused, trianglesRefusal, settingsRefusal, pointsRefusal, distanceRefusal}
+use Rattle.spec_lists.proofs.Verdicts.{all-pass}
+use Rattle.spec_gauge.specs.Printed.{mostBytes, Asked, askedIn, askedRefusal, treeLine, answerLines, printedRun, printed}
+
+-- ---- the layout
+pub gauge-long : (s : List ℕ) (t p : ℕ) → laidOut gaugeWants s 0 ≡ bodies (gaugeSpans t p) → 36 + 36 * t + 12 * p ≡ length s
+unfolding gaugeSpans
+gauge-long s t p e =
+    let a = one-back 1 (settingsRight version1) (λ _. one 2 (whole 36) queryWants) s 0 _ _ e in
+    let b = one-back 2 (whole 36) queryWants s 14 _ _ (a .onward) in
+    let c = one-back 5 (whole 12) (λ _. one 6 (exactly 4) (λ _. done)) s (20 + 36 * t) _ _ (b .onward) in
+    let d = one-back 6 (exactly 4) (λ _. done) s (20 + 36 * t + 6 + 12 * p) _ _ (c .onward) in
+    omega (arith, done-back s (20 + 36 * t + 6 + 12 * p + 6 + 4) [] (d .onward))
+
+pub too-long : (s : List ℕ) → mostBytes < length s → refusedLine 10 0 ≡ printed s
+unfolding printed
+too-long s h = rw (lt-ltb mostBytes (length s) h)
+
+module _ (s : List ℕ) (h : length s ≤ mostBytes) where
+  short : ltb mostBytes (length s) ≡ false
+  short = le-ltb mostBytes (length s) h
+
+  pub wrong-printed : (at : ℕ) → laidOut gaugeWants s 0 ≡ wrong at → refusedLine 10 at ≡ printed s
+  unfolding printed
+  wrong-printed at e = rw (short, e)
+
+  pub right-printed : (t p : ℕ) → laidOut gaugeWants s 0 ≡ bodies (gaugeSpans t p) → printedRun (askedIn s t p) ≡ printed s
+  unfolding printed gaugeSpans
+  right-printed t p e =
+      let a : 36 * t / 36 ≡ t = omega arith in
+      let b : 12 * p / 12 ≡ p = omega arith in
+      rw (short, e, a, b)
+
+-- ---- the tests
+pub refused-printed : (a : Asked) (number place : ℕ) → askedRefusal a ≡ refused number place → refusedLine number place ≡ printedRun a
+unfolding printedRun
+refused-printed a number place e = rw e
+
+pub passed-printed : (a : Asked) → askedRefusal a ≡ passes → treeLine (a .triangles) (a .settings) ++ answerLines (a .triangles) (a .points) (a .distance) ≡ printedRun a
+unfolding printedRun
+passed-printed a e = rw e
+
+-- what passed
+pub record AllPassed (a : Asked) : Type 0 where
+  pub triangles : trianglesRefusal (a .triangles) ≡ passes
+  pub settings : settingsRefusal (a .settings) ≡ passes
+  pub points : pointsRefusal (a .points) ≡ passes
+  pub distance : distanceRefusal (a .distance) ≡ passes
+
+pub all-passed : (a : Asked) → askedRefusal a ≡ passes → AllPassed a
+unfolding askedRefusal
+all-passed a e =
+    let p = all-pass _ e in
+    record { triangles = p .0; settings = p .1 .0; points = p .1 .1 .0; distance = p .1 .1 .1 .0 }

@@ -1,0 +1,112 @@
+-- What `gauge` prints, of the bytes that came in: a refusal, or the counts and a line a point. Definitions only.
+use Prim.Native.Nat.{ℕ, _+_, _*_, _/_, _≤_}
+use mathlib.Core.List.{List, [], _∷_, _++_}
+use mathlib.Core.Bool.{cond}
+use lib.Dec.{ltb}
+use lib.ListN.{length, getD}
+use lib.Ieee.{Float, binary32, ofBits, toBits}
+use Rattle.spec_tables.specs.Tables.{many}
+use Rattle.spec_records.specs.Little.{littleAt}
+use Rattle.spec_records.specs.Entries.{floatsIn}
+use Rattle.spec_records.specs.Records.{Span, Layout, wrong, bodies, laidOut}
+use Rattle.spec_records.specs.Layouts.{gaugeWants}
+use Rattle.spec_image.specs.Image.{settingsIn}
+use Rattle.spec_printing.specs.Printed.{countsLine, foundLine, nothingLine, refusedLine}
+use Rattle.spec_lists.specs.Reading.{triangleCount, pointAt, pointCount}
+use Rattle.spec_lists.specs.Refusals.{Verdict, passes, refused, firstRefusal, Settings, trianglesRefusal, settingsRefusal, pointsRefusal, distanceRefusal}
+use Rattle.spec_tree.specs.Trees.{nodeCount, levels}
+use Rattle.spec_build.specs.Build.{builtTree}
+use Rattle.spec_search.specs.Answers.{Answer, nothing, found}
+use Rattle.spec_search.specs.Calls.{sureAnswer}
+
+-- more bytes than these are refused unread
+abbrev pub mostBytes : ℕ
+mostBytes = 32768
+
+-- ---- what the records hold
+pub record Asked : Type 0 where
+  pub settings : Settings
+  pub triangles : List Float
+  pub points : List Float
+  pub distance : Float
+
+-- of an input of t triangles and p points, whose bodies start at 6, 20, 26 + 36t and 32 + 36t + 12p
+unfoldable pub askedIn : List ℕ → ℕ → ℕ → Asked
+askedIn s t p = record {
+  settings = settingsIn s;
+  triangles = floatsIn binary32 s 20 (9 * t);
+  points = floatsIn binary32 s (20 + 36 * t + 6) (3 * p);
+  distance = ofBits binary32 (littleAt 4 s (20 + 36 * t + 6 + 12 * p + 6));
+}
+
+-- ---- refusals 1 to 5, 8, 9; 1 and 3 cannot come up, since a body has whole triangles and no more than 909 fit
+unfoldable pub askedRefusal : Asked → Verdict
+askedRefusal a =
+    firstRefusal
+    (trianglesRefusal (a .triangles)
+    ∷ settingsRefusal (a .settings)
+    ∷ pointsRefusal (a .points)
+    ∷ distanceRefusal (a .distance)
+    ∷ [])
+
+-- ---- the lines
+unfoldable pub answerLine : ℕ → Answer → List ℕ
+answerLine k nothing = nothingLine k
+answerLine k (found h) = foundLine k (record {
+  triangle = h .triangle;
+  x = toBits binary32 (h .point .x);
+  y = toBits binary32 (h .point .y);
+  z = toBits binary32 (h .point .z);
+  squared = toBits binary32 (h .squared);
+})
+
+-- a line a point, of the sure query's answers
+unfoldable pub answerLines : (triangles points : List Float) (distance : Float) → List ℕ
+answerLines triangles points distance =
+    many (λ k. answerLine k (sureAnswer binary32 triangles distance (pointAt points (3 * k)))) (pointCount points)
+
+-- the counts and the depth of the tree that is built
+unfoldable pub treeLine : List Float → Settings → List ℕ
+treeLine triangles settings =
+    let t = builtTree binary32 triangles settings in
+    countsLine (triangleCount triangles) (nodeCount t) (levels t)
+
+-- a refusal's line is all that is printed
+abbrev pub byVerdict : Verdict → List ℕ → List ℕ
+byVerdict passes lines = lines
+byVerdict (refused number place) lines = refusedLine number place
+
+unfoldable pub printedRun : Asked → List ℕ
+printedRun a =
+    byVerdict (askedRefusal a)
+    (treeLine (a .triangles) (a .settings) ++ answerLines (a .triangles) (a .points) (a .distance))
+
+-- ---- the whole
+abbrev pub spanSize : List Span → ℕ → ℕ
+spanSize spans i = getD spans i (record { start = 0; size = 0 }) .size
+
+-- by the layout: the second body is the triangles', the third the points'
+abbrev pub byLayout : List ℕ → Layout → List ℕ
+byLayout s (wrong at) = refusedLine 10 at
+byLayout s (bodies spans) = printedRun (askedIn s (spanSize spans 1 / 36) (spanSize spans 2 / 12))
+
+unfoldable pub printed : List ℕ → List ℕ
+printed s = cond (ltb mostBytes (length s)) (refusedLine 10 0) (byLayout s (laidOut gaugeWants s 0))
+
+-- ---- what fits
+-- no more triangles and no more points than these fit in so many bytes
+abbrev pub mostTriangles : ℕ
+mostTriangles = 909
+
+abbrev pub mostPoints : ℕ
+mostPoints = 2730
+
+-- room for the longest run
+abbrev pub mostPrinted : ℕ
+mostPrinted = 229405
+
+-- the lists are no longer than what fits, and out has room
+pub record Fits (triangles points : List Float) (out : List ℕ) : Type 0 where
+  pub triangles-few : triangleCount triangles ≤ mostTriangles
+  pub points-few : pointCount points ≤ mostPoints
+  pub room : mostPrinted ≤ length out

@@ -1,0 +1,228 @@
+//! Makes the inputs of `gauge_cases` and what `gauge` must print for each, by a plain reading of the
+//! scope document:  rustc -O tests/gauge/main.rs -o target/cases && target/cases CASES ANSWERS
+//! CASES holds each input behind its length (u32, little-endian), ANSWERS the printed text.
+
+#[path = "../closest/scan.rs"]
+mod scan;
+mod reading;
+
+use std::io::Write;
+
+struct Run {
+    version: u16,
+    settings: [u16; 3],
+    triangles: Vec<f32>,
+    points: Vec<f32>,
+    distance: f32,
+}
+
+fn record(kind: u16, body: Vec<u8>) -> Vec<u8> {
+    let mut r = (body.len() as u32).to_le_bytes().to_vec();
+    r.extend(kind.to_le_bytes());
+    r.extend(body);
+    r
+}
+
+fn bytes(xs: &[f32]) -> Vec<u8> {
+    xs.iter().flat_map(|x| x.to_bits().to_le_bytes()).collect()
+}
+
+impl Run {
+    fn records(&self) -> Vec<Vec<u8>> {
+        let mut settings = self.version.to_le_bytes().to_vec();
+        for s in self.settings {
+            settings.extend(s.to_le_bytes());
+        }
+        vec![record(1, settings), record(2, bytes(&self.triangles)), record(5, bytes(&self.points)), record(6, bytes(&[self.distance]))]
+    }
+
+    fn input(&self) -> Vec<u8> {
+        self.records().concat()
+    }
+}
+
+const T0: [f32; 9] = [0.0, 0.0, 0.0, 1.0, 0.0, 0.0, 0.0, 1.0, 0.0];
+const T1: [f32; 9] = [10.0, 0.0, 0.0, 11.0, 0.0, 0.0, 10.0, 1.0, 0.0];
+
+/// The document's printed run.
+fn document() -> Run {
+    Run {
+        version: 1,
+        settings: [1, 1, 40],
+        triangles: [T0, T1].concat(),
+        points: vec![5.5, 0.0, 0.0, 100.0, 0.0, 0.0],
+        distance: 50.0,
+    }
+}
+
+struct Random(u64);
+
+impl Random {
+    fn next(&mut self, below: u64) -> u64 {
+        self.0 ^= self.0 << 13;
+        self.0 ^= self.0 >> 7;
+        self.0 ^= self.0 << 17;
+        (self.0 >> 11) % below
+    }
+
+    /// Coarse grids have many ties; fine ones round.
+    fn coordinate(&mut self, style: u64) -> f32 {
+        match style {
+            0 => self.next(5) as f32 - 2.0,
+            1 => (self.next(65536) as f32 - 32768.0) / 1024.0,
+            2 => (self.next(1 << 21) as f32 - 1048576.0) * 0.99999,
+            _ => f32::from_bits(self.next(0x4000_0000) as u32),
+        }
+    }
+
+    fn run(&mut self, triangles: u64, points: u64) -> Run {
+        let style = self.next(4);
+        Run {
+            version: 1,
+            settings: [1 + self.next(2) as u16, 1 + self.next(4) as u16, [0, 1, 2, 3, 40, 64][self.next(6) as usize]],
+            triangles: (0..9 * triangles).map(|_| self.coordinate(style)).collect(),
+            points: (0..3 * points).map(|_| self.coordinate(style)).collect(),
+            distance: [0.0, 1.0, 4.5, 50.0, 4194304.0][self.next(5) as usize],
+        }
+    }
+}
+
+/// Runs that the document names, and what stands at the edges of what is accepted.
+fn named(cases: &mut Vec<Vec<u8>>) {
+    cases.push(document().input());
+    cases.push(Run { triangles: T0.to_vec(), points: vec![100.0, 0.0, 0.0], distance: 1.0, ..document() }.input());
+    cases.push(Run { points: vec![5.5, 0.0, 0.0], ..document() }.input());
+    cases.push(Run { points: vec![5.5, 0.0, 0.0], distance: 4.5, ..document() }.input());
+    cases.push(Run { points: vec![], ..document() }.input());
+    cases.push(Run { triangles: vec![], ..document() }.input());
+    for version in [0, 2, 256] {
+        cases.push(Run { version, ..document() }.input());
+    }
+    for settings in [[0, 1, 40], [2, 1, 40], [3, 1, 40], [1, 0, 40], [1, 4096, 40], [1, 4097, 40], [1, 1, 0], [1, 1, 1], [1, 1, 64], [1, 1, 65]] {
+        cases.push(Run { settings, ..document() }.input());
+    }
+    for distance in [0.0, -0.0, -f32::from_bits(1), 4194304.0, 4194304.5, f32::NAN, f32::INFINITY, f32::NEG_INFINITY] {
+        cases.push(Run { distance, ..document() }.input());
+    }
+}
+
+/// A bad number at each place of the lists, alone and before others.
+fn bad_numbers(cases: &mut Vec<Vec<u8>>) {
+    for bad in [f32::NAN, f32::from_bits(0xff80_0001), f32::INFINITY, f32::NEG_INFINITY, 1048576.125, -1048576.125, 1048576.0, -1048576.0, -0.0] {
+        for i in 0..18 {
+            let mut run = document();
+            run.triangles[i] = bad;
+            cases.push(run.input());
+            run.settings = [3, 1, 40];
+            run.points[i % 6] = bad;
+            run.distance = bad;
+            cases.push(run.input());
+        }
+        for i in 0..6 {
+            let mut run = document();
+            run.points[i] = bad;
+            cases.push(run.input());
+            run.distance = bad;
+            cases.push(run.input());
+        }
+    }
+}
+
+/// Records missing, twice, out of order, of a wrong kind, a byte long or short.
+fn bad_records(cases: &mut Vec<Vec<u8>>) {
+    let good = document().records();
+    for i in 0..4 {
+        let mut missing = good.clone();
+        missing.remove(i);
+        cases.push(missing.concat());
+        let mut twice = good.clone();
+        twice.insert(i, good[i].clone());
+        cases.push(twice.concat());
+        for j in 0..i {
+            let mut turned = good.clone();
+            turned.swap(i, j);
+            cases.push(turned.concat());
+        }
+        for kind in [0u16, 1, 2, 3, 4, 5, 6, 7, 256, 65535] {
+            let mut other = good.clone();
+            other[i][4..6].copy_from_slice(&kind.to_le_bytes());
+            cases.push(other.concat());
+        }
+        // the body a byte long or short, with its length and without
+        let body = good[i][6..].to_vec();
+        let kind = u16::from_le_bytes([good[i][4], good[i][5]]);
+        let mut longer = body.clone();
+        longer.push(0);
+        let shorter = body[..body.len() - 1].to_vec();
+        for changed in [longer, shorter, vec![], body[..3].to_vec()] {
+            let mut other = good.clone();
+            other[i] = record(kind, changed.clone());
+            cases.push(other.concat());
+            other[i] = good[i][..6].to_vec();
+            other[i].extend(changed);
+            cases.push(other.concat());
+        }
+        for size in [0u32, 1, 131, 132, 32768, 0x7fff_ffff, 0xffff_ffff, 0xffff_fffa] {
+            let mut other = good.clone();
+            other[i][..4].copy_from_slice(&size.to_le_bytes());
+            cases.push(other.concat());
+        }
+    }
+    for more in 1..=13 {
+        cases.push([document().input(), vec![0; more]].concat());
+    }
+    cases.push([document().input(), vec![10]].concat());
+    cases.push([document().input(), document().input()].concat());
+}
+
+/// Cut at every byte, and with one byte changed.
+fn damaged(cases: &mut Vec<Vec<u8>>) {
+    let good = document().input();
+    for n in 0..good.len() {
+        cases.push(good[..n].to_vec());
+    }
+    for i in 0..good.len() {
+        for change in [1u8, 128] {
+            let mut other = good.clone();
+            other[i] ^= change;
+            cases.push(other);
+        }
+    }
+}
+
+/// As long as they may be, and longer.
+fn long(cases: &mut Vec<Vec<u8>>, random: &mut Random) {
+    cases.push(random.run(900, 27).input());
+    cases.push(random.run(1, 2724).input());
+    cases.push(random.run(909, 0).input());
+    let whole = random.run(454, 1365).input();
+    for n in [32767, 32768, 32769] {
+        let mut padded = whole.clone();
+        padded.resize(n, 0);
+        cases.push(padded);
+    }
+    cases.push(document().input().into_iter().cycle().take(32769).collect());
+}
+
+fn main() {
+    let paths: Vec<String> = std::env::args().skip(1).collect();
+    let mut cases = Vec::new();
+    let mut random = Random(0x9e37_79b9_7f4a_7c15);
+    named(&mut cases);
+    bad_numbers(&mut cases);
+    bad_records(&mut cases);
+    damaged(&mut cases);
+    for _ in 0..400 {
+        let (triangles, points) = (1 + random.next(24), random.next(7));
+        cases.push(random.run(triangles, points).input());
+    }
+    long(&mut cases, &mut random);
+    let mut inputs = std::fs::File::create(&paths[0]).unwrap();
+    let mut answers = std::fs::File::create(&paths[1]).unwrap();
+    for case in &cases {
+        inputs.write_all(&(case.len() as u32).to_le_bytes()).unwrap();
+        inputs.write_all(case).unwrap();
+        answers.write_all(reading::printed(case).as_bytes()).unwrap();
+    }
+    eprintln!("{} inputs", cases.len());
+}
