@@ -1,0 +1,4 @@
+pub mod Table
+pub mod Shapes
+pub mod Angles
+pub mod Queries
