@@ -1,3 +1,4 @@
 pub mod Tables
 pub mod Pieces
 pub mod Runs
+pub mod Stores

@@ -7,7 +7,7 @@ use native.Mathlib.Omega.{arith}
 use Rattle.spec_tables.specs.Tables.{over}
 use Rattle.spec_tables.proofs.Runs.{Run, run-start, run-end}
 use Rattle.spec_build.proofs.Numbering.{up-to-many}
-use Rattle.aabb_build.proofs.Stores.{run-store-front}
+use Rattle.spec_tables.proofs.Stores.{run-store-front}
 use borrow.Author.Needs.{needs}
 use Rattle.aabb_build.proofs.build.put_order.Statement.{statement}
 use Rattle.aabb_build.proofs.build.put_order.Tie as tie

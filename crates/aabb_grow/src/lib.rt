@@ -1,0 +1,6 @@
+// Growing a tree: parts of the order list are sorted, cut and grown, each node written behind its subtrees. Each contract is an equation with a definition of `spec_build`.
+pub mod axes;
+pub mod grow;
+pub mod nodes;
+pub mod tables;
+pub mod tries;

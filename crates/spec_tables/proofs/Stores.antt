@@ -1,0 +1,32 @@
+-- Three and six stores one behind the other are one write; a store a turn, from the front of a list. Assumes nothing.
+use mathlib.Core.Path.{_≡_, subst}
+use mathlib.Core.List.{List, [], _∷_}
+use Prim.Native.Nat.{ℕ, suc, _+_, _≤_, _<_}
+use native.Mathlib.Nat.{zero-add}
+use native.Mathlib.Omega.{arith}
+use lib.ListN.{length, set}
+use Rattle.spec_tables.specs.Tables.{over}
+use Rattle.spec_tables.proofs.Tables.{sets-over}
+use Rattle.spec_tables.proofs.Runs.{Run, run-store}
+
+module _ {A : Type 0} (at : ℕ) (old : List A) where
+  pub three-stores : (a b c : A) → at + 3 ≤ length old → set (set (set old at a) (at + 1) b) (at + 2) c ≡ over at (a ∷ b ∷ c ∷ []) old
+  three-stores a b c h =
+      let e : at + 1 ≡ suc at = omega arith in
+      let f : at + 2 ≡ suc (suc at) = omega arith in
+      rw (e, f) (sets-over at (a ∷ b ∷ c ∷ []) old h)
+
+  pub six-stores : (a b c d e f : A) → at + 6 ≤ length old
+      → set (set (set (set (set (set old at a) (at + 1) b) (at + 2) c) (at + 3) d) (at + 4) e) (at + 5) f ≡ over at (a ∷ b ∷ c ∷ d ∷ e ∷ f ∷ []) old
+  six-stores a b c d e f h =
+      let p : at + 1 ≡ suc at = omega arith in
+      let q : at + 2 ≡ suc (suc at) = omega arith in
+      let r : at + 3 ≡ suc (suc (suc at)) = omega arith in
+      let s : at + 4 ≡ suc (suc (suc (suc at))) = omega arith in
+      let t : at + 5 ≡ suc (suc (suc (suc (suc at)))) = omega arith in
+      rw (p, q, r, s, t) (sets-over at (a ∷ b ∷ c ∷ d ∷ e ∷ f ∷ []) old h)
+
+pub run-store-front : {A : Type 0} (g : ℕ → A) (n : ℕ) (old out : List A) (i : ℕ) (v : A) → n ≤ length old → i < n
+    → Run (λ j. g j ∷ []) 0 n old out i → v ≡ g i → Run (λ j. g j ∷ []) 0 n old (set out i v) (i + 1)
+run-store-front {A} g n old out i v room l r e =
+    subst (λ (k : ℕ). Run (λ j. g j ∷ []) 0 n old (set out k v) (i + 1)) (zero-add i) (run-store g 0 n old out i v (omega arith) l r e)
