@@ -1,9 +1,6 @@
-// What the records hold, besides the lists, and which of the tests refuses it.
+// Which of the tests refuses what the records hold.
 ghost use mathlib.Core.Path.{_≡_};
-ghost use Prim.Native.Nat.{_≤_};
-ghost use lib.ListN.{length};
 ghost use Rattle.lists.specs.Values.{asVerdict, asSettings};
-ghost use Rattle.spec_image.specs.Image.{settingsIn};
 ghost use Rattle.spec_gauge.specs.Printed.{askedRefusal};
 use lists::points::distance_refusal;
 use lists::points::points_refusal;
@@ -11,18 +8,6 @@ use lists::refusal::Verdict;
 use lists::settings::Settings;
 use lists::settings::settings_refusal;
 use lists::triangles::triangles_refusal;
-use little_endian::u16_at;
-
-pub fn settings_of(bytes: &[u8]) -> Settings
-    requires { ⌜ 14 ≤ length (now bytes) ⌝ }
-    ensures { λ r. ⌜ asSettings r ≡ settingsIn (now (bytes .entry)) ⌝ }
-{
-    Settings {
-        strategy: u16_at(bytes, 8) as usize,
-        leaf_minimum: u16_at(bytes, 10) as usize,
-        maximum_depth: u16_at(bytes, 12) as usize,
-    }
-}
 
 // The first of the tests 1 to 5, 8 and 9 that refuses.
 pub fn asked_refusal(
