@@ -74,17 +74,6 @@ pub fn read_u16s(bytes: &[u8], start: usize, count: usize, out: &mut [u32], at: 
     }
 }
 
-pub fn read_u32s(bytes: &[u8], start: usize, count: usize, out: &mut [u32], at: usize)
-    requires { ⌜ (start + 4 * count ≤ length (now bytes)) × (at + count ≤ length (now out)) ⌝ }
-    ensures { λ _. ⌜ now (out .exit) ≡ over at (numbersIn 4 (now (bytes .entry)) start count) (now (out .entry)) ⌝ }
-{
-    let mut i = 0;
-    while i < count {
-        out[at + i] = u32_at(bytes, start + 4 * i);
-        i += 1;
-    }
-}
-
 // Every pattern of a NaN is read as the NaN.
 pub fn read_f32s(bytes: &[u8], start: usize, count: usize, out: &mut [f32], at: usize)
     requires { ⌜ (start + 4 * count ≤ length (now bytes)) × (at + count ≤ length (now out)) ⌝ }

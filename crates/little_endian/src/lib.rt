@@ -8,7 +8,6 @@ pub use entries::put_u16s;
 pub use entries::put_u32s;
 pub use entries::read_f32s;
 pub use entries::read_u16s;
-pub use entries::read_u32s;
 pub use numbers::put_u16;
 pub use numbers::put_u32;
 pub use numbers::u16_at;
