@@ -6,6 +6,8 @@ pub mod Found
 pub mod Listed
 pub mod Accepted
 pub mod Hangs
+pub mod Seeking
+pub mod Leaves
 pub mod Boxes
 pub mod Depth
 pub mod Joining

@@ -4,6 +4,7 @@ pub mod Accepted
 pub mod Hangs
 pub mod Depth
 pub mod Refusals
+pub mod Leaves
 pub mod Sort
 pub mod Splits
 pub mod Median

@@ -1,0 +1,263 @@
+-- The leaves that are read off the lists of an accepted tree are the tree's, left to right: their parts, one after another, are the whole order list, each triangle stands in exactly one, and there are 1 to n of them. Assumes nothing.
+use mathlib.Core.Path.{_≡_, refl, sym, ap, subst, _∙_}
+use mathlib.Core.Bool.{Bool, true, false, not, _&&_, _||_, or-true, true≢false}
+use mathlib.Core.List.{List, [], _∷_, _++_, map, flatten, append-assoc, append-nil}
+use Prim.Native.Nat.{ℕ, zero, suc, _+_, _-_, _*_, _≤_, _<_}
+use native.Mathlib.Omega.{arith}
+use native.Mathlib.Decide.{decLt}
+use borrow.Author.Tests.{eqb-true, eq-eqb, not-true}
+use lib.Dec.{eqb}
+use lib.ListN.{length, getD, length-append, length-map}
+use lib.Ieee.{Float, nan}
+use Rattle.spec_numbers.proofs.Tests.{both-passed}
+use Rattle.spec_lists.specs.Reading.{boxAt, triangleCount}
+use Rattle.spec_lists.specs.Refusals.{passes, refused}
+use Rattle.spec_lists.proofs.Verdicts.{all-pass, so}
+use Rattle.spec_tables.specs.Tables as Tables
+use Rattle.spec_shapes.specs.Boxes.{Box}
+use Rattle.spec_tree.specs.Trees.{Tree, leaf, branch, numbers, nodeCount, Filled, joined, linksFrom, boxesOf, rootFrom, kindAt, nodeBox}
+use Rattle.spec_tree.specs.Order.{upTo, Permutes, permutes, occurs, allBelow, distinct}
+use Rattle.spec_tree.specs.Accepted.{Listing, accepted}
+use Rattle.spec_tree.specs.Hangs.{Sound}
+use Rattle.spec_tree.specs.Refusals.{treeRefusal, checkRefusal}
+use Rattle.spec_tree.specs.Leaves.{leaves, Leaf, leavesFrom, partOf, oneIf, partsWith, leafNodes, leafAt, leafCount, LeafFound, nothing, found, notSought, kth, leafFrom, NodesThere, leafAnswer, counted, notCounted, countAnswer}
+use Rattle.spec_tree.proofs.Standing.{Stands, stands-first, stands-second, stands-part}
+use Rattle.spec_tree.proofs.Nodes.{NodeLinks, links-read, box-read}
+use Rattle.spec_tree.proofs.Trees.{root-last}
+use Rattle.spec_tree.proofs.Listed.{Listed, Halves, halves}
+use Rattle.spec_tree.proofs.Order.{occurs-append, permuted-occurs, permutes-test, permutes-length}
+use Rattle.spec_tree.proofs.Accepted.{accepted-listed, listing-stands}
+use Rattle.spec_tree.proofs.Hangs.{listing-sound}
+use Rattle.spec_tree.proofs.Seeking.{other-node, leaf-nodes-then, kth-none, kth-some}
+
+map-append : {A B : Type 0} (g : A → B) (xs ys : List A) → map g (xs ++ ys) ≡ map g xs ++ map g ys
+map-append g [] ys = refl
+map-append g (x ∷ xs) ys = ap (λ (r : List _). g x ∷ r) (map-append g xs ys)
+
+flatten-append : {A : Type 0} (xs ys : List (List A)) → flatten (xs ++ ys) ≡ flatten xs ++ flatten ys
+unfolding flatten
+flatten-append [] ys = refl
+flatten-append (x ∷ xs) ys = ap (λ (r : List _). x ++ r) (flatten-append xs ys) ∙ sym (append-assoc x (flatten xs) (flatten ys))
+
+-- ---- the leaves of a tree
+-- one after another they are its triangle numbers
+pub leaves-numbers : (t : Tree) → flatten (leaves t) ≡ numbers t
+unfolding leaves numbers flatten
+leaves-numbers (leaf part) = append-nil part
+leaves-numbers (branch l r) = flatten-append (leaves l) (leaves r) ∙ (λ i. leaves-numbers l i ++ leaves-numbers r i)
+
+pub leaves-least : (t : Tree) → 1 ≤ length (leaves t)
+unfolding leaves
+leaves-least (leaf part) = omega arith
+leaves-least (branch l r) = omega (arith, leaves-least l, length-append (leaves l) (leaves r))
+
+pub leaves-most : (t : Tree) → Filled t → length (leaves t) ≤ length (numbers t)
+unfolding leaves numbers
+leaves-most (leaf part) f = omega arith
+leaves-most (branch l r) f =
+    omega (arith, leaves-most l (f .0), leaves-most r (f .1), length-append (leaves l) (leaves r), length-append (numbers l) (numbers r))
+
+-- each has the box that its triangles give it
+pub leaves-boxed : (boxAt : ℕ → Box) (node entry : ℕ) (t : Tree) → map (λ (l : Leaf). l .box) (leavesFrom boxAt node entry t) ≡ map (joined boxAt) (leaves t)
+unfolding leavesFrom leaves
+leaves-boxed boxAt node entry (leaf part) = refl
+leaves-boxed boxAt node entry (branch l r) =
+    map-append _ (leavesFrom boxAt node entry l) _
+    ∙ (λ i. leaves-boxed boxAt node entry l i ++ leaves-boxed boxAt (node + nodeCount l) (entry + length (numbers l)) r i)
+    ∙ sym (map-append (joined boxAt) (leaves l) (leaves r))
+
+-- and its part of an order list in which the tree's triangle numbers stand
+pub leaves-parts : (boxAt : ℕ → Box) (order : List ℕ) (node entry : ℕ) (t : Tree) → Stands 0 order entry (numbers t) → map (partOf order) (leavesFrom boxAt node entry t) ≡ leaves t
+unfolding leavesFrom leaves numbers
+leaves-parts boxAt order node entry (leaf part) s =
+    let cut : Tables.part order entry (entry + length part - entry) ≡ part = stands-part 0 order part entry (entry + length part - entry) (omega arith) s in
+    ap (λ (p : List ℕ). p ∷ []) cut
+leaves-parts boxAt order node entry (branch l r) s =
+    let mid : ℕ = entry + length (numbers l) in
+    map-append _ (leavesFrom boxAt node entry l) _
+    ∙ (λ i. leaves-parts boxAt order node entry l (stands-first 0 order (numbers l) (numbers r) entry s) i
+    ++ leaves-parts boxAt order (node + nodeCount l) mid r (stands-second 0 order (numbers l) (numbers r) entry mid refl s) i)
+
+-- ---- a number that stands in a list of parts, in which none stands twice, stands in exactly one of them
+neither : (a b : Bool) → (a || b) ≡ false → (a ≡ false) × (b ≡ false)
+neither true b h = absurd (true≢false h)
+neither false b h = (refl, h)
+
+distinct-behind : (xs ys : List ℕ) → distinct (xs ++ ys) ≡ true → distinct ys ≡ true
+unfolding distinct
+distinct-behind [] ys d = d
+distinct-behind (x ∷ xs) ys d = distinct-behind xs ys (both-passed (not (occurs x (xs ++ ys))) (distinct (xs ++ ys)) d .1)
+
+module _ (k : ℕ) where
+  not-behind : (xs ys : List ℕ) → distinct (xs ++ ys) ≡ true → occurs k xs ≡ true → occurs k ys ≡ false
+  unfolding distinct occurs
+  not-behind [] ys d o = absurd (true≢false (sym o))
+  not-behind (x ∷ xs) ys d o =
+      let both = both-passed (not (occurs x (xs ++ ys))) (distinct (xs ++ ys)) d in
+      at (eqb x k) refl (not-true (occurs x (xs ++ ys)) (both .0)) (not-behind xs ys (both .1)) o
+    where
+      at : (b : Bool) → eqb x k ≡ b → occurs x (xs ++ ys) ≡ false → (occurs k xs ≡ true → occurs k ys ≡ false) → (b || occurs k xs) ≡ true → occurs k ys ≡ false
+      at true p free rest q =
+          let free-of-k : occurs k (xs ++ ys) ≡ false = subst (λ (j : ℕ). occurs j (xs ++ ys) ≡ false) (eqb-true x k p) free in
+          neither (occurs k xs) (occurs k ys) (sym (occurs-append k xs ys) ∙ free-of-k) .1
+      at false p free rest q = rest q
+
+  parts-none : (parts : List (List ℕ)) → occurs k (flatten parts) ≡ false → partsWith k parts ≡ 0
+  unfolding partsWith flatten
+  parts-none [] h = refl
+  parts-none (part ∷ parts) h =
+      let free = neither (occurs k part) (occurs k (flatten parts)) (sym (occurs-append k part (flatten parts)) ∙ h) in
+      rw (free .0, parts-none parts (free .1))
+
+  parts-one : (parts : List (List ℕ)) → distinct (flatten parts) ≡ true → occurs k (flatten parts) ≡ true → partsWith k parts ≡ 1
+  unfolding partsWith flatten occurs
+  parts-one [] d h = absurd (true≢false (sym h))
+  parts-one (part ∷ parts) d h = at (occurs k part) refl (parts-one parts (distinct-behind part (flatten parts) d)) (sym (occurs-append k part (flatten parts)) ∙ h)
+    where
+      at : (b : Bool) → occurs k part ≡ b → (occurs k (flatten parts) ≡ true → partsWith k parts ≡ 1) → (occurs k part || occurs k (flatten parts)) ≡ true
+          → oneIf (occurs k part) + partsWith k parts ≡ 1
+      at true p rest q = rw (p, parts-none parts (not-behind part (flatten parts) d p))
+      at false p rest q = rw (p, rest (rw p at q))
+
+up-to-has : (n k : ℕ) → k < n → occurs k (upTo n) ≡ true
+unfolding upTo occurs
+up-to-has zero k h = absurd (omega arith)
+up-to-has (suc n) k h = occurs-append k (upTo n) (n ∷ []) ∙ at (decLt k n) (up-to-has n k)
+  where
+    at : Dec (k < n) → (k < n → occurs k (upTo n) ≡ true) → (occurs k (upTo n) || (eqb n k || false)) ≡ true
+    at (yes p) before = rw (before p)
+    at (no p) before = let e : n ≡ k = omega arith in rw (eq-eqb n k e) (or-true (occurs k (upTo n)))
+
+module _ (boxAt : ℕ → Box) (order links : List ℕ) (boxes : List Float) where
+  -- of a tree that stands in the lists, the leaves that are read are the tree's
+  listed-leaves : (t : Tree) (first entry node last : ℕ) → Listed boxAt order links boxes first entry node last t
+      → map (leafAt links boxes) (leafNodes links first (nodeCount t)) ≡ leavesFrom boxAt first entry t
+  unfolding nodeCount leavesFrom linksFrom boxesOf leafNodes
+  listed-leaves (leaf part) first entry node last s =
+      let own : NodeLinks links first 1 entry (entry + length part) = links-read links first 1 entry (entry + length part) (s .links-stand) in
+      let box : nodeBox boxes first ≡ joined boxAt part = box-read boxes first (joined boxAt part) (s .boxes-stand) in
+      rw (own .kind-is) (λ i. record { node = first; first = own .left-is i; last = own .right-is i; box = box i } ∷ [])
+  listed-leaves (branch l r) first entry node last s =
+      let h : Halves boxAt order links boxes first entry node last l r = halves boxAt order links boxes first entry node last l r s in
+      let own : first + (nodeCount l + nodeCount r) ≡ node = omega (arith, h .right-next, root-last (first + nodeCount l) r) in
+      let kind : kindAt links (first + (nodeCount l + nodeCount r)) ≡ 2 = rw own (h .own .kind-is) in
+      let none : leafNodes links (first + (nodeCount l + nodeCount r)) 1 ≡ [] = other-node links _ 0 (λ p. omega arith) in
+      let left = leafNodes links first (nodeCount l) in
+      let right = leafNodes links (first + nodeCount l) (nodeCount r) in
+      let nodes : leafNodes links first (nodeCount l + nodeCount r + 1) ≡ left ++ right =
+      leaf-nodes-then links first (nodeCount l + nodeCount r) 1
+      ∙ (λ i. leaf-nodes-then links first (nodeCount l) (nodeCount r) i ++ none i)
+      ∙ append-nil (left ++ right)
+      in
+      ap (map (leafAt links boxes)) nodes
+      ∙ map-append (leafAt links boxes) left right
+      ∙ (λ i. listed-leaves l first entry (rootFrom first l) (entry + length (numbers l)) (h .left) i
+      ++ listed-leaves r (first + nodeCount l) (entry + length (numbers l)) (rootFrom (first + nodeCount l) r) last (h .right) i)
+
+-- what is read at a place of a mapped list, whatever stands behind its end
+getD-map : {A B : Type 0} (g : A → B) (l : List A) (k : ℕ) (d : A) (e : B) → k < length l → getD (map g l) k e ≡ g (getD l k d)
+getD-map g [] k d e h = absurd (omega arith)
+getD-map g (x ∷ xs) zero d e h = refl
+getD-map g (x ∷ xs) (suc k) d e h = getD-map g xs k d e (omega arith)
+
+-- a leaf of these triangles was found: its part of the order list, and the box that its triangles give it
+pub record TheLeaf (boxAt : ℕ → Box) (order : List ℕ) (f : LeafFound) (part : List ℕ) : Type 0 where
+  pub leaf : Leaf
+  pub found-is : f ≡ found leaf
+  pub part-is : partOf order leaf ≡ part
+  pub box-is : leaf .box ≡ joined boxAt part
+
+-- ---- what is read off the lists of a tree
+module _ (boxAt : ℕ → Box) (n : ℕ) (order links : List ℕ) (boxes : List Float) (nodes : ℕ) (t : Tree) (s : Listing boxAt n order links boxes nodes t) where
+  stands : Listed boxAt order links boxes 0 0 (nodes - 1) n t
+  stands = listing-stands boxAt n order links boxes nodes t s
+
+  -- the leaves are the tree's
+  pub leaves-read : map (leafAt links boxes) (leafNodes links 0 nodes) ≡ leavesFrom boxAt 0 0 t
+  leaves-read = rw (s .nodes-are) (listed-leaves boxAt order links boxes t 0 0 (nodes - 1) n stands)
+
+  -- their parts are the tree's leaves, and one after another the whole order list
+  pub parts-read : map (partOf order) (leavesFrom boxAt 0 0 t) ≡ leaves t
+  parts-read = leaves-parts boxAt order 0 0 t (stands .part)
+
+  pub parts-whole : flatten (leaves t) ≡ order
+  parts-whole = leaves-numbers t ∙ sym (s .order-is)
+
+  -- each triangle stands in exactly one
+  pub in-one-leaf : (k : ℕ) → k < n → partsWith k (leaves t) ≡ 1
+  unfolding permutes
+  in-one-leaf k h = parts-one k (leaves t) (rw parts-whole order-distinct) (rw parts-whole (permuted-occurs k (s .permuted) ∙ up-to-has n k h))
+    where
+      order-distinct : distinct order ≡ true
+      order-distinct = both-passed (eqb (length order) n && allBelow n order) (distinct order) (permutes-test n order (s .permuted)) .1
+
+  -- there are as many as are counted, 1 to n
+  pub count-read : leafCount links nodes ≡ length (leaves t)
+  unfolding leafCount
+  count-read =
+      sym (length-map (leafNodes links 0 nodes) (leafAt links boxes)) ∙ ap length leaves-read ∙ sym (length-map (leavesFrom boxAt 0 0 t) (partOf order)) ∙ ap length parts-read
+
+  pub count-some : 1 ≤ leafCount links nodes
+  count-some = omega (arith, count-read, leaves-least t)
+
+  pub count-few : leafCount links nodes ≤ n
+  count-few = omega (arith, count-read, leaves-most t (s .filled), ap length (s .order-is), permutes-length n order (s .permuted))
+
+  -- the k-th leaf that is read is the tree's: its part, and the box that its triangles give it
+  pub leaf-is : (k : ℕ) → leafFrom links boxes nodes 0 k ≡ kth (leavesFrom boxAt 0 0 t) k
+  unfolding leafFrom
+  leaf-is k = let all : nodes - 0 ≡ nodes = omega arith in rw (all, leaves-read)
+
+  -- past the last there is nothing
+  pub leaf-none : (k : ℕ) → leafCount links nodes ≤ k → leafFrom links boxes nodes 0 k ≡ nothing
+  leaf-none k h = leaf-is k ∙ kth-none (leavesFrom boxAt 0 0 t) k (omega (arith, count-read, ap length parts-read, length-map (leavesFrom boxAt 0 0 t) (partOf order)))
+
+  pub leaf-some : (k : ℕ) → k < leafCount links nodes → TheLeaf boxAt order (leafFrom links boxes nodes 0 k) (getD (leaves t) k [])
+  leaf-some k h =
+      let all = leavesFrom boxAt 0 0 t in
+      let none : Leaf = record { node = 0; first = 0; last = 0; box = boxAt 0 } in
+      let long : length all ≡ length (leaves t) = sym (length-map all (partOf order)) ∙ ap length parts-read in
+      let within : k < length all = omega (arith, count-read) in
+      record {
+        leaf = getD all k none;
+        found-is = leaf-is k ∙ kth-some all k none within;
+        part-is = sym (getD-map (partOf order) all k none [] within) ∙ ap (λ (l : List (List ℕ)). getD l k []) parts-read;
+        box-is =
+            sym (getD-map (λ (l : Leaf). l .box) all k none (boxAt 0) within)
+            ∙ ap (λ (l : List Box). getD l k (boxAt 0)) (leaves-boxed boxAt 0 0 t)
+            ∙ getD-map (joined boxAt) (leaves t) k [] (boxAt 0) (omega (arith, count-read));
+      }
+
+-- ---- lists that pass
+module _ (triangles : List Float) (order links : List ℕ) (boxes : List Float) (nodes : ℕ) (p : checkRefusal triangles order links boxes nodes ≡ passes) where
+  pub passed-accepted : accepted (boxAt triangles) (triangleCount triangles) order links boxes nodes ≡ true
+  unfolding checkRefusal treeRefusal
+  passed-accepted = so _ 7 0 (all-pass _ p .1 .0)
+
+  -- hold a tree
+  passed-listed : (t : Tree) × Listing (boxAt triangles) (triangleCount triangles) order links boxes nodes t
+  passed-listed = accepted-listed (boxAt triangles) (triangleCount triangles) order links boxes nodes passed-accepted
+
+  pub passed-sound : Sound (triangleCount triangles) order links boxes nodes
+  passed-sound = listing-sound (boxAt triangles) (triangleCount triangles) order links boxes nodes (passed-listed .0) (passed-listed .1)
+
+  pub passed-there : NodesThere links boxes nodes
+  passed-there = record { links-there = passed-sound .links-there; boxes-there = passed-sound .boxes-there }
+
+-- ---- what the calls answer
+module _ (triangles : List Float) (order links : List ℕ) (boxes : List Float) (nodes : ℕ) where
+  pub leaf-refused : (k number place : ℕ) → checkRefusal triangles order links boxes nodes ≡ refused number place → notSought number place ≡ leafAnswer triangles order links boxes nodes k
+  unfolding leafAnswer
+  leaf-refused k number place p = rw p
+
+  pub leaf-sought : (k : ℕ) (f : LeafFound) → checkRefusal triangles order links boxes nodes ≡ passes → f ≡ leafFrom links boxes nodes 0 k → f ≡ leafAnswer triangles order links boxes nodes k
+  unfolding leafAnswer
+  leaf-sought k f p q = rw p q
+
+  pub count-refused : (number place : ℕ) → checkRefusal triangles order links boxes nodes ≡ refused number place → notCounted number place ≡ countAnswer triangles order links boxes nodes
+  unfolding countAnswer
+  count-refused number place p = rw p
+
+  pub count-made : (n : ℕ) → checkRefusal triangles order links boxes nodes ≡ passes → n ≡ leafCount links nodes → counted n ≡ countAnswer triangles order links boxes nodes
+  unfolding countAnswer
+  count-made n p q = rw p (ap counted q)
