@@ -2,8 +2,8 @@
 use mathlib.Core.Bool.{Bool, true, false}
 use mathlib.Core.List.{List, [], _∷_, _++_, map}
 use Prim.Native.Nat.{ℕ, zero, suc, _+_, _-_, _*_, _≤_}
-use lib.Dec.{eqb}
-use lib.ListN.{length}
+use lib.Dec.{ltb, eqb}
+use lib.ListN.{length, getD}
 use lib.Ieee.{Float}
 use Rattle.spec_tables.specs.Tables as Tables
 use Rattle.spec_shapes.specs.Boxes.{Box}
@@ -87,6 +87,28 @@ soughtIf (refused number place) l = notSought number place
 
 unfoldable pub leafAnswer : (triangles : List Float) (order links : List ℕ) (boxes : List Float) (nodes k : ℕ) → LeafFound
 leafAnswer triangles order links boxes nodes k = soughtIf (checkRefusal triangles order links boxes nodes) (leafFrom links boxes nodes 0 k)
+
+-- a triangle of a leaf, or nothing where it has not so many, or the refusal
+pub data EntryFound : Type 0 where
+  noEntry : EntryFound
+  triangle : ℕ → EntryFound
+  notAsked : (number place : ℕ) → EntryFound
+
+abbrev pub entryIf : Bool → ℕ → EntryFound
+entryIf true t = triangle t
+entryIf false t = noEntry
+
+-- what stands at a place of a leaf's part
+unfoldable pub entryAt : List ℕ → ℕ → EntryFound
+entryAt part i = entryIf (ltb i (length part)) (getD part i 0)
+
+abbrev pub entryIn : List ℕ → LeafFound → ℕ → EntryFound
+entryIn order nothing i = noEntry
+entryIn order (found l) i = entryAt (partOf order l) i
+entryIn order (notSought number place) i = notAsked number place
+
+unfoldable pub entryAnswer : (triangles : List Float) (order links : List ℕ) (boxes : List Float) (nodes k i : ℕ) → EntryFound
+entryAnswer triangles order links boxes nodes k i = entryIn order (leafAnswer triangles order links boxes nodes k) i
 
 pub data LeavesCounted : Type 0 where
   counted : ℕ → LeavesCounted
