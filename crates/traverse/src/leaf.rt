@@ -1,0 +1,80 @@
+// The leaf reader: a struct that shows a caller a leaf's part of the order list, and thin functions over it.
+// The borrow checker covers no function over a struct that holds a reference, so each is proved by hand. The work is done by plain functions,
+// and whoever calls `entry_of`, whose parameters are a slice and a number, needs no proof by hand.
+ghost use mathlib.Core.Path.{_≡_};
+ghost use lib.ListN.{length};
+ghost use Rattle.spec_tree.specs.Leaves as Leaves;
+ghost use Rattle.traverse.specs.Values as Values;
+use crate::traverse::LeafFound;
+use crate::traverse::leaf;
+
+pub struct Leaf<'a> {
+    pub part: &'a [u32],
+}
+
+// A triangle of a leaf.
+pub enum EntryFound {
+    Nothing,
+    Triangle(u32),
+    Refused { number: usize, place: usize },
+}
+
+// What stands at a place of a leaf's part.
+pub fn entry_at(part: &[u32], i: usize) -> EntryFound
+    ensures { λ r. ⌜ Values.asEntryFound r ≡ Leaves.entryAt (now (part .entry)) i ⌝ }
+{
+    if i < part.len() {
+        return EntryFound::Triangle(part[i]);
+    }
+    EntryFound::Nothing
+}
+
+impl<'a> Leaf<'a> {
+    // Of a leaf's part of the order list.
+    pub fn of(part: &'a [u32]) -> Leaf<'a>
+        ensures { λ r. ⌜ r .part ≡ part .entry ⌝ }
+    {
+        Leaf { part }
+    }
+
+    // How many triangles it has.
+    pub fn len(self) -> usize
+        ensures { λ r. ⌜ r ≡ length (now (self .entry .part)) ⌝ }
+    {
+        self.part.len()
+    }
+
+    // Its i-th triangle, counted from 0.
+    pub fn entry(self, i: usize) -> EntryFound
+        ensures { λ r. ⌜ Values.asEntryFound r ≡ Leaves.entryAt (now (self .entry .part)) i ⌝ }
+    {
+        entry_at(self.part, i)
+    }
+}
+
+// The i-th triangle of a leaf's part, by way of its reader.
+pub fn entry_of(part: &[u32], i: usize) -> EntryFound
+    ensures { λ r. ⌜ Values.asEntryFound r ≡ Leaves.entryAt (now (part .entry)) i ⌝ }
+{
+    Leaf::of(part).entry(i)
+}
+
+// The i-th triangle of the tree's k-th leaf, both counted from 0, over any lists at all: 1 to 4 and 7 refuse.
+pub fn leaf_entry(
+    triangles: &[f32],
+    order: &[u32],
+    links: &[u32],
+    boxes: &[f32],
+    nodes: usize,
+    k: usize,
+    i: usize,
+) -> EntryFound
+    ensures { λ r. ⌜ Values.asEntryFound r ≡ Leaves.entryAnswer (now (triangles .entry)) (now (order .entry)) (now (links .entry)) (now (boxes .entry)) nodes k i ⌝ }
+{
+    let found = leaf(triangles, order, links, boxes, nodes, k);
+    match found {
+        LeafFound::Nothing => EntryFound::Nothing,
+        LeafFound::Leaf { first, last, .. } => entry_of(&order[first..last], i),
+        LeafFound::Refused { number, place } => EntryFound::Refused { number, place },
+    }
+}
