@@ -20,7 +20,7 @@ use Rattle.spec_tree.specs.Order.{upTo, Permutes, permutes, occurs, allB
 use Rattle.spec_tree.specs.Accepted.{Listing, accepted}
 use Rattle.spec_tree.specs.Hangs.{Sound}
 use Rattle.spec_tree.specs.Refusals.{treeRefusal, checkRefusal}
-use Rattle.spec_tree.specs.Leaves.{leaves, Leaf, leavesFrom, partOf, oneIf, partsWith, leafNodes, leafAt, leafCount, LeafFound, nothing, found, notSought, kth, leafFrom, NodesThere, soughtIf, leafAnswer, EntryFound, noEntry, notAsked, entryAt, entryAnswer, counted, notCounted, countAnswer}
+use Rattle.spec_tree.specs.Leaves.{leaves, Leaf, leavesFrom, partOf, oneIf, partsWith, leafNodes, leafAt, leafCount, LeafFound, nothing, found, notSought, kth, leafFrom, NodesThere, soughtIf, leafAnswer, EntryFound, noEntry, notAsked, entryAt, entryAnswer, counted, notCounted, countedIf, countAnswer}
 use Rattle.spec_tree.proofs.Standing.{Stands, stands-first, stands-second, stands-part}
 use Rattle.spec_tree.proofs.Nodes.{NodeLinks, links-read, box-read}
 use Rattle.spec_tree.proofs.Trees.{root-last}
@@ -282,3 +282,12 @@ module _ (triangles : List Float) (order links : List ℕ) (boxes : List Float) 
   pub entry-read : (k i : ℕ) (l : Leaf) (e : EntryFound) → leafAnswer triangles order links boxes nodes k ≡ found l → e ≡ entryAt (partOf order l) i → e ≡ entryAnswer triangles order links boxes nodes k i
   unfolding entryAnswer
   entry-read k i l e p q = rw p q
+
+  -- what is counted is there
+  pub counted-there : (n : ℕ) → countAnswer triangles order links boxes nodes ≡ counted n → NodesThere links boxes nodes
+  unfolding countAnswer
+  counted-there n = at (checkRefusal triangles order links boxes nodes) refl
+    where
+      at : (v : Verdict) → checkRefusal triangles order links boxes nodes ≡ v → countedIf v (leafCount links nodes) ≡ counted n → NodesThere links boxes nodes
+      at passes p q = passed-there triangles order links boxes nodes p
+      at (refused number place) p q = absurd (let z : _≡_ {A = ℕ} 0 1 = cc in omega arith)
