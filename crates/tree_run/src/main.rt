@@ -1,7 +1,10 @@
 // Prints what the tree check says of a tree over two triangles and of the same lists with one entry
-// changed. The file `stdout` beside src/ was written by hand: only the tree itself is accepted.
-ghost use Prim.Native.Nat.{_<_};
+// changed, and of trees of 64 and 65 levels. The file `stdout` beside src/ was written by hand: only
+// the tree itself and the one of 64 levels are accepted.
+ghost use Prim.Native.Nat.{_<_, _≤_};
 use aabb_tree::check::is_accepted;
+use aabb_tree::refusals::check;
+use lists::refusal::Verdict;
 
 struct Lists {
     order: [u32; 2],
@@ -126,6 +129,69 @@ fn put_boxes() {
     }
 }
 
+// 0, 1 and so on.
+fn numbers() -> [u32; 65] {
+    let mut order = [0u32; 65];
+    let mut t = 0u32;
+    while t < 65 {
+        order[t as usize] = t;
+        t += 1;
+    }
+    order
+}
+
+// A comb: each branch has all that stands before it at its left and a leaf of one triangle at its right, so n triangles make n levels.
+fn comb() -> [u32; 387] {
+    let mut links = [0u32; 387];
+    links[0] = 1;
+    links[2] = 1;
+    let mut t = 1u32;
+    while t < 65 {
+        let at = 6 * (t as usize) - 3;
+        links[at] = 1;
+        links[at + 1] = t;
+        links[at + 2] = t + 1;
+        links[at + 3] = 2;
+        links[at + 4] = 2 * t - 2;
+        links[at + 5] = 2 * t - 1;
+        t += 1;
+    }
+    links
+}
+
+fn put_verdict(verdict: Verdict) {
+    match verdict {
+        Verdict::Passed => {
+            io::write_all(1, b" passes");
+        }
+        Verdict::Refused { number, place } => {
+            io::write_all(1, b" ");
+            io::print_decimal(1, number as u64);
+            io::write_all(1, b" at ");
+            io::print_decimal(1, place as u64);
+        }
+    }
+}
+
+// All triangles are the origin, and so are all boxes.
+fn put_comb(n: usize)
+    requires { ⌜ (0 < n) × (n ≤ 65) ⌝ }
+{
+    let triangles = [0.0f32; 585];
+    let order = numbers();
+    let links = comb();
+    let boxes = [0.0f32; 774];
+    let coordinates = 9 * n;
+    let nodes = 2 * n - 1;
+    put_verdict(check(
+        &triangles[..coordinates],
+        &order[..n],
+        &links,
+        &boxes,
+        nodes,
+    ));
+}
+
 fn main() {
     io::write_all(1, b"the tree");
     put(tree());
@@ -139,5 +205,9 @@ fn main() {
     put_links();
     io::write_all(1, b"\neach box number as minus zero");
     put_boxes();
+    io::write_all(1, b"\n64 levels");
+    put_comb(64);
+    io::write_all(1, b"\n65 levels");
+    put_comb(65);
     io::write_all(1, b"\n");
 }
