@@ -1,0 +1,48 @@
+-- The one number that an exported call answers: done, with a count, or a refusal's number and place. Definitions only.
+use Prim.Native.Nat.{ℕ, _+_, _*_, _-_, _/_, _%_, _^_, _≤_, _<_}
+use mathlib.Core.Path.{_≡_}
+use mathlib.Core.Bool.{cond}
+use lib.Dec.{eqb, leb}
+use Rattle.spec_lists.specs.Refusals.{Verdict, passes, refused}
+
+-- the place of an 8 may be the length of a list, so it has all bits but the top one; any other stands below its number, in the top byte
+unfoldable pub toldRefusal : (number place : ℕ) → ℕ
+toldRefusal number place = cond (eqb number 8) (2 ^ 63 + place) (number * 2 ^ 56 + place)
+
+abbrev pub told : Verdict → (count : ℕ) → ℕ
+told passes count = count
+told (refused number place) count = toldRefusal number place
+
+-- ---- how a host reads it
+-- 0: done
+unfoldable pub numberTold : ℕ → ℕ
+numberTold n = cond (leb (2 ^ 63) n) 8 (n / 2 ^ 56)
+
+unfoldable pub placeTold : ℕ → ℕ
+placeTold n = cond (leb (2 ^ 63) n) (n - 2 ^ 63) (n % 2 ^ 56)
+
+-- where it is done
+unfoldable pub countTold : ℕ → ℕ
+countTold n = n % 2 ^ 56
+
+-- ---- what can be told
+abbrev pub placesOf : (number : ℕ) → ℕ
+placesOf number = cond (eqb number 8) (2 ^ 63) (2 ^ 56)
+
+pub record Placed (number place : ℕ) : Type 0 where
+  pub some : 1 ≤ number
+  pub most : number ≤ 10
+  pub near : place < placesOf number
+
+abbrev pub InPlace : Verdict → Type 0
+InPlace passes = Unit {0}
+InPlace (refused number place) = Placed number place
+
+pub record Tellable (v : Verdict) (count : ℕ) : Type 0 where
+  pub verdict : InPlace v
+  pub counted : count < 2 ^ 56
+
+-- ---- what is read back is what was told
+abbrev pub Heard : Verdict → (count : ℕ) → ℕ → Type 0
+Heard passes count n = (numberTold n ≡ 0) × (countTold n ≡ count)
+Heard (refused number place) count n = (numberTold n ≡ number) × (placeTold n ≡ place)
