@@ -8,16 +8,29 @@ use Rattle.spec_tables.specs.Tables.{over}
 use Rattle.spec_records.specs.Layouts.{version1}
 use Rattle.spec_image.specs.Image.{Image}
 use Rattle.spec_image.specs.Reading as Reading
+use Rattle.spec_image.specs.Writing as Writing
 use Rattle.lists.specs.declared.settings.Settings.{Settings}
 use Rattle.lists.specs.Values.{asSettings}
 use Rattle.image.specs.declared.read.Rooms.{Rooms}
 use Rattle.image.specs.declared.read.ImageRead.{ImageRead}
 use Rattle.image.specs.declared.read.ImageRead.the-variants.{Refused, Read}
+use Rattle.image.specs.declared.write.ImageWritten.{ImageWritten}
+use Rattle.image.specs.declared.write.ImageWritten.the-variants as Written
 
 -- a tree in lent lists
 abbrev pub imageOf : Settings → List Float → List ℕ → List ℕ → List Float → ℕ → Image
 imageOf s triangles order links boxes nodes = record {
   settings = asSettings s;
+  triangles = triangles;
+  order = order;
+  nodes = nodes;
+  links = links;
+  boxes = boxes;
+}
+
+abbrev pub imageFrom : (strategy leafMinimum maximumDepth : ℕ) → List Float → List ℕ → List ℕ → List Float → ℕ → Image
+imageFrom strategy leafMinimum maximumDepth triangles order links boxes nodes = record {
+  settings = record { strategy = strategy; leafMinimum = leafMinimum; maximumDepth = maximumDepth };
   triangles = triangles;
   order = order;
   nodes = nodes;
@@ -46,3 +59,12 @@ roomsIn t o l b = record { triangles = length t; order = length o; links = lengt
 pub record ReadIs (s : List ℕ) (r : ImageRead) (t : List Float) (o l : List ℕ) (b t′ : List Float) (o′ l′ : List ℕ) (b′ : List Float) : Type 0 where
   pub answer : answerOf r ≡ Reading.imageRead version1 s (roomsIn t o l b)
   pub filled : Filled (Reading.filledBy version1 s (answerOf r)) t o l b t′ o′ l′ b′
+
+abbrev pub asWritten : ImageWritten → Writing.ImageWritten
+asWritten (Written.Refused number place) = Writing.refused number place
+asWritten (Written.Bytes bytes) = Writing.wrote bytes
+
+-- the tests, then the bytes
+pub record WrittenIs (x : Image) (r : ImageWritten) (out out′ : List ℕ) : Type 0 where
+  pub answer : asWritten r ≡ Writing.imageWritten version1 x (length out)
+  pub filled : out′ ≡ Writing.bytesAfter version1 x out

@@ -1,107 +1,110 @@
-// Writing an image, record by record, each behind the other.
-use lists::settings::Settings;
-use little_endian::put_f32s;
-use little_endian::put_u16;
-use little_endian::put_u16s;
-use little_endian::put_u32;
+// Writing an image: the tests 1 to 7 in turn, then the bytes.
 ghost use mathlib.Core.Path.{_≡_};
-ghost use Prim.Native.Nat.{_+_, _*_, _≤_};
+ghost use mathlib.Core.Bool.{not};
+ghost use Prim.Native.Nat.{_≤_, _<_, _^_};
+ghost use lib.Dec.{ltb};
 ghost use lib.ListN.{length};
-ghost use lib.Ieee.{binary32};
-ghost use Rattle.spec_tables.specs.Tables.{many, Put};
-ghost use Rattle.spec_records.specs.Entries.{numberBytes, floatBytes};
-ghost use Rattle.spec_records.specs.Records.{header, recordOf};
 ghost use Rattle.spec_records.specs.Layouts.{version1, imageSize};
-ghost use Rattle.spec_image.specs.Image.{settingsBytes, nodeBytes, imageBytes};
-ghost use Rattle.spec_image.specs.Stored.{Complete};
-ghost use Rattle.lists.specs.Values.{asSettings};
-ghost use Rattle.image.specs.Values.{imageOf};
+ghost use Rattle.spec_lists.specs.Limits.{mostTriangles};
+ghost use Rattle.spec_lists.specs.Refusals as Refusals;
+ghost use Rattle.spec_image.specs.Writing.{writeRefusal};
+ghost use Rattle.lists.specs.Values.{asVerdict};
+ghost use Rattle.image.specs.Values.{imageOf, imageFrom, WrittenIs};
+use crate::put::put_image;
+use aabb_tree::refusals::tree_refusal;
+use lists::refusal::Verdict;
+use lists::refusal::refused_if;
+use lists::settings::Settings;
+use lists::settings::settings_refusal;
+use lists::triangles::triangle_count;
+use lists::triangles::triangles_refusal;
 
-fn put_header(out: &mut [u8], at: usize, size: usize, kind: usize) -> usize
-    requires { ⌜ at + 6 ≤ length (now out) ⌝ }
-    ensures { λ r. ⌜ Put at (header size kind) (now (out .entry)) (now (out .exit)) r ⌝ }
-    ensures { λ r. ⌜ r ≡ at + 6 ⌝ }
-{
-    let next = put_u32(out, at, size);
-    put_u16(out, next, kind)
+// A refusal, or how many bytes were written.
+pub enum ImageWritten {
+    Refused { number: usize, place: usize },
+    Bytes(usize),
 }
 
-fn put_settings(settings: Settings, out: &mut [u8]) -> usize
-    requires { ⌜ 14 ≤ length (now out) ⌝ }
-    ensures { λ r. ⌜ Put 0 (recordOf 1 (settingsBytes version1 (asSettings settings))) (now (out .entry)) (now (out .exit)) r ⌝ }
-    ensures { λ r. ⌜ r ≡ 14 ⌝ }
+// How many bytes the image of so many triangles and nodes has.
+pub fn image_size(triangles: usize, nodes: usize) -> usize
+    requires { ⌜ imageSize version1 triangles nodes < 2 ^ 64 ⌝ }
+    ensures { λ r. ⌜ r ≡ imageSize version1 triangles nodes ⌝ }
 {
-    let body = put_header(out, 0, 8, 1);
-    let a = put_u16(out, body, 1);
-    let b = put_u16(out, a, settings.strategy);
-    let c = put_u16(out, b, settings.leaf_minimum);
-    put_u16(out, c, settings.maximum_depth)
+    32 + 38 * triangles + 30 * nodes
 }
 
-fn put_triangles(triangles: &[f32], out: &mut [u8], at: usize) -> usize
-    requires { ⌜ at + 6 + 4 * length (now triangles) ≤ length (now out) ⌝ }
-    ensures { λ r. ⌜ Put at (recordOf 2 (floatBytes binary32 (now (triangles .entry)) 0 (length (now (triangles .entry))))) (now (out .entry)) (now (out .exit)) r ⌝ }
-    ensures { λ r. ⌜ r ≡ at + 6 + 4 * length (now (triangles .entry)) ⌝ }
+// A node count of any size, however large, is asked for: it is held to the room before it is multiplied.
+fn is_short(given: usize, triangles: usize, nodes: usize) -> bool
+    requires { ⌜ (given < 2 ^ 63) × (triangles ≤ mostTriangles) ⌝ }
+    ensures { λ r. ⌜ r ≡ ltb given (imageSize version1 triangles nodes) ⌝ }
 {
-    let body = put_header(out, at, 4 * triangles.len(), 2);
-    put_f32s(triangles, 0, triangles.len(), out, body)
-}
-
-fn put_order(order: &[u32], out: &mut [u8], at: usize) -> usize
-    requires { ⌜ at + 6 + 2 * length (now order) ≤ length (now out) ⌝ }
-    ensures { λ r. ⌜ Put at (recordOf 3 (numberBytes 2 (now (order .entry)) 0 (length (now (order .entry))))) (now (out .entry)) (now (out .exit)) r ⌝ }
-    ensures { λ r. ⌜ r ≡ at + 6 + 2 * length (now (order .entry)) ⌝ }
-{
-    let body = put_header(out, at, 2 * order.len(), 3);
-    put_u16s(order, 0, order.len(), out, body)
-}
-
-// Its kind, left and right, and its box.
-fn put_node(links: &[u32], boxes: &[f32], node: usize, out: &mut [u8], at: usize) -> usize
-    requires { ⌜ (3 * node + 3 ≤ length (now links)) × (6 * node + 6 ≤ length (now boxes)) ⌝ }
-    requires { ⌜ at + 30 ≤ length (now out) ⌝ }
-    ensures { λ r. ⌜ Put at (nodeBytes version1 (now (links .entry)) (now (boxes .entry)) node) (now (out .entry)) (now (out .exit)) r ⌝ }
-    ensures { λ r. ⌜ r ≡ at + 30 ⌝ }
-{
-    let sides = put_u16s(links, 3 * node, 1, out, at);
-    let bounds = put_u16s(links, 3 * node + 1, 2, out, sides);
-    put_f32s(boxes, 6 * node, 6, out, bounds)
-}
-
-fn put_nodes(links: &[u32], boxes: &[f32], nodes: usize, out: &mut [u8], at: usize) -> usize
-    requires { ⌜ (3 * nodes ≤ length (now links)) × (6 * nodes ≤ length (now boxes)) ⌝ }
-    requires { ⌜ at + 30 * nodes ≤ length (now out) ⌝ }
-    ensures { λ r. ⌜ Put at (many (nodeBytes version1 (now (links .entry)) (now (boxes .entry))) nodes) (now (out .entry)) (now (out .exit)) r ⌝ }
-    ensures { λ r. ⌜ r ≡ at + 30 * nodes ⌝ }
-{
-    let mut next = at;
-    let mut i = 0;
-    while i < nodes {
-        next = put_node(links, boxes, i, out, next);
-        i += 1;
+    if nodes > given / 30 {
+        return true;
     }
-    next
+    given < image_size(triangles, nodes)
 }
 
-// The image of a tree that has passed the tests, into bytes that have room for it. It answers how many
-// bytes it wrote; those behind them stay as they were.
-pub fn write_image(
+// 6: so many bytes are fewer than the image has.
+fn image_room_refusal(given: usize, triangles: usize, nodes: usize) -> Verdict
+    requires { ⌜ (given < 2 ^ 63) × (triangles ≤ mostTriangles) ⌝ }
+    ensures { λ r. ⌜ asVerdict r ≡ Refusals.roomRefusal given (imageSize version1 triangles nodes) ⌝ }
+{
+    refused_if(is_short(given, triangles, nodes), 6, 0)
+}
+
+// 1 to 7.
+fn write_refusal(
     settings: Settings,
     triangles: &[f32],
     order: &[u32],
     links: &[u32],
     boxes: &[f32],
     nodes: usize,
-    out: &mut [u8],
-) -> usize
-    requires { ⌜ Complete (imageOf settings (now triangles) (now order) (now links) (now boxes) nodes) ⌝ }
-    requires { ⌜ imageSize version1 (length (now order)) nodes ≤ length (now out) ⌝ }
-    ensures { λ r. ⌜ Put 0 (imageBytes version1 (imageOf settings (now (triangles .entry)) (now (order .entry)) (now (links .entry)) (now (boxes .entry)) nodes)) (now (out .entry)) (now (out .exit)) r ⌝ }
-    ensures { λ r. ⌜ r ≡ imageSize version1 (length (now (order .entry))) nodes ⌝ }
+    given: usize,
+) -> Verdict
+    requires { ⌜ given < 2 ^ 63 ⌝ }
+    ensures { λ r. ⌜ asVerdict r ≡ writeRefusal version1 (imageOf settings (now (triangles .entry)) (now (order .entry)) (now (links .entry)) (now (boxes .entry)) nodes) given ⌝ }
 {
-    let second = put_settings(settings, out);
-    let third = put_triangles(triangles, out, second);
-    let fourth = put_order(order, out, third);
-    let body = put_header(out, fourth, 30 * nodes, 4);
-    put_nodes(links, boxes, nodes, out, body)
+    let bad_triangles = triangles_refusal(triangles);
+    if bad_triangles.refuses() {
+        return bad_triangles;
+    }
+    let bad_settings = settings_refusal(settings);
+    if bad_settings.refuses() {
+        return bad_settings;
+    }
+    let no_room = image_room_refusal(given, triangle_count(triangles), nodes);
+    if no_room.refuses() {
+        return no_room;
+    }
+    tree_refusal(triangles, order, links, boxes, nodes)
+}
+
+// The image of a tree in lent lists, from the front of `out`; what stands behind it in `out` stays as it
+// was, and on a refusal all of it.
+pub fn write_image(
+    strategy: usize,
+    leaf_minimum: usize,
+    maximum_depth: usize,
+    triangles: &[f32],
+    order: &[u32],
+    links: &[u32],
+    boxes: &[f32],
+    nodes: usize,
+    out: &mut [u8],
+) -> ImageWritten
+    ensures { λ r. ⌜ WrittenIs (imageFrom strategy «leaf_minimum» «maximum_depth» (now (triangles .entry)) (now (order .entry)) (now (links .entry)) (now (boxes .entry)) nodes) r (now (out .entry)) (now (out .exit)) ⌝ }
+{
+    let settings = Settings {
+        strategy,
+        leaf_minimum,
+        maximum_depth,
+    };
+    let verdict = write_refusal(settings, triangles, order, links, boxes, nodes, out.len());
+    match verdict {
+        Verdict::Refused { number, place } => ImageWritten::Refused { number, place },
+        Verdict::Passed => {
+            ImageWritten::Bytes(put_image(settings, triangles, order, links, boxes, nodes, out))
+        }
+    }
 }

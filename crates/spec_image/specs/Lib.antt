@@ -1,3 +1,4 @@
 pub mod Image
 pub mod Stored
 pub mod Reading
+pub mod Writing

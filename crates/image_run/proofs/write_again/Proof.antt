@@ -6,11 +6,11 @@ use borrow.Author.Needs.{needs}
 use Rattle.image_run.proofs.write_again.Statement.{statement}
 use Rattle.image_run.proofs.write_again.Tie as tie
 
-slice-aggregate-write-image : tie.Need-slice-aggregate-write-image
-slice-aggregate-write-image c = search needs
+slice-aggregate-put-image : tie.Need-slice-aggregate-put-image
+slice-aggregate-put-image c = search needs
 
-write-image-requires : tie.Need-write-image-requires
-write-image-requires c κs = search needs
+put-image-requires : tie.Need-put-image-requires
+put-image-requires c κs = search needs
 
 array-share-prefix-out : tie.Need-array-share-prefix-out
 array-share-prefix-out c = search needs
@@ -31,8 +31,8 @@ pub write-again-spec : {M : Type 1} → statement M
 write-again-spec =
     tie.close
     (tie.spec
-    slice-aggregate-write-image
-    write-image-requires
+    slice-aggregate-put-image
+    put-image-requires
     array-share-prefix-out
     slice-aggregate-same
     same-requires

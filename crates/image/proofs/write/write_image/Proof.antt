@@ -1,56 +1,47 @@
--- `image::write_image` meets its contract: four records, one behind the other.
+-- `image::write_image` meets its contract: the tests, then the image.
 -- Assumes nothing.
-use Prim.Native.Nat.{_*_}
-use native.Mathlib.Omega.{arith}
 use denote.Ref.{now}
-use Rattle.spec_tables.proofs.Tables.{put-then}
-use Rattle.spec_records.specs.Layouts.{version1}
-use Rattle.spec_records.proofs.Records.{record-put}
-use Rattle.spec_image.specs.Image.{imageBytes}
-use Rattle.spec_image.proofs.Sizes.{length-nodes}
-use Rattle.image.specs.Values.{imageOf}
+use Rattle.image.specs.Values.{imageFrom}
+use Rattle.image.proofs.Wrote.{wrote-nothing, can-put, wrote-image}
 use borrow.Author.Needs.{needs}
 use Rattle.image.proofs.write.write_image.Statement.{statement}
 use Rattle.image.proofs.write.write_image.Tie as tie
 
-put-settings-requires : tie.Need-put-settings-requires
-put-settings-requires c κs = search needs
+write-refusal-requires : tie.Need-write-refusal-requires
+write-refusal-requires c κs = search needs
 
-put-triangles-requires : tie.Need-put-triangles-requires
-put-triangles-requires c κs = search needs
+enum-known-verdict : tie.Need-enum-known-verdict
+enum-known-verdict c = search needs
 
-put-order-requires : tie.Need-put-order-requires
-put-order-requires c κs = search needs
+enum-told : tie.Need-enum-told
+enum-told c = search needs
 
-mul-put-header : tie.Need-mul-put-header
-mul-put-header c = search needs
+put-image-requires : tie.Need-put-image-requires
+put-image-requires c κs =
+    let a = c .before .before .before .before .before .before .before .before .before .args in
+    can-put (imageFrom (a .strategy) (a .leaf-minimum) (a .maximum-depth) (now (a .triangles)) (now (a .order)) (now (a .links)) (now (a .boxes)) (a .nodes)) (now (a .out)) (c .before .before .before .write-refusal .ensures) (c .before .enum-told .given .1)
 
-put-header-requires : tie.Need-put-header-requires
-put-header-requires c κs = search needs
-
-put-nodes-requires : tie.Need-put-nodes-requires
-put-nodes-requires c κs = search needs
+returns : tie.Need-returns
+returns c =
+    let a = c .before .before .before .before .before .before .before .before .before .args in
+    wrote-nothing (imageFrom (a .strategy) (a .leaf-minimum) (a .maximum-depth) (now (a .triangles)) (now (a .order)) (now (a .links)) (now (a .boxes)) (a .nodes)) (now (a .out)) (c .before .before .before .write-refusal .ensures) (c .before .verdict .given .1)
 
 same-length : tie.Need-same-length
 same-length c = search needs
 
-returns : tie.Need-returns
-unfolding imageBytes
-returns c =
-    let a = c .before .before .before .before .before .before .before .before .before .before .before .before .before .before .before .before .before .before .before .before .before .before .before .before .before .args in
-    let x = imageOf (a .settings) (now (a .triangles)) (now (a .order)) (now (a .links)) (now (a .boxes)) (a .nodes) in
-    let nodes = record-put 4 (30 * a .nodes) (length-nodes version1 x) (c .before .before .before .before .before .before .«put-header» .ensures .0) (c .before .before .«put-nodes» .ensures .0) in
-    (put-then (put-then (put-then (c .before .before .before .before .before .before .before .before .before .before .before .before .before .before .before .before .before .before .«put-settings» .ensures .0) (c .before .before .before .before .before .before .before .before .before .before .before .before .before .before .«put-triangles» .ensures .0)) (c .before .before .before .before .before .before .before .before .before .before .«put-order» .ensures .0)) nodes, omega (arith, c .before .before .before .before .before .before .before .before .before .before .before .before .before .before .before .before .before .before .before .before .before .before .before .before .before .pre .0 .triples))
+returns-2 : tie.Need-returns-2
+returns-2 c =
+    let a = c .before .before .before .before .before .before .before .before .before .before .before .before .args in
+    wrote-image (imageFrom (a .strategy) (a .leaf-minimum) (a .maximum-depth) (now (a .triangles)) (now (a .order)) (now (a .links)) (now (a .boxes)) (a .nodes)) (now (a .out)) (c .before .before .before .before .before .before .write-refusal .ensures) (c .before .before .before .before .enum-told .given .1) (c .before .before .put-image .ensures .0) (c .before .before .put-image .ensures .1)
 
 pub write-image-spec : {M : Type 1} → statement M
 write-image-spec =
     tie.close
     (tie.spec
-    put-settings-requires
-    put-triangles-requires
-    put-order-requires
-    mul-put-header
-    put-header-requires
-    put-nodes-requires
+    write-refusal-requires
+    enum-known-verdict
+    enum-told
+    put-image-requires
+    returns
     same-length
-    returns)
+    returns-2)

@@ -7,8 +7,8 @@ use denote.Ref.{now}
 use Rattle.spec_records.proofs.Entries.{length-numbers}
 use Rattle.spec_records.proofs.Records.{record-put}
 use borrow.Author.Needs.{needs}
-use Rattle.image.proofs.write.put_order.Statement.{statement}
-use Rattle.image.proofs.write.put_order.Tie as tie
+use Rattle.image.proofs.put.put_order.Statement.{statement}
+use Rattle.image.proofs.put.put_order.Tie as tie
 
 mul-put-header : tie.Need-mul-put-header
 mul-put-header c = search needs

@@ -4,8 +4,8 @@ use native.Mathlib.Omega.{arith}
 use Rattle.spec_tables.proofs.Tables.{put-then}
 use Rattle.spec_image.specs.Image.{nodeBytes}
 use borrow.Author.Needs.{needs}
-use Rattle.image.proofs.write.put_node.Statement.{statement}
-use Rattle.image.proofs.write.put_node.Tie as tie
+use Rattle.image.proofs.put.put_node.Statement.{statement}
+use Rattle.image.proofs.put.put_node.Tie as tie
 
 mul-put-u16s : tie.Need-mul-put-u16s
 mul-put-u16s c = search needs

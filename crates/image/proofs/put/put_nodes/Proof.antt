@@ -6,8 +6,8 @@ use Rattle.spec_tables.proofs.Runs.{Puts, puts-start, puts-more, puts-end}
 use Rattle.spec_records.specs.Layouts.{version1}
 use Rattle.spec_image.specs.Image.{nodeBytes}
 use borrow.Author.Needs.{needs}
-use Rattle.image.proofs.write.put_nodes.Statement.{statement}
-use Rattle.image.proofs.write.put_nodes.Tie as tie
+use Rattle.image.proofs.put.put_nodes.Statement.{statement}
+use Rattle.image.proofs.put.put_nodes.Tie as tie
 
 abbrev Inv-loop : tie.InvT-loop
 Inv-loop links boxes nodes out₀ at next₀ i₀ out next i = Puts (nodeBytes version1 links boxes) 30 at nodes out₀ out next i

@@ -8,8 +8,8 @@ use Rattle.spec_image.specs.Image.{settingsBytes}
 use Rattle.spec_image.proofs.Sizes.{length-settings}
 use Rattle.lists.specs.Values.{asSettings}
 use borrow.Author.Needs.{needs}
-use Rattle.image.proofs.write.put_settings.Statement.{statement}
-use Rattle.image.proofs.write.put_settings.Tie as tie
+use Rattle.image.proofs.put.put_settings.Statement.{statement}
+use Rattle.image.proofs.put.put_settings.Tie as tie
 
 put-header-requires : tie.Need-put-header-requires
 put-header-requires c κs = search needs

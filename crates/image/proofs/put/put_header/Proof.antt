@@ -4,8 +4,8 @@ use native.Mathlib.Omega.{arith}
 use Rattle.spec_tables.proofs.Tables.{put-then}
 use Rattle.spec_records.specs.Records.{header}
 use borrow.Author.Needs.{needs}
-use Rattle.image.proofs.write.put_header.Statement.{statement}
-use Rattle.image.proofs.write.put_header.Tie as tie
+use Rattle.image.proofs.put.put_header.Statement.{statement}
+use Rattle.image.proofs.put.put_header.Tie as tie
 
 put-u32-requires : tie.Need-put-u32-requires
 put-u32-requires c κs = search needs

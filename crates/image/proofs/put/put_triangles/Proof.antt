@@ -8,8 +8,8 @@ use denote.Ref.{now}
 use Rattle.spec_records.proofs.Entries.{length-floats}
 use Rattle.spec_records.proofs.Records.{record-put}
 use borrow.Author.Needs.{needs}
-use Rattle.image.proofs.write.put_triangles.Statement.{statement}
-use Rattle.image.proofs.write.put_triangles.Tie as tie
+use Rattle.image.proofs.put.put_triangles.Statement.{statement}
+use Rattle.image.proofs.put.put_triangles.Tie as tie
 
 mul-put-header : tie.Need-mul-put-header
 mul-put-header c = search needs

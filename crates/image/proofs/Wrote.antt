@@ -1,0 +1,38 @@
+-- What was written, put together: the answer, and bytes that a refusal leaves as they were. Assumes nothing.
+use mathlib.Core.Path.{_≡_, sym, ap, _∙_}
+use Prim.Native.Nat.{ℕ, _≤_}
+use mathlib.Core.List.{List}
+use lib.ListN.{length}
+use Rattle.spec_tables.specs.Tables.{Put}
+use Rattle.spec_records.specs.Layouts.{version1, imageSize}
+use Rattle.spec_lists.specs.Refusals.{passes, refused}
+use Rattle.spec_image.specs.Image.{Image, imageBytes}
+use Rattle.spec_image.specs.Stored.{Complete}
+use Rattle.spec_image.specs.Writing.{writeRefusal, imageWritten, bytesAfter}
+use Rattle.spec_image.proofs.Writing.{Writable, write-passed, writable-count, writable-complete, writable-room}
+use Rattle.lists.specs.Values.{asVerdict}
+use Rattle.lists.specs.declared.refusal.Verdict.{Verdict}
+use Rattle.lists.specs.declared.refusal.Verdict.the-variants.{Passed, Refused}
+use Rattle.image.specs.Values.{WrittenIs}
+use Rattle.image.specs.declared.write.ImageWritten.the-variants as Written
+
+module _ (x : Image) (out : List ℕ) {v : Verdict} (tests : asVerdict v ≡ writeRefusal version1 x (length out)) where
+  pub wrote-nothing : {number place : ℕ} → v ≡ Refused number place → WrittenIs x (Written.Refused number place) out out
+  unfolding imageWritten bytesAfter
+  wrote-nothing {number} {place} e =
+      let r : writeRefusal version1 x (length out) ≡ refused number place = sym tests ∙ ap asVerdict e in
+      record { answer = rw r; filled = rw r }
+
+  module _ (e : v ≡ Passed) where
+    passed : writeRefusal version1 x (length out) ≡ passes
+    passed = sym tests ∙ ap asVerdict e
+
+    writable : Writable version1 x (length out)
+    writable = write-passed version1 x (length out) passed
+
+    pub can-put : Complete x × imageSize version1 (length (x .order)) (x .nodes) ≤ length out
+    can-put = (writable-complete version1 x (length out) writable, writable-room version1 x (length out) writable)
+
+    pub wrote-image : {n : ℕ} {out′ : List ℕ} → Put 0 (imageBytes version1 x) out out′ n → n ≡ imageSize version1 (length (x .order)) (x .nodes) → WrittenIs x (Written.Bytes n) out out′
+    unfolding imageWritten bytesAfter
+    wrote-image p size = record { answer = rw (passed, size, writable-count version1 x (length out) writable); filled = rw passed (p .written) }
