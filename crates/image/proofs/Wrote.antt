@@ -9,7 +9,7 @@ use Rattle.spec_lists.specs.Refusals.{passes, refused}
 use Rattle.spec_image.specs.Image.{Image, imageBytes}
 use Rattle.spec_image.specs.Stored.{Complete}
 use Rattle.spec_image.specs.Writing.{writeRefusal, imageWritten, bytesAfter}
-use Rattle.spec_image.proofs.Writing.{Writable, write-passed, writable-count, writable-complete, writable-room}
+use Rattle.spec_image.proofs.Writing.{Good, write-passed, good-count, good-complete}
 use Rattle.lists.specs.Values.{asVerdict}
 use Rattle.lists.specs.declared.refusal.Verdict.{Verdict}
 use Rattle.lists.specs.declared.refusal.Verdict.the-variants.{Passed, Refused}
@@ -27,12 +27,12 @@ module _ (x : Image) (out : List ℕ) {v : Verdict} (tests : asVerdict v ≡ wri
     passed : writeRefusal version1 x (length out) ≡ passes
     passed = sym tests ∙ ap asVerdict e
 
-    writable : Writable version1 x (length out)
-    writable = write-passed version1 x (length out) passed
+    good : Good x
+    good = write-passed version1 x (length out) passed .0
 
     pub can-put : Complete x × imageSize version1 (length (x .order)) (x .nodes) ≤ length out
-    can-put = (writable-complete version1 x (length out) writable, writable-room version1 x (length out) writable)
+    can-put = (good-complete x good, rw (good-count x good) (write-passed version1 x (length out) passed .1))
 
     pub wrote-image : {n : ℕ} {out′ : List ℕ} → Put 0 (imageBytes version1 x) out out′ n → n ≡ imageSize version1 (length (x .order)) (x .nodes) → WrittenIs x (Written.Bytes n) out out′
     unfolding imageWritten bytesAfter
-    wrote-image p size = record { answer = rw (passed, size, writable-count version1 x (length out) writable); filled = rw passed (p .written) }
+    wrote-image p size = record { answer = rw (passed, size, good-count x good); filled = rw passed (p .written) }

@@ -8,7 +8,7 @@ const TOP_BIT: u64 = 9223372036854775808;
 
 const TOP_BYTE: u64 = 72057594037927936;
 
-fn tell_refusal(number: usize, place: usize) -> u64
+pub fn tell_refusal(number: usize, place: usize) -> u64
     requires { ⌜ Told.Placed number place ⌝ }
     ensures { λ r. ⌜ r ≡ Told.toldRefusal number place ⌝ }
 {

@@ -1,0 +1,101 @@
+// The build, from the outside in: the bytes, the list, the image.
+ghost use mathlib.Core.Path.{_≡_};
+ghost use lib.ListN.{length};
+ghost use Rattle.spec_records.specs.Layouts.{version1};
+ghost use Rattle.spec_lists.specs.Refusals.{roomRefusal};
+ghost use Rattle.spec_image.specs.Writing.{exactSize};
+ghost use Rattle.lists.specs.Values.{asSettings};
+ghost use Rattle.image.specs.Values.{imageOf};
+ghost use Rattle.spec_host.specs.Build.{numbersOf, builtImage, listRefusal, bytesRefusal, Puttable, ImagePut};
+use aabb_build::build::Built;
+use aabb_build::build::build;
+use image::image_size;
+use image::put_image;
+use lists::refusal::Verdict;
+use lists::settings::Settings;
+use lists::triangles::triangle_count;
+use little_endian::read_f32s;
+use told::tell;
+use told::tell_refusal;
+
+// The image of a tree in lists, where there is room for it: test 6.
+fn put_built(
+    settings: Settings,
+    triangles: &[f32],
+    order: &[u32],
+    links: &[u32],
+    boxes: &[f32],
+    nodes: usize,
+    image: &mut [u8],
+) -> u64
+    requires { ⌜ Puttable (imageOf settings (now triangles) (now order) (now links) (now boxes) nodes) ⌝ }
+    ensures { λ r. ⌜ ImagePut (roomRefusal (length (now (image .entry))) (exactSize version1 (imageOf settings (now (triangles .entry)) (now (order .entry)) (now (links .entry)) (now (boxes .entry)) nodes))) (imageOf settings (now (triangles .entry)) (now (order .entry)) (now (links .entry)) (now (boxes .entry)) nodes) (now (image .entry)) r (now (image .exit)) ⌝ }
+{
+    let size = image_size(triangle_count(triangles), nodes);
+    if image.len() < size {
+        return tell_refusal(6, 0);
+    }
+    let written = put_image(settings, triangles, order, links, boxes, nodes, image);
+    tell(Verdict::Passed, written)
+}
+
+// Builds into lists with room for the most triangles, so that the build tests 1 to 5.
+fn build_list(settings: Settings, triangles: &[f32], image: &mut [u8]) -> u64
+    ensures { λ r. ⌜ ImagePut (listRefusal (now (triangles .entry)) (asSettings settings) (length (now (image .entry)))) (builtImage (now (triangles .entry)) (asSettings settings)) (now (image .entry)) r (now (image .exit)) ⌝ }
+{
+    let mut order = [0u32; 4096];
+    let mut links = [0u32; 24573];
+    let mut boxes = [0.0f32; 49146];
+    let built = build(
+        triangles,
+        settings.strategy,
+        settings.leaf_minimum,
+        settings.maximum_depth,
+        &mut order,
+        &mut links,
+        &mut boxes,
+    );
+    match built {
+        Built::Refused { number, place } => tell_refusal(number, place),
+        Built::Tree { nodes, depth: _ } => {
+            let count = triangle_count(triangles);
+            put_built(
+                settings,
+                triangles,
+                &order[..count],
+                &links,
+                &boxes,
+                nodes,
+                image,
+            )
+        }
+    }
+}
+
+// Builds the tree over the triangles in the bytes, 36 a triangle, and puts its image at the front of
+// `image`. Tests 1 to 6; what is told is a refusal, or how many bytes the image has.
+pub fn build_image(
+    strategy: usize,
+    leaf_minimum: usize,
+    maximum_depth: usize,
+    triangles: &[u8],
+    image: &mut [u8],
+) -> u64
+    ensures { λ r. ⌜ ImagePut (bytesRefusal (now (triangles .entry)) (record { strategy = strategy; leafMinimum = «leaf_minimum»; maximumDepth = «maximum_depth» }) (length (now (image .entry)))) (builtImage (numbersOf (now (triangles .entry))) (record { strategy = strategy; leafMinimum = «leaf_minimum»; maximumDepth = «maximum_depth» })) (now (image .entry)) r (now (image .exit)) ⌝ }
+{
+    if triangles.len() % 36 != 0 {
+        return tell_refusal(1, 0);
+    }
+    if triangles.len() > 147456 {
+        return tell_refusal(3, 0);
+    }
+    let numbers = triangles.len() / 4;
+    let mut list = [0.0f32; 36864];
+    read_f32s(triangles, 0, numbers, &mut list, 0);
+    let settings = Settings {
+        strategy,
+        leaf_minimum,
+        maximum_depth,
+    };
+    build_list(settings, &list[..numbers], image)
+}

@@ -1,0 +1,197 @@
+-- What the build of an image from bytes answers and leaves; that every image that is built is one that the writer accepts, and that it is no larger than is told. Assumes nothing.
+use mathlib.Core.Path.{_≡_, refl, sym, ap, _∙_, subst}
+use mathlib.Core.Bool.{true}
+use mathlib.Core.List.{List, [], _∷_}
+use Prim.Native.Nat.{ℕ, _+_, _*_, _/_, _%_, _^_, _≤_, _<_}
+use native.Mathlib.Omega.{arith}
+use borrow.Author.Tests.{eqb-true, lt-ltb, le-leb, eq-eqb, ne-eqb}
+use lib.Dec.{eqb}
+use lib.ListN.{length, take}
+use lib.Seq.{take-length}
+use lib.Ieee.{Float, binary32}
+use Rattle.spec_tables.specs.Tables.{over, Put}
+use Rattle.spec_tables.proofs.Pieces.{take-over, length-singles}
+use Rattle.spec_records.specs.Layouts.{version1, imageSize}
+use Rattle.spec_lists.specs.Limits.{mostTriangles}
+use Rattle.spec_lists.specs.Reading.{boxAt, triangleCount}
+use Rattle.spec_lists.specs.Refusals.{Verdict, passes, refused, firstRefusal, raggedRefusal, noneRefusal, tooManyRefusal, coordinateRefusal, trianglesRefusal, Settings, settingsRefusal, roomRefusal}
+use Rattle.spec_lists.specs.Passed.{GoodTriangles, GoodSettings}
+use Rattle.spec_lists.proofs.Verdicts.{then-passes, ends}
+use Rattle.spec_lists.proofs.Passed.{triangles-passed, triangles-pass, settings-passed, settings-pass, room-passes}
+use Rattle.spec_tree.specs.Trees.{Tree, numbers, nodeCount, linksFrom, boxesOf}
+use Rattle.spec_tree.specs.Accepted.{Listing}
+use Rattle.spec_tree.proofs.Trees.{links-length, boxes-length}
+use Rattle.spec_build.specs.Build.{builtTree, mostNodes, buildRefusal, made, notMade, answerBy, BuildIs}
+use Rattle.spec_build.proofs.Built.{Whole, whole-nodes}
+use Rattle.spec_build.proofs.Build.{Passed, build-passed, built-whole, made-passed, made-nodes, made-listing}
+use Rattle.spec_image.specs.Image.{Image, imageBytes}
+use Rattle.spec_image.specs.Writing.{exactSize, writeRefusal}
+use Rattle.spec_image.proofs.Used.{image-used}
+use Rattle.spec_image.proofs.Writing.{Good, good-complete, good-count, good-nodes, write-passes}
+use Rattle.spec_host.specs.Told.{told, toldRefusal, Placed, InPlace, Tellable}
+use Rattle.spec_host.specs.Build.{imageMost, numbersOf, raggedBytes, imageOver, builtImage, listRefusal, bytesRefusal, Puttable, ImagePut}
+use Rattle.spec_host.proofs.Told.{at-zero, no-test, then-test, triangles-told, settings-told, room-told}
+
+-- ---- every image that is built is good
+module _ (triangles : List Float) (s : Settings) (g : GoodTriangles triangles) (h : GoodSettings s) where
+  abbrev t : Tree
+  t = builtTree binary32 triangles s
+
+  whole : Whole (triangleCount triangles) t
+  whole = built-whole binary32 triangles s g h
+
+  built-listing : Listing (boxAt triangles) (triangleCount triangles) (numbers t) (linksFrom 0 0 t) (boxesOf (boxAt triangles) t) (nodeCount t) t
+  built-listing = record {
+    order-is = refl;
+    permuted = whole .permuted;
+    filled = whole .filled;
+    nodes-are = refl;
+    links-are = ap (λ (k : ℕ). take k (linksFrom 0 0 t)) (sym (links-length 0 0 t)) ∙ take-length (linksFrom 0 0 t);
+    boxes-are = ap (λ (k : ℕ). take k (boxesOf (boxAt triangles) t)) (sym (boxes-length (boxAt triangles) t)) ∙ take-length (boxesOf (boxAt triangles) t);
+    shallow = whole .shallow;
+  }
+
+  pub built-good : Good (builtImage triangles s)
+  unfolding imageOver
+  built-good = record { triangles = g; settings = h; tree = t; listing = built-listing }
+
+  -- the writer accepts it
+  pub built-written : (given : ℕ) → exactSize version1 (builtImage triangles s) ≤ given → writeRefusal version1 (builtImage triangles s) given ≡ passes
+  built-written given room = write-passes version1 (builtImage triangles s) given built-good room
+
+  -- so many bytes always do
+  pub most-is-enough : exactSize version1 (builtImage triangles s) ≤ imageMost (triangleCount triangles)
+  unfolding imageMost imageOver
+  most-is-enough = rw (le-leb 1 (triangleCount triangles) (g .some), le-leb (triangleCount triangles) mostTriangles (g .few)) (omega (arith, whole-nodes whole))
+
+-- ---- what is put
+module _ {v : Verdict} {x : Image} {old : List ℕ} {answer : ℕ} where
+  pub put-nothing : {number place : ℕ} → v ≡ refused number place → answer ≡ toldRefusal number place → ImagePut v x old answer old
+  put-nothing e a = record { told-is = rw e a; bytes-are = rw e }
+
+  pub put-all : {new : List ℕ} {next : ℕ} → v ≡ passes → answer ≡ exactSize version1 x → Put 0 (imageBytes version1 x) old new next → ImagePut v x old answer new
+  put-all e a p = record { told-is = rw e a; bytes-are = rw e (p .written) }
+
+pub room-short : (given need : ℕ) → given < need → roomRefusal given need ≡ refused 6 0
+unfolding roomRefusal
+room-short given need h = rw (lt-ltb given need h)
+
+-- another verdict and image that are the same
+pub put-as : {v w : Verdict} {x y : Image} {old new : List ℕ} {answer : ℕ} → v ≡ w → imageBytes version1 x ≡ imageBytes version1 y → exactSize version1 x ≡ exactSize version1 y
+    → ImagePut v x old answer new → ImagePut w y old answer new
+put-as e b n p = record { told-is = rw (← e, ← n) (p .told-is); bytes-are = rw (← e, ← b) (p .bytes-are) }
+
+-- ---- the list's refusals
+pub list-told : (triangles : List Float) (s : Settings) (given : ℕ) → InPlace (listRefusal triangles s given)
+unfolding listRefusal
+list-told triangles s given =
+    then-test (trianglesRefusal triangles) _ (triangles-told triangles)
+    (λ _. then-test (settingsRefusal s) _ (settings-told s) (λ _. then-test (roomRefusal given (exactSize version1 (builtImage triangles s))) [] (room-told given _) (λ _. no-test)))
+
+-- where two rows begin with the same two tests, and the rest of the first passes once these do, a refusal of the first is one of the second
+same-refusal : (a b : Verdict) (rest others : List Verdict) (number place : ℕ) → (a ≡ passes → b ≡ passes → firstRefusal rest ≡ passes) → firstRefusal (a ∷ b ∷ rest) ≡ refused number place
+    → firstRefusal (a ∷ b ∷ others) ≡ refused number place
+unfolding firstRefusal
+same-refusal (refused n p) b rest others number place h e = e
+same-refusal passes (refused n p) rest others number place h e = e
+same-refusal passes passes rest others number place h e = let k = h refl refl in cc
+
+not-made : (v : Verdict) (t : Tree) (number place : ℕ) → notMade number place ≡ answerBy v t → v ≡ refused number place
+not-made passes t number place e = cc
+not-made (refused n p) t number place e = cc
+
+-- ---- the build in lists that have room for the most triangles
+module _ (triangles : List Float) (s : Settings) (order links : List ℕ) (boxes : List Float)
+    (order-long : length order ≡ 4096) (links-long : length links ≡ 24573) (boxes-long : length boxes ≡ 49146) where
+  -- the lists' rooms are never short, so a refusal is one of the triangles or the settings
+  pub build-refused : {number place : ℕ} {order′ links′ : List ℕ} {boxes′ : List Float} → BuildIs binary32 triangles s order links boxes (notMade number place) order′ links′ boxes′
+      → (given : ℕ) → listRefusal triangles s given ≡ refused number place
+  unfolding listRefusal buildRefusal
+  build-refused {number} {place} b given =
+      let n : ℕ = triangleCount triangles in
+      same-refusal (trianglesRefusal triangles) (settingsRefusal s)
+      (roomRefusal (length order) n ∷ roomRefusal (length links) (3 * mostNodes n) ∷ roomRefusal (length boxes) (6 * mostNodes n) ∷ []) _ number place
+      (λ good _.
+      let few : n ≤ mostTriangles = triangles-passed triangles good .few in
+      then-passes _ (room-passes _ _ (omega arith), (room-passes _ _ (omega arith), (room-passes _ _ (omega arith), tt))))
+      (not-made (buildRefusal triangles s (length order) (length links) (length boxes)) (builtTree binary32 triangles s) number place (b .answer-is))
+
+  pub build-told : {number place : ℕ} {order′ links′ : List ℕ} {boxes′ : List Float} → BuildIs binary32 triangles s order links boxes (notMade number place) order′ links′ boxes′
+      → Placed number place
+  build-told b = rw (build-refused b 0) at (list-told triangles s 0)
+
+  module _ {nodes depth : ℕ} {order′ links′ : List ℕ} {boxes′ : List Float} (b : BuildIs binary32 triangles s order links boxes (made nodes depth) order′ links′ boxes′) where
+    abbrev n : ℕ
+    n = triangleCount triangles
+
+    passed : Passed triangles s order links boxes
+    passed = build-passed triangles s order links boxes (made-passed binary32 triangles s order links boxes order′ links′ boxes′ nodes depth b)
+
+    -- the lists as they are left
+    abbrev pub listed : Image
+    listed = record { settings = s; triangles = triangles; order = take n order′; nodes = nodes; links = links′; boxes = boxes′ }
+
+    pub listed-few : n ≤ 4096
+    listed-few = passed .triangles-good .few
+
+    listed-good : Good listed
+    listed-good = record {
+      triangles = passed .triangles-good;
+      settings = passed .settings-good;
+      tree = builtTree binary32 triangles s;
+      listing = made-listing binary32 triangles s order links boxes order′ links′ boxes′ nodes depth b;
+    }
+
+    pub listed-puttable : Puttable listed
+    listed-puttable = record {
+      complete = good-complete listed listed-good;
+      counted = good-count listed listed-good;
+      few = omega (arith, good-nodes listed listed-good, passed .triangles-good .few);
+    }
+
+    -- they are written as the image of the tree that is built
+    pub listed-bytes : imageBytes version1 listed ≡ imageBytes version1 (builtImage triangles s)
+    unfolding imageOver
+    listed-bytes =
+        let t : Tree = builtTree binary32 triangles s in
+        let l = made-listing binary32 triangles s order links boxes order′ links′ boxes′ nodes depth b in
+        let g = built-listing triangles s (passed .triangles-good) (passed .settings-good) in
+        let links-are : take (3 * nodeCount t) links′ ≡ linksFrom 0 0 t = rw (l .nodes-are) at (l .links-are) in
+        let boxes-are : take (6 * nodeCount t) boxes′ ≡ boxesOf (boxAt triangles) t = rw (l .nodes-are) at (l .boxes-are) in
+        rw (l .order-is, l .nodes-are) (image-used version1 (builtImage triangles s) links′ boxes′ (links-are ∙ sym (g .links-are)) (boxes-are ∙ sym (g .boxes-are)))
+
+    pub listed-size : exactSize version1 listed ≡ exactSize version1 (builtImage triangles s)
+    unfolding imageOver
+    listed-size = rw (made-nodes binary32 triangles s order links boxes order′ links′ boxes′ nodes depth b)
+
+    -- only the room is left to be tested
+    pub listed-refusal : (given : ℕ) → roomRefusal given (exactSize version1 listed) ≡ listRefusal triangles s given
+    unfolding listRefusal firstRefusal
+    listed-refusal given =
+        let room = ends (roomRefusal given (exactSize version1 listed)) (roomRefusal given (exactSize version1 (builtImage triangles s))) (rw listed-size) in
+        rw (triangles-pass triangles (passed .triangles-good), settings-pass s (passed .settings-good)) room
+
+-- ---- from bytes
+module _ (s : List ℕ) (settings : Settings) (given : ℕ) where
+  numbers-long : length (numbersOf s) ≡ length s / 4
+  numbers-long = length-singles _ (length s / 4)
+
+  pub bytes-ragged : (length s % 36 ≡ 0 → ⊥) → bytesRefusal s settings given ≡ refused 1 0
+  unfolding bytesRefusal raggedBytes firstRefusal
+  bytes-ragged h = rw (ne-eqb (length s % 36) 0 h)
+
+  module _ (h : length s % 36 ≡ 0) where
+    pub bytes-whole : listRefusal (numbersOf s) settings given ≡ bytesRefusal s settings given
+    unfolding bytesRefusal raggedBytes firstRefusal
+    bytes-whole = rw (eq-eqb (length s % 36) 0 h) (ends _ _ refl)
+
+    numbers-many : 147456 < length s → listRefusal (numbersOf s) settings given ≡ refused 3 0
+    unfolding listRefusal trianglesRefusal raggedRefusal noneRefusal tooManyRefusal triangleCount firstRefusal
+    numbers-many m =
+        rw (numbers-long, eq-eqb (length s / 4 % 9) 0 (omega arith), ne-eqb (length s / 4 / 9) 0 (λ (z : length s / 4 / 9 ≡ 0). omega arith), lt-ltb mostTriangles (length s / 4 / 9) (omega arith))
+
+    pub bytes-many : 147456 < length s → bytesRefusal s settings given ≡ refused 3 0
+    bytes-many m = sym bytes-whole ∙ numbers-many m
+
+pub numbers-read : (s : List ℕ) (old new : List Float) → new ≡ over 0 (numbersOf s) old → take (length s / 4) new ≡ numbersOf s
+numbers-read s old new e = rw e (take-over (length s / 4) (numbersOf s) old (length-singles _ (length s / 4)))
