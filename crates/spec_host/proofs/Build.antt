@@ -1,36 +1,36 @@
 -- What the build of an image from bytes answers and leaves; that every image that is built is one that the writer accepts, and that it is no larger than is told. Assumes nothing.
-use mathlib.Core.Path.{_≡_, refl, sym, ap, _∙_, subst}
-use mathlib.Core.Bool.{true}
+use mathlib.Core.Path.{_≡_, refl, sym, ap, _∙_}
 use mathlib.Core.List.{List, [], _∷_}
-use Prim.Native.Nat.{ℕ, _+_, _*_, _/_, _%_, _^_, _≤_, _<_}
+use Prim.Native.Nat.{ℕ, _*_, _/_, _%_, _≤_, _<_}
 use native.Mathlib.Omega.{arith}
-use borrow.Author.Tests.{eqb-true, lt-ltb, le-leb, eq-eqb, ne-eqb}
-use lib.Dec.{eqb}
+use borrow.Author.Tests.{lt-ltb, le-leb, eq-eqb, ne-eqb}
 use lib.ListN.{length, take}
 use lib.Seq.{take-length}
 use lib.Ieee.{Float, binary32}
 use Rattle.spec_tables.specs.Tables.{over, Put}
 use Rattle.spec_tables.proofs.Pieces.{take-over, length-singles}
-use Rattle.spec_records.specs.Layouts.{version1, imageSize}
+use Rattle.spec_records.specs.Layouts.{version1}
 use Rattle.spec_lists.specs.Limits.{mostTriangles}
 use Rattle.spec_lists.specs.Reading.{boxAt, triangleCount}
-use Rattle.spec_lists.specs.Refusals.{Verdict, passes, refused, firstRefusal, raggedRefusal, noneRefusal, tooManyRefusal, coordinateRefusal, trianglesRefusal, Settings, settingsRefusal, roomRefusal}
+use Rattle.spec_lists.specs.Refusals.{Verdict, passes, refused, firstRefusal, raggedRefusal, noneRefusal, tooManyRefusal, trianglesRefusal, Settings, settingsRefusal, roomRefusal}
 use Rattle.spec_lists.specs.Passed.{GoodTriangles, GoodSettings}
-use Rattle.spec_lists.proofs.Verdicts.{then-passes, ends}
-use Rattle.spec_lists.proofs.Passed.{triangles-passed, triangles-pass, settings-passed, settings-pass, room-passes}
+use Rattle.spec_lists.proofs.Verdicts.{all-pass, then-passes, ends}
+use Rattle.spec_lists.proofs.Passed.{triangles-passed, triangles-pass, settings-passed, settings-pass, room-passed, room-passes}
 use Rattle.spec_tree.specs.Trees.{Tree, numbers, nodeCount, linksFrom, boxesOf}
 use Rattle.spec_tree.specs.Accepted.{Listing}
 use Rattle.spec_tree.proofs.Trees.{links-length, boxes-length}
 use Rattle.spec_build.specs.Build.{builtTree, mostNodes, buildRefusal, made, notMade, answerBy, BuildIs}
 use Rattle.spec_build.proofs.Built.{Whole, whole-nodes}
 use Rattle.spec_build.proofs.Build.{Passed, build-passed, built-whole, made-passed, made-nodes, made-listing}
-use Rattle.spec_image.specs.Image.{Image, imageBytes}
+use Rattle.spec_image.specs.Image.{Image, imageBytes, imageIn}
+use Rattle.spec_image.specs.Stored.{used}
 use Rattle.spec_image.specs.Writing.{exactSize, writeRefusal}
 use Rattle.spec_image.proofs.Used.{image-used}
+use Rattle.spec_image.proofs.Kept.{floats-fit, written-back}
 use Rattle.spec_image.proofs.Writing.{Good, good-complete, good-count, good-nodes, write-passes}
-use Rattle.spec_host.specs.Told.{told, toldRefusal, Placed, InPlace, Tellable}
+use Rattle.spec_host.specs.Told.{told, toldRefusal, Placed, InPlace}
 use Rattle.spec_host.specs.Build.{imageMost, numbersOf, raggedBytes, imageOver, builtImage, listRefusal, bytesRefusal, Puttable, ImagePut}
-use Rattle.spec_host.proofs.Told.{at-zero, no-test, then-test, triangles-told, settings-told, room-told}
+use Rattle.spec_host.proofs.Told.{no-test, then-test, triangles-told, settings-told, room-told}
 
 -- ---- every image that is built is good
 module _ (triangles : List Float) (s : Settings) (g : GoodTriangles triangles) (h : GoodSettings s) where
@@ -195,3 +195,13 @@ module _ (s : List ℕ) (settings : Settings) (given : ℕ) where
 
 pub numbers-read : (s : List ℕ) (old new : List Float) → new ≡ over 0 (numbersOf s) old → take (length s / 4) new ≡ numbersOf s
 numbers-read s old new e = rw e (take-over (length s / 4) (numbersOf s) old (length-singles _ (length s / 4)))
+
+-- ---- what is put reads back: the settings, the triangles and the tree that was built
+pub built-back : (s : List ℕ) (settings : Settings) (given : ℕ) → bytesRefusal s settings given ≡ passes
+    → imageIn version1 (imageBytes version1 (builtImage (numbersOf s) settings)) (triangleCount (numbersOf s)) (nodeCount (builtTree binary32 (numbersOf s) settings)) ≡ used (builtImage (numbersOf s) settings)
+unfolding bytesRefusal listRefusal imageOver
+built-back s settings given e =
+    let x : Image = builtImage (numbersOf s) settings in
+    let p = all-pass _ (all-pass _ e .1 .0) in
+    let room = room-passed given (exactSize version1 x) (p .1 .1 .0) in
+    written-back x given (floats-fit s 0 (length s / 4)) (built-written (numbersOf s) settings (triangles-passed (numbersOf s) (p .0)) (settings-passed settings (p .1 .0)) given room)

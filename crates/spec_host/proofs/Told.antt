@@ -8,7 +8,7 @@ use native.Mathlib.Nat.{mod-eq-of-lt, div-eq-of-lt, mul-add-div-right, mul-add-m
 use lib.Dec.{eqb, ltb}
 use lib.Ieee.{Float}
 use lib.ListN.{length}
-use borrow.Author.Tests.{eqb-true, eqb-false, ltb-true, ltb-false, le-leb, lt-leb}
+use borrow.Author.Tests.{eqb-true, ltb-true, ltb-false, le-leb, lt-leb}
 use Rattle.spec_lists.specs.Limits.{mostTriangles}
 use Rattle.spec_lists.specs.Reading.{triangleCount}
 use Rattle.spec_lists.specs.Refusals.{Verdict, passes, refused, firstRefusal, refusedIf, raggedRefusal, noneRefusal, tooManyRefusal, coordinateRefusal, trianglesRefusal, Settings, settingsRefusal, roomRefusal, pointsRefusal, distanceRefusal, firstBad, areSettings, isDistance}

@@ -3,3 +3,5 @@ pub mod Written
 pub mod Rewritten
 pub mod Used
 pub mod Writing
+pub mod Listed
+pub mod Kept

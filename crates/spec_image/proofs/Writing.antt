@@ -1,9 +1,7 @@
 -- What the writer's tests give where they pass. Assumes nothing.
 use mathlib.Core.Path.{_≡_, sym, ap, _∙_}
 use mathlib.Core.Bool.{Bool, true}
-use mathlib.Core.List.{List}
 use Prim.Native.Nat.{ℕ, _+_, _*_, _≤_}
-use native.Mathlib.Omega.{arith}
 use lib.ListN.{length}
 use Rattle.spec_records.specs.Layouts.{Shape}
 use Rattle.spec_lists.specs.Reading.{triangleCount, boxAt}

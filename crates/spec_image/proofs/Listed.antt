@@ -1,0 +1,95 @@
+-- What stands in the listing of a tree: links that are small numbers, and boxes of plain numbers. Assumes nothing.
+use mathlib.Core.Path.{_≡_, sym, ap, _∙_, subst}
+use mathlib.Core.List.{List, [], _∷_, _++_}
+use Prim.Native.Nat.{ℕ, zero, suc, _+_, _≤_, _<_}
+use native.Mathlib.Nat.{le-of-suc-le-suc}
+use native.Mathlib.Omega.{arith}
+use lib.ListN.{length, take, getD, length-append}
+use lib.Seq.{getD-take}
+use lib.Ieee.{Format}
+use Rattle.spec_numbers.specs.Axes.{X, Y, Z}
+use Rattle.spec_numbers.specs.Plain.{Plain}
+use Rattle.spec_shapes.specs.Boxes.{Box, union}
+use Rattle.spec_shapes.specs.Plain.{PlainBox}
+use Rattle.spec_shapes.proofs.Plain.{union-plain}
+use Rattle.spec_tree.specs.Trees.{Tree, leaf, branch, numbers, nodeCount, Filled, joinedTo, joined, boxOver, sixOf, linksFrom, boxesOf}
+use Rattle.spec_tree.proofs.Trees.{root-last}
+
+-- ---- each element of a list
+abbrev pub Each : {A : Type 0} → (A → Type 0) → List A → Type 0
+Each P [] = Unit {0}
+Each P (x ∷ xs) = P x × Each P xs
+
+module _ {A : Type 0} (P : A → Type 0) where
+  each-append : (xs ys : List A) → Each P xs → Each P ys → Each P (xs ++ ys)
+  each-append [] ys h k = k
+  each-append (x ∷ xs) ys h k = (h .0, each-append xs ys (h .1) k)
+
+  each-front : (xs ys : List A) → Each P (xs ++ ys) → Each P xs
+  each-front [] ys h = tt
+  each-front (x ∷ xs) ys h = (h .0, each-front xs ys (h .1))
+
+  each-behind : (xs ys : List A) → Each P (xs ++ ys) → Each P ys
+  each-behind [] ys h = h
+  each-behind (x ∷ xs) ys h = each-behind xs ys (h .1)
+
+  each-at : (d : A) (xs : List A) (i : ℕ) → i < length xs → Each P xs → P (getD xs i d)
+  each-at d [] i l h = absurd (none l)
+    where
+      none : i < 0 → ⊥
+      none l = omega arith
+  each-at d (x ∷ xs) zero l h = h .0
+  each-at d (x ∷ xs) (suc i) l h = each-at d xs i (le-of-suc-le-suc l) (h .1)
+
+  pub each-by-place : (d : A) (xs : List A) → ((i : ℕ) → i < length xs → P (getD xs i d)) → Each P xs
+  each-by-place d [] h = tt
+  each-by-place d (x ∷ xs) h = (h 0 (omega arith), each-by-place d xs (λ i l. h (suc i) (omega arith)))
+
+  -- of a list whose first n elements are these
+  pub each-taken : (d : A) (n : ℕ) (l xs : List A) → take n l ≡ xs → length xs ≡ n → Each P xs → (i : ℕ) → i < n → P (getD l i d)
+  each-taken d n l xs e long h i k = subst P (ap (λ (ys : List A). getD ys i d) (sym e) ∙ getD-take n l i d k) (each-at d xs i (omega arith) h)
+
+-- ---- the links: a kind, and entries of the order list or nodes
+pub links-below : (most node entry : ℕ) (t : Tree) → 2 < most → node + nodeCount t ≤ most → entry + length (numbers t) < most → Each (λ (n : ℕ). n < most) (linksFrom node entry t)
+unfolding linksFrom nodeCount numbers
+links-below most node entry (leaf part) two nodes entries = (omega arith, (omega arith, (entries, tt)))
+links-below most node entry (branch l r) two nodes entries =
+    let long : length (numbers l ++ numbers r) ≡ length (numbers l) + length (numbers r) = length-append (numbers l) (numbers r) in
+    each-append (λ (n : ℕ). n < most) (linksFrom node entry l ++ linksFrom (node + nodeCount l) (entry + length (numbers l)) r) _
+    (each-append (λ (n : ℕ). n < most) (linksFrom node entry l) _ (links-below most node entry l two (omega arith) (omega arith)) (links-below most (node + nodeCount l) (entry + length (numbers l)) r two (omega arith) (omega arith)))
+    (two, (omega (arith, root-last node l), (omega (arith, root-last (node + nodeCount l) r), tt)))
+
+-- ---- the boxes: those of the triangles, joined
+module _ (f : Format) (boxAt : ℕ → Box) where
+  abbrev Plains : List ℕ → Type 0
+  Plains ks = Each (λ (k : ℕ). PlainBox f (boxAt k)) ks
+
+  joined-to-plain : (b : Box) (ks : List ℕ) → PlainBox f b → Plains ks → PlainBox f (joinedTo boxAt b ks)
+  unfolding joinedTo
+  joined-to-plain b [] p h = p
+  joined-to-plain b (k ∷ ks) p h = joined-to-plain (union b (boxAt k)) ks (union-plain f b (boxAt k) p (h .0)) (h .1)
+
+  joined-plain : (ks : List ℕ) → 0 < length ks → Plains ks → PlainBox f (joined boxAt ks)
+  unfolding joined
+  joined-plain [] some h = absurd (none some)
+    where
+      none : 0 < length {A = ℕ} [] → ⊥
+      none l = omega arith
+  joined-plain (k ∷ ks) some h = joined-to-plain (boxAt k) ks (h .0) (h .1)
+
+  over-plain : (t : Tree) → Filled t → Plains (numbers t) → PlainBox f (boxOver boxAt t)
+  unfolding boxOver numbers
+  over-plain (leaf part) some h = joined-plain part some h
+  over-plain (branch l r) some h =
+      union-plain f _ _ (over-plain l (some .0) (each-front _ (numbers l) (numbers r) h)) (over-plain r (some .1) (each-behind _ (numbers l) (numbers r) h))
+
+  six-plain : (b : Box) → PlainBox f b → Each (Plain f) (sixOf b)
+  six-plain b p = (p .min X, (p .min Y, (p .min Z, (p .max X, (p .max Y, (p .max Z, tt))))))
+
+  pub boxes-plain : (t : Tree) → Filled t → Plains (numbers t) → Each (Plain f) (boxesOf boxAt t)
+  unfolding boxesOf numbers
+  boxes-plain (leaf part) some h = six-plain _ (joined-plain part some h)
+  boxes-plain (branch l r) some h =
+      each-append (Plain f) (boxesOf boxAt l ++ boxesOf boxAt r) _
+      (each-append (Plain f) (boxesOf boxAt l) (boxesOf boxAt r) (boxes-plain l (some .0) (each-front _ (numbers l) (numbers r) h)) (boxes-plain r (some .1) (each-behind _ (numbers l) (numbers r) h)))
+      (six-plain _ (over-plain (branch l r) some h))
