@@ -3,18 +3,23 @@ use mathlib.Core.Path.{_≡_, refl, sym, ap, _∙_}
 use mathlib.Core.List.{List, [], _∷_}
 use Prim.Native.Nat.{ℕ, _*_, _/_, _%_, _≤_, _<_}
 use native.Mathlib.Omega.{arith}
-use borrow.Author.Tests.{lt-ltb, le-leb, eq-eqb, ne-eqb}
+use borrow.Author.Tests.{eqb-true, lt-ltb, le-leb, eq-eqb, ne-eqb}
+use lib.Dec.{eqb}
 use lib.ListN.{length, take}
 use lib.Seq.{take-length}
 use lib.Ieee.{Float, binary32}
-use Rattle.spec_tables.specs.Tables.{over, Put}
+use Rattle.spec_tables.specs.Tables.{over, part, Put}
 use Rattle.spec_tables.proofs.Pieces.{take-over, length-singles}
+use Rattle.spec_numbers.proofs.Order.{finite-number}
+use Rattle.spec_records.specs.Little.{Bytes}
+use Rattle.spec_records.proofs.Entries.{floats-written}
 use Rattle.spec_records.specs.Layouts.{version1}
 use Rattle.spec_lists.specs.Limits.{mostTriangles}
 use Rattle.spec_lists.specs.Reading.{boxAt, triangleCount}
 use Rattle.spec_lists.specs.Refusals.{Verdict, passes, refused, firstRefusal, raggedRefusal, noneRefusal, tooManyRefusal, trianglesRefusal, Settings, settingsRefusal, roomRefusal}
 use Rattle.spec_lists.specs.Passed.{GoodTriangles, GoodSettings}
-use Rattle.spec_lists.proofs.Verdicts.{all-pass, then-passes, ends}
+use Rattle.spec_lists.proofs.Verdicts.{all-pass, then-passes, ends, so}
+use Rattle.spec_lists.proofs.Coordinates.{coordinate-finite}
 use Rattle.spec_lists.proofs.Passed.{triangles-passed, triangles-pass, settings-passed, settings-pass, room-passed, room-passes}
 use Rattle.spec_tree.specs.Trees.{Tree, numbers, nodeCount, linksFrom, boxesOf}
 use Rattle.spec_tree.specs.Accepted.{Listing}
@@ -22,7 +27,7 @@ use Rattle.spec_tree.proofs.Trees.{links-length, boxes-length}
 use Rattle.spec_build.specs.Build.{builtTree, mostNodes, buildRefusal, made, notMade, answerBy, BuildIs}
 use Rattle.spec_build.proofs.Built.{Whole, whole-nodes}
 use Rattle.spec_build.proofs.Build.{Passed, build-passed, built-whole, made-passed, made-nodes, made-listing}
-use Rattle.spec_image.specs.Image.{Image, imageBytes, imageIn}
+use Rattle.spec_image.specs.Image.{Image, trianglesBody, imageBytes, imageIn}
 use Rattle.spec_image.specs.Stored.{used}
 use Rattle.spec_image.specs.Writing.{exactSize, writeRefusal}
 use Rattle.spec_image.proofs.Used.{image-used}
@@ -205,3 +210,18 @@ built-back s settings given e =
     let p = all-pass _ (all-pass _ e .1 .0) in
     let room = room-passed given (exactSize version1 x) (p .1 .1 .0) in
     written-back x given (floats-fit s 0 (length s / 4)) (built-written (numbersOf s) settings (triangles-passed (numbersOf s) (p .0)) (settings-passed settings (p .1 .0)) given room)
+
+-- the triangles' record has the very bytes that were given, minus zeros too
+pub bytes-kept : (s : List ℕ) → Bytes s → (settings : Settings) (given : ℕ) → bytesRefusal s settings given ≡ passes → trianglesBody version1 (builtImage (numbersOf s) settings) ≡ s
+unfolding bytesRefusal raggedBytes listRefusal imageOver
+bytes-kept s ok settings given e =
+    let p = all-pass _ e in
+    let whole : length s % 36 ≡ 0 = eqb-true (length s % 36) 0 (so (eqb (length s % 36) 0) 1 0 (p .0)) in
+    let good = triangles-passed (numbersOf s) (all-pass _ (p .1 .0) .0) in
+    let m : ℕ = length s / 4 in
+    let long : length (numbersOf s) ≡ m = length-singles _ m in
+    let all : 4 * m ≡ length s = omega arith in
+    rw long
+    (floats-written binary32 (numbersOf s) 0 s 0 m ok (omega arith) (λ i l. finite-number _ (coordinate-finite _ (good .coordinates i (omega arith)))) (ap (part (numbersOf s) 0) (sym long) ∙ take-length (numbersOf s))
+    ∙ ap (part s 0) all
+    ∙ take-length s)
