@@ -89,6 +89,87 @@ fn comes_back(case: &[u8], sizes: &[usize]) -> bool {
     case[20..20 + sizes[1]].chunks(4).all(same) && case[nodes..].chunks(30).all(|n| n[6..].chunks(4).all(same))
 }
 
+fn read<const N: usize>(bytes: &[u8]) -> Vec<[u8; N]> {
+    bytes.chunks(N).map(|b| b.try_into().unwrap()).collect()
+}
+
+fn numbers(bytes: &[u8]) -> Vec<u16> {
+    read::<2>(bytes).into_iter().map(u16::from_le_bytes).collect()
+}
+
+/// Each coordinate as itself plus zero.
+fn coordinates(bytes: &[u8]) -> Vec<f32> {
+    read::<4>(bytes).into_iter().map(|b| f32::from_le_bytes(b) + 0.0).collect()
+}
+
+fn join(a: [f32; 6], b: [f32; 6]) -> [f32; 6] {
+    std::array::from_fn(|i| if i < 3 { a[i].min(b[i]) } else { a[i].max(b[i]) })
+}
+
+/// The nodes' boxes, by reading the nodes from the first to the last, each branch joining the two open trees before it;
+/// none where that is no tree over the triangles.
+fn boxes_of(corners: &[f32], order: &[u16], nodes: &[[u16; 3]]) -> Option<Vec<[f32; 6]>> {
+    let count = corners.len() / 9;
+    let mut sorted = order.to_vec();
+    sorted.sort();
+    if sorted != (0..count as u16).collect::<Vec<_>>() {
+        return None;
+    }
+    let bound = |&k: &u16| {
+        let corner = |c: usize| std::array::from_fn(|i| corners[9 * k as usize + 3 * c + i % 3]);
+        join(join(corner(0), corner(1)), corner(2))
+    };
+    let (mut covered, mut boxes, mut open) = (0, Vec::new(), Vec::new());
+    for (node, &[kind, left, right]) in nodes.iter().enumerate() {
+        let (depth, over) = match kind {
+            1 if left == covered && left < right && right as usize <= count => {
+                covered = right;
+                (1, order[left as usize..right as usize].iter().map(bound).reduce(join)?)
+            }
+            2 => {
+                let (r, below_r, box_r) = open.pop()?;
+                let (l, below_l, box_l): (usize, usize, _) = open.pop()?;
+                if (l, r) != (left as usize, right as usize) {
+                    return None;
+                }
+                (below_l.max(below_r) + 1, join(box_l, box_r))
+            }
+            _ => return None,
+        };
+        if depth > 64 {
+            return None;
+        }
+        open.push((node, depth, over));
+        boxes.push(over);
+    }
+    (open.len() == 1 && covered as usize == count).then_some(boxes)
+}
+
+/// What the writer, lent 300 bytes, says of what an image holds.
+fn rewriting(case: &[u8], sizes: &[usize]) -> String {
+    let (triangles, order) = (20 + sizes[1], 26 + sizes[1] + sizes[2]);
+    let corners = coordinates(&case[20..triangles]);
+    let given = numbers(&case[8..14]);
+    if corners.is_empty() {
+        return "refused 2 0".into();
+    }
+    if let Some(at) = corners.iter().position(|x| !(x.abs() <= 1048576.0)) {
+        return format!("refused 4 {at}");
+    }
+    if !(1..=2).contains(&given[0]) || !(1..=4096).contains(&given[1]) || given[2] > 64 {
+        return "refused 5 0".into();
+    }
+    if case.len() > 300 {
+        return "refused 6 0".into();
+    }
+    let nodes: Vec<[u16; 3]> = case[order + 6..].chunks(30).map(|n| numbers(&n[..6]).try_into().unwrap()).collect();
+    let bits: Vec<u8> = case[order + 6..].chunks(30).flat_map(|n| n[6..].to_vec()).collect();
+    match boxes_of(&corners, &numbers(&case[triangles + 6..order]), &nodes) {
+        Some(boxes) if boxes.concat().iter().flat_map(|x| x.to_le_bytes()).collect::<Vec<_>>() == bits => "the same bytes".into(),
+        _ => "refused 7 0".into(),
+    }
+}
+
 fn expected(out: &mut String, case: &[u8]) {
     let as_image = layout(case, [(1, is_settings), (2, is_triangles), (3, |b| 18 * b[2].len() == b[1].len()), (4, |b| b[3].len() % 30 == 0)]);
     let as_input = layout(case, [(1, is_settings), (2, is_triangles), (5, |b| b[2].len() % 12 == 0), (6, |b| b[3].len() == 4)]);
@@ -97,10 +178,39 @@ fn expected(out: &mut String, case: &[u8]) {
     match as_image {
         Err(at) => writeln!(out, "refused 10 {at}"),
         Ok(s) if s[1] > 4 * 36 || s[3] > 7 * 30 => writeln!(out, "refused 6 0"),
-        Ok(s) if comes_back(case, &s) => writeln!(out, "the same bytes"),
-        Ok(_) => writeln!(out, "other bytes"),
+        Ok(s) if comes_back(case, &s) => writeln!(out, "the same bytes\n{}", rewriting(case, &s)),
+        Ok(s) => writeln!(out, "other bytes\n{}", rewriting(case, &s)),
     }
     .unwrap();
+}
+
+fn tree(triangles: &[u32], order: &[u16], nodes: &[[u16; 3]]) -> Vec<u8> {
+    let corners: Vec<f32> = triangles.iter().map(|&b| f32::from_bits(b) + 0.0).collect();
+    let boxes = boxes_of(&corners, order, nodes).expect("a tree");
+    let body = nodes.iter().zip(boxes).flat_map(|(n, b)| {
+        let box_bytes: Vec<u8> = b.iter().flat_map(|x| x.to_le_bytes()).collect();
+        [n.iter().flat_map(|l| l.to_le_bytes()).collect(), box_bytes].concat()
+    });
+    bytes(&[settings(1), floats(2, triangles), (3, order.iter().flat_map(|n| n.to_le_bytes()).collect()), (4, body.collect())])
+}
+
+/// Trees, and one of them with a byte changed in each record, so that each of the writer's tests has its turn.
+fn trees(two: &[u32], all: &mut Vec<Vec<u8>>) {
+    let four = two.repeat(2);
+    let split = [[1, 0, 1], [1, 1, 2], [2, 0, 1]];
+    all.push(tree(two, &[0, 1], &[[1, 0, 2]]));
+    all.push(tree(&four[..27], &[2, 0, 1], &[[1, 0, 1], [1, 1, 2], [1, 2, 3], [2, 1, 2], [2, 0, 3]]));
+    all.push(tree(&four, &[3, 1, 0, 2], &[[1, 0, 3], [1, 3, 4], [2, 0, 1]]));
+    all.push(tree(&four, &[0, 1, 2, 3], &[[1, 0, 1], [1, 1, 2], [2, 0, 1], [1, 2, 4], [2, 2, 3]]));
+    let right = tree(two, &[1, 0], &split);
+    let (order, nodes) = (20 + 72 + 6, 20 + 72 + 6 + 4 + 6);
+    // strategy, leaf minimum, depth; a coordinate; an order entry; a kind, a left and a right, a box of a leaf and of the root
+    for k in [8, 11, 12, 20 + 4 * 7 + 3, order, order + 2, nodes, nodes + 2, nodes + 4, nodes + 6, nodes + 60, nodes + 62, nodes + 64, nodes + 89] {
+        let mut changed = right.clone();
+        changed[k] ^= 64;
+        all.push(changed);
+    }
+    all.push(right);
 }
 
 fn cases() -> Vec<Vec<u8>> {
@@ -156,6 +266,7 @@ fn cases() -> Vec<Vec<u8>> {
     all.push(bytes(&image(&[corners.repeat(2), corners[..9].to_vec()].concat(), 1)));
     all.push(bytes(&image(&nan, 1)));
     all.push(bytes(&input(&[], &[])));
+    trees(&corners, &mut all);
     all
 }
 

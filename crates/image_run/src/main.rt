@@ -1,7 +1,8 @@
 // Prints what each case on standard input is: as an image, as `gauge`'s input, and, where the image
-// reader takes it, whether writing what was read gives the same bytes. A case is its length, in four
+// reader takes it, whether putting what was read gives the same bytes, and what the writer says. A case is its length, in four
 // bytes, and its bytes; tests/records/generate.rs made the cases and, by a reading of its own, `stdout`.
 use image::ImageRead;
+use image::ImageWritten;
 use lists::settings::Settings;
 use records::GaugeLayout;
 use records::ImageLayout;
@@ -63,6 +64,38 @@ fn put_same(same: bool) {
     }
 }
 
+// The writer is lent fewer bytes than the largest image that is read has.
+fn write_tested(
+    bytes: &[u8],
+    settings: Settings,
+    triangles: &[f32],
+    order: &[u32],
+    links: &[u32],
+    boxes: &[f32],
+    nodes: usize,
+) {
+    let mut out = [0; 300];
+    let written = image::write_image(
+        settings.strategy,
+        settings.leaf_minimum,
+        settings.maximum_depth,
+        triangles,
+        order,
+        links,
+        boxes,
+        nodes,
+        &mut out,
+    );
+    match written {
+        ImageWritten::Refused { number, place } => put_refusal(number, place),
+        ImageWritten::Bytes(end) => {
+            if end <= 300 {
+                put_same(check::same(&out[..end], bytes));
+            }
+        }
+    }
+}
+
 fn write_again(
     bytes: &[u8],
     settings: Settings,
@@ -78,6 +111,7 @@ fn write_again(
     let mut out = [0; 400];
     let end = image::put_image(settings, triangles, order, links, boxes, nodes, &mut out);
     put_same(check::same(&out[..end], bytes));
+    write_tested(bytes, settings, triangles, order, links, boxes, nodes);
 }
 
 // There is room for four triangles and seven nodes.

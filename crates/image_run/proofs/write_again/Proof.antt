@@ -24,6 +24,9 @@ same-requires c κs = search needs
 put-same-requires : tie.Need-put-same-requires
 put-same-requires c κs = search needs
 
+write-tested-requires : tie.Need-write-tested-requires
+write-tested-requires c κs = search needs
+
 returns : tie.Need-returns
 returns c = search needs
 
@@ -37,4 +40,5 @@ write-again-spec =
     slice-aggregate-same
     same-requires
     put-same-requires
+    write-tested-requires
     returns)
