@@ -1,6 +1,6 @@
-//! Makes the cases of crates/image_run and what it must print, by a reading of the document of its own.
+//! Makes the cases of crates/image_run and crates/host_build_run and what they must print, by a reading of the document of its own.
 //!
-//!     rustc --edition 2021 -O tests/records/generate.rs -o /tmp/generate && /tmp/generate crates/image_run
+//!     rustc --edition 2021 -O tests/records/generate.rs -o /tmp/generate && /tmp/generate crates/image_run crates/host_build_run
 
 use std::fmt::Write as _;
 
@@ -270,8 +270,83 @@ fn cases() -> Vec<Vec<u8>> {
     all
 }
 
+/// A build for a host: settings, how many bytes are lent, the triangles' bytes, and what is told and the image, none on a refusal.
+struct Build {
+    given: [u16; 3],
+    room: usize,
+    triangles: Vec<u8>,
+    told: u64,
+    image: Vec<u8>,
+}
+
+/// What is refused: the tests in their order, over trees whose nodes are given.
+fn build(given: [u16; 3], room: usize, triangles: &[u8], nodes: &[[u16; 3]]) -> Build {
+    let refused = |number: u64, place: usize| (number << 56 | place as u64, Vec::new());
+    let corners = coordinates(&triangles[..triangles.len() / 4 * 4]);
+    let bad = corners.iter().position(|x| !(x.abs() <= 1048576.0));
+    let [strategy, leaf, depth] = given;
+    let (told, image) = match bad {
+        _ if triangles.len() % 36 != 0 => refused(1, 0),
+        _ if triangles.is_empty() => refused(2, 0),
+        Some(at) => refused(4, at),
+        _ if !(1..=2).contains(&strategy) || !(1..=4096).contains(&leaf) || depth > 64 => refused(5, 0),
+        None => {
+            let bits: Vec<u32> = read::<4>(triangles).into_iter().map(u32::from_le_bytes).collect();
+            let mut image = tree(&bits, &(0..corners.len() as u16 / 9).collect::<Vec<_>>(), nodes);
+            for (k, n) in given.iter().enumerate() {
+                image[8 + 2 * k..10 + 2 * k].copy_from_slice(&n.to_le_bytes());
+            }
+            if image.len() > room { refused(6, 0) } else { (image.len() as u64, image) }
+        }
+    };
+    Build { given, room, triangles: triangles.to_vec(), told, image }
+}
+
+fn builds() -> Vec<Build> {
+    let bits = |all: &[f32]| all.iter().flat_map(|x| x.to_le_bytes()).collect::<Vec<u8>>();
+    let t0_t1 = bits(&[0., 0., 0., 1., 0., 0., 0., 1., 0., 10., 0., 0., 11., 0., 0., 10., 1., 0.]);
+    let zeros = bits(&[-0.0, 0.0, 1.0, -1048576.0, -0.0, 3.5, 1048576.0, f32::from_bits(1), -0.0]);
+    let changed = |at: usize, x: f32| {
+        let mut other = t0_t1.clone();
+        other[4 * at..4 * at + 4].copy_from_slice(&x.to_le_bytes());
+        other
+    };
+    let (one, leaf, split) = ([[1, 0, 1]], [[1, 0, 2]], [[1, 0, 1], [1, 1, 2], [2, 0, 1]]);
+    let mut all = Vec::new();
+    // the printed run's tree, in bytes that just do, do and do not do
+    for room in [198, 205, 197, 0] {
+        all.push(build([1, 1, 40], room, &t0_t1, &split));
+    }
+    // one leaf: by the leaf minimum, by the depth
+    for given in [[1, 2, 40], [2, 4096, 64], [1, 1, 1], [2, 1, 0]] {
+        all.push(build(given, 138, &t0_t1, &leaf));
+    }
+    all.push(build([2, 1, 64], 101, &zeros, &one));
+    for given in [[0, 1, 40], [3, 1, 40], [1, 0, 40], [1, 4097, 40], [1, 1, 65]] {
+        all.push(build(given, 198, &t0_t1, &split));
+    }
+    for (at, x) in [(0, 1048576.125), (7, -1048576.125), (17, f32::NAN), (9, f32::INFINITY)] {
+        all.push(build([1, 1, 40], 198, &changed(at, x), &split));
+    }
+    for n in [0, 1, 4, 35, 37, 71] {
+        all.push(build([1, 1, 40], 198, &t0_t1[..n], &split));
+    }
+    // several at once: the lowest number is told
+    all.push(build([0, 1, 40], 0, &changed(3, f32::NAN)[..70], &split));
+    all.push(build([0, 1, 40], 0, &changed(3, f32::NAN), &split));
+    all.push(build([0, 1, 40], 0, &t0_t1, &split));
+    all
+}
+
+fn put_build(stdout: &mut Vec<u8>, told: u64, room: usize, image: &[u8]) {
+    stdout.extend(format!("{told:016x}\n").bytes());
+    stdout.extend(image);
+    stdout.extend(vec![b'.'; room - image.len()]);
+    stdout.push(b'\n');
+}
+
 fn main() {
-    let folder = std::env::args().nth(1).expect("the folder of the program");
+    let folder = std::env::args().nth(1).expect("the folder of image_run");
     let (mut stdin, mut stdout) = (Vec::new(), String::new());
     for case in cases() {
         stdin.extend((case.len() as u32).to_le_bytes());
@@ -279,6 +354,19 @@ fn main() {
         expected(&mut stdout, &case);
     }
     assert!(stdin.len() <= 65536, "{} bytes are more than the program reads", stdin.len());
+    std::fs::write(format!("{folder}/stdin"), stdin).unwrap();
+    std::fs::write(format!("{folder}/stdout"), stdout).unwrap();
+
+    let folder = std::env::args().nth(2).expect("the folder of host_build_run");
+    let (mut stdin, mut stdout) = (Vec::new(), Vec::new());
+    for b in builds() {
+        stdin.extend(b.given.iter().flat_map(|n| n.to_le_bytes()));
+        stdin.extend((b.room as u16).to_le_bytes());
+        stdin.extend((b.triangles.len() as u32).to_le_bytes());
+        stdin.extend(&b.triangles);
+        put_build(&mut stdout, b.told, b.room, &b.image);
+    }
+    put_build(&mut stdout, 3 << 56, 200, &[]);
     std::fs::write(format!("{folder}/stdin"), stdin).unwrap();
     std::fs::write(format!("{folder}/stdout"), stdout).unwrap();
 }

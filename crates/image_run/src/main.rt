@@ -1,6 +1,7 @@
 // Prints what each case on standard input is: as an image, as `gauge`'s input, and, where the image
-// reader takes it, whether putting what was read gives the same bytes, and what the writer says. A case is its length, in four
-// bytes, and its bytes; tests/records/generate.rs made the cases and, by a reading of its own, `stdout`.
+// reader takes it, whether putting what was read gives the same bytes, and what the writer says. A case
+// is its length, in four bytes, and its bytes; tests/records/generate.rs made the cases and, by a reading
+// of its own, `stdout`.
 use image::ImageRead;
 use image::ImageWritten;
 use lists::settings::Settings;
