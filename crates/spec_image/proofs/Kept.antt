@@ -6,16 +6,16 @@ use Prim.Native.Nat.{ℕ, _+_, _*_, _/_, _<_}
 use native.Mathlib.Omega.{arith}
 use borrow.Author.Tests.{eqb-true, eqb-false}
 use lib.Dec.{eqb}
-use lib.ListN.{length, getD}
+use lib.ListN.{length, take, getD}
 use lib.Ieee.{nan, binary32, ofBits}
 use lib.Ieee.Bits.{ofBits-fits}
-use Rattle.spec_tables.proofs.Pieces.{length-singles, getD-many}
+use Rattle.spec_tables.proofs.Pieces.{take-over, length-singles, getD-many}
 use Rattle.spec_numbers.specs.Plain.{Plain}
 use Rattle.spec_numbers.proofs.Order.{finite-number}
 use Rattle.spec_records.specs.Little.{littleAt, Bytes}
 use Rattle.spec_records.specs.Entries.{floatsIn, NoNan}
 use Rattle.spec_records.specs.Records.{wrong, bodies, exactly, whole, sizeAt, isRight, laidOut}
-use Rattle.spec_records.specs.Layouts.{version1, settingsRight, imageWants, imageSpans}
+use Rattle.spec_records.specs.Layouts.{version1, settingsRight, imageWants, imageSize, imageSpans}
 use Rattle.spec_records.proofs.Records.{RightRecord, right-parts, reach-start, reach-on, reach-wrong, reach-end, reach-extra}
 use Rattle.spec_records.proofs.Layouts.{exactly-right, settings-right, whole-size, tree-wanted, image-spans}
 use Rattle.spec_lists.specs.Reading.{boxAt, triangleCount}
@@ -30,7 +30,8 @@ use Rattle.spec_tree.proofs.Order.{permutes-entries}
 use Rattle.spec_image.specs.Image.{Image, imageBytes, settingsIn, imageIn}
 use Rattle.spec_image.specs.Stored.{Storable, used}
 use Rattle.spec_image.specs.Reading.{Rooms, refused, holds, roomFor, byRoom, judged, imageRead}
-use Rattle.spec_image.specs.Writing.{writeRefusal}
+use Rattle.spec_image.specs.Writing.{exactSize, writeRefusal, bytesAfter}
+use Rattle.spec_image.proofs.Sizes.{length-image}
 use Rattle.spec_image.proofs.Listed.{Each, each-by-place, each-taken, links-below, boxes-plain}
 use Rattle.spec_image.proofs.Writing.{Good, good-count, good-complete, good-nodes, write-passed}
 use Rattle.spec_image.proofs.Written.{written-read, written-holds}
@@ -85,7 +86,14 @@ module _ (x : Image) (g : Good x) (fit : AllFit binary32 (x .triangles)) where
         fewNodes = omega (arith, good-nodes x g);
       }
 
--- ---- what is written reads back equal
+-- ---- what is written stands at the front of the lent bytes
+pub written-front : (x : Image) (out : List ℕ) → writeRefusal version1 x (length out) ≡ passes → take (exactSize version1 x) (bytesAfter version1 x out) ≡ imageBytes version1 x
+unfolding bytesAfter
+written-front x out accepted =
+    let good = write-passed version1 x (length out) accepted .0 in
+    rw accepted (take-over (exactSize version1 x) (imageBytes version1 x) out (length-image version1 x (good-complete x good) ∙ ap (λ (k : ℕ). imageSize version1 k (x .nodes)) (good-count x good)))
+
+-- ---- and reads back equal
 module _ (x : Image) (given : ℕ) (fit : AllFit binary32 (x .triangles)) (accepted : writeRefusal version1 x given ≡ passes) where
   good : Good x
   good = write-passed version1 x given accepted .0
