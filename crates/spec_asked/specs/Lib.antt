@@ -1,0 +1,2 @@
+pub mod PointBytes
+pub mod Asked
