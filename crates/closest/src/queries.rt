@@ -59,7 +59,7 @@ fn query_refusal(
 }
 
 // The answer at one point: the scan's.
-fn sure_at(
+pub fn sure_at(
     triangles: &[f32],
     order: &[u32],
     links: &[u32],
@@ -107,7 +107,7 @@ fn put_sure_answers(
 }
 
 // The answer at one point: the source walk's.
-fn source_at(
+pub fn source_at(
     triangles: &[f32],
     order: &[u32],
     links: &[u32],

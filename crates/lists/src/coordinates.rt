@@ -13,7 +13,7 @@ pub fn is_within(low: f32, high: f32, x: f32) -> bool
     (low <= x) & (x <= high)
 }
 
-fn is_coordinate(x: f32) -> bool
+pub fn is_coordinate(x: f32) -> bool
     ensures { λ r. ⌜ r ≡ Refusals.isCoordinate x ⌝ }
 {
     is_within(-limits::FURTHEST_COORDINATE, limits::FURTHEST_COORDINATE, x)
