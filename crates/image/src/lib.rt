@@ -7,6 +7,7 @@ mod write;
 pub use put::put_image;
 pub use read::ImageRead;
 pub use read::read_image;
+pub use read::read_nodes;
 pub use read::settings_of;
 pub use write::ImageWritten;
 pub use write::image_size;

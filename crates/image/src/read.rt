@@ -71,7 +71,7 @@ fn read_node(bytes: &[u8], start: usize, node: usize, links: &mut [u32], boxes: 
     read_f32s(bytes, at + 6, 6, boxes, 6 * node);
 }
 
-fn read_nodes(bytes: &[u8], start: usize, nodes: usize, links: &mut [u32], boxes: &mut [f32])
+pub fn read_nodes(bytes: &[u8], start: usize, nodes: usize, links: &mut [u32], boxes: &mut [f32])
     requires { ⌜ start + 30 * nodes ≤ length (now bytes) ⌝ }
     requires { ⌜ (3 * nodes ≤ length (now links)) × (6 * nodes ≤ length (now boxes)) ⌝ }
     ensures { λ _. ⌜ now (links .exit) ≡ over 0 (many (linksIn version1 (now (bytes .entry)) start) nodes) (now (links .entry)) ⌝ }

@@ -19,17 +19,17 @@ use Rattle.spec_image.proofs.Sizes.{length-links, length-box, image-is}
 use Rattle.spec_numbers.specs.Values.{zero}
 use Rattle.spec_lists.specs.Limits.{mostTriangles}
 use Rattle.spec_lists.specs.Reading.{boxAt, triangleCount, pointCount}
-use Rattle.spec_lists.specs.Refusals.{Verdict, passes, refused, refuses, refusedIf, firstRefusal, raggedRefusal, noneRefusal, tooManyRefusal, coordinateRefusal, trianglesRefusal, settingsRefusal, roomRefusal, pointsRefusal, distanceRefusal, isDistance, firstBad}
-use Rattle.spec_lists.specs.Passed.{GoodTriangles}
+use Rattle.spec_lists.specs.Refusals.{Verdict, passes, refused, refuses, refusedIf, firstRefusal, raggedRefusal, noneRefusal, tooManyRefusal, coordinateRefusal, trianglesRefusal, Settings, settingsRefusal, roomRefusal, pointsRefusal, distanceRefusal, isDistance, firstBad}
+use Rattle.spec_lists.specs.Passed.{GoodTriangles, GoodPoints}
 use Rattle.spec_lists.proofs.Verdicts.{stops, goes-on, ends, all-pass, not-refused, so}
 use Rattle.spec_lists.proofs.Passed.{triangles-passed, room-passed}
 use Rattle.spec_tree.specs.Accepted.{accepted}
 use Rattle.spec_tree.specs.Refusals.{treeRefusal}
 use Rattle.spec_tree.proofs.Accepted.{accepted-listed, listing-most}
-use Rattle.spec_search.specs.Calls.{queryRefusal}
+use Rattle.spec_search.specs.Calls.{queryRefusal, Searchable}
 use Rattle.spec_asked.specs.PointBytes.{pointsIn, pointBytesRefusal}
-use Rattle.spec_asked.specs.Asked.{layoutRefusal, contents, treeIn, countRefusal, checkedRefusal, askedRefusal, checkVerdict, queryVerdict}
-use Rattle.spec_asked.proofs.PointBytes.{points-long, points-count}
+use Rattle.spec_asked.specs.Asked.{layoutRefusal, contents, treeIn, countRefusal, checkedRefusal, earlyRefusal, lateRefusal, askedRefusal, woundRefusal, checkVerdict, queryVerdict, Ready}
+use Rattle.spec_asked.proofs.PointBytes.{points-long, points-count, point-bytes-passed}
 
 -- ---- a row of tests that is made in two parts
 pub row-then : (xs ys : List Verdict) → firstRefusal (xs ++ ys) ≡ firstRefusal (firstRefusal xs ∷ firstRefusal ys ∷ [])
@@ -113,6 +113,14 @@ module _ (s : List ℕ) (t n : ℕ) where
   unfolding imageIn
   boxes-read old new e = ap (take (6 * n)) e ∙ take-over (6 * n) _ old (length-many _ 6 n (length-box version1 s (nodesStart version1 t)))
 
+-- how many triangles an image holds
+pub held-none : (s : List ℕ) (at : ℕ) → laidOut (imageWants version1) s 0 ≡ wrong at → 0 ≡ triangleCount (contents s .triangles)
+unfolding contents
+held-none s at laid = rw laid (sym (count-counts _ 0 (triangles-long s 0 0)))
+
+pub held-count : (s : List ℕ) (t n : ℕ) → laidOut (imageWants version1) s 0 ≡ bodies (imageSpans version1 t n) → t ≡ triangleCount (contents s .triangles)
+held-count s t n laid = rw (contents-are s t n laid) (sym (count-counts _ t (triangles-long s t n)))
+
 -- ---- the tree check says no to more nodes than a tree over the most triangles has
 pub too-many-nodes : (triangles : List Float) (order links : List ℕ) (boxes : List Float) (nodes : ℕ) → triangleCount triangles ≤ mostTriangles → 8191 < nodes
     → refused 7 0 ≡ treeRefusal triangles order links boxes nodes
@@ -124,6 +132,42 @@ too-many-nodes triangles order links boxes nodes few many = go (accepted (boxAt 
     go : (b : Bool) → (b ≡ true → ⊥) → refused 7 0 ≡ refusedIf (not b) 7 0
     go true h = absurd (h refl)
     go false h = refl
+
+-- ---- what passed
+module _ (triangles : List Float) (points : List ℕ) where
+  pub early-passed : (settings : Settings) (room : ℕ) → earlyRefusal triangles settings (room / 24) (length points / 12) ≡ passes → Ready triangles points room
+  unfolding earlyRefusal
+  early-passed settings room e =
+      let p = all-pass _ e in
+      let enough : length points / 12 ≤ room / 24 = room-passed _ _ (p .1 .1 .0) in
+      record { triangles-good = triangles-passed triangles (p .0); room-enough = omega arith }
+
+  pub late-passed : (order links : List ℕ) (boxes : List Float) (nodes : ℕ) (distance : Float) → GoodTriangles triangles → lateRefusal triangles order links boxes nodes points distance ≡ passes
+      → Searchable triangles order links boxes nodes × GoodPoints (pointsIn points)
+  unfolding lateRefusal treeRefusal
+  late-passed order links boxes nodes distance good e =
+      let p = all-pass _ e in
+      (record { triangles-good = good; tree-accepted = so _ _ _ (p .0) }, point-bytes-passed points (p .1 .0))
+
+  pub wound-passed : (room : ℕ) → woundRefusal triangles points room ≡ passes → 4 * (length points / 12) ≤ room
+  unfolding woundRefusal
+  wound-passed room e =
+      let enough : length points / 12 ≤ room / 4 = room-passed _ _ (all-pass _ e .1 .0) in
+      omega arith
+
+-- ---- the tests before the tree is loaded, and those behind
+module _ (x : Image) (points : List ℕ) (distance : Float) (room : ℕ) (v : Verdict) (b : Bool) (is : v ≡ earlyRefusal (x .triangles) (x .settings) (room / 24) (length points / 12)) (told : b ≡ refuses v) where
+  pub early-stops : b ≡ true → v ≡ askedRefusal x points distance room
+  unfolding earlyRefusal askedRefusal
+  early-stops t = row-stops v _ (treeIn x ∷ pointBytesRefusal points ∷ distanceRefusal distance ∷ []) b is told t
+
+  pub late-decides : b ≡ false → (rest : Verdict) → rest ≡ lateRefusal (x .triangles) (x .order) (x .links) (x .boxes) (x .nodes) points distance → rest ≡ askedRefusal x points distance room
+  unfolding earlyRefusal lateRefusal askedRefusal
+  late-decides f rest e = row-goes-on v _ (treeIn x ∷ pointBytesRefusal points ∷ distanceRefusal distance ∷ []) b is told f rest e
+
+  pub tree-stops : b ≡ false → refused 7 0 ≡ treeIn x → refused 7 0 ≡ askedRefusal x points distance room
+  unfolding lateRefusal
+  tree-stops f e = late-decides f (refused 7 0) (stops (refused 7 0) (treeIn x) (pointBytesRefusal points ∷ distanceRefusal distance ∷ []) true e refl refl)
 
 -- ---- a check is a query at no points
 none-passes : pointBytesRefusal [] ≡ passes

@@ -138,8 +138,10 @@ module _ (triangles : List Float) (points old : List ℕ) where
 
 -- ---- the lent bytes afterwards
 pub as-it-was : (v : Verdict) (new old : List ℕ) → refuses v ≡ true → old ≡ afterBytes v new old
+unfolding afterBytes
 as-it-was (refused number place) new old h = refl
 as-it-was passes new old h = absurd (true≢false (sym h))
 
 pub as-written : (v : Verdict) (new old out : List ℕ) → v ≡ passes → out ≡ over 0 new old → out ≡ afterBytes v new old
+unfolding afterBytes
 as-written v new old out e h = rw e h

@@ -1,6 +1,6 @@
 -- Every verdict of the calls can be told in one number. Assumes nothing.
-use mathlib.Core.Path.{_≡_, refl}
-use mathlib.Core.Bool.{Bool, true, false, cond, not}
+use mathlib.Core.Path.{_≡_, refl, sym}
+use mathlib.Core.Bool.{Bool, true, false, cond, not, true≢false}
 use mathlib.Core.List.{List, [], _∷_}
 use Prim.Native.Nat.{ℕ, _+_, _*_, _/_, _%_, _^_, _≤_, _<_}
 use native.Mathlib.Nat.{pow-le-pow-right}
@@ -14,10 +14,10 @@ use Rattle.spec_records.specs.Little.{littleAt, Bytes}
 use Rattle.spec_records.specs.Records.{Span, Layout, wrong, bodies, Wants, done, one, sizeAt, bodyAt, isRight, behind, laidOut}
 use Rattle.spec_records.specs.Layouts.{version1, imageWants}
 use Rattle.spec_records.proofs.Little.{ofLittle-below, bytes-part}
-use Rattle.spec_lists.specs.Refusals.{Verdict, passes, refused, refusedIf, firstRefusal, coordinateRefusal, firstBad}
+use Rattle.spec_lists.specs.Refusals.{Verdict, passes, refused, refuses, refusedIf, firstRefusal, coordinateRefusal, firstBad}
 use Rattle.spec_tree.specs.Accepted.{accepted}
 use Rattle.spec_tree.specs.Refusals.{treeRefusal}
-use Rattle.spec_host.specs.Told.{Placed, InPlace}
+use Rattle.spec_host.specs.Told.{told, Placed, InPlace}
 use Rattle.spec_host.proofs.Told.{at-zero, no-test, then-test, placed, triangles-told, settings-told, room-told, distance-told}
 use Rattle.spec_image.specs.Image.{Image}
 use Rattle.spec_asked.specs.PointBytes.{pointsIn, pointBytesRefusal}
@@ -109,3 +109,12 @@ module _ (image points : List ℕ) (ok : Bytes image) (fits : length points < 2 
       (λ _. then-test _ _ (room-told (room / 4) (length points / 12))
       (λ _. then-test _ _ (point-bytes-told points fits) (λ _. no-test))))
       (λ _. no-test))
+
+-- ---- a refusal is told whatever the count, and what is done tells the count
+pub told-refused : (v : Verdict) (a b : ℕ) → refuses v ≡ true → told v a ≡ told v b
+told-refused (refused number place) a b h = refl
+told-refused passes a b h = absurd (true≢false (sym h))
+
+pub told-done : (v : Verdict) (count : ℕ) → refuses v ≡ false → count ≡ told v count
+told-done passes count h = refl
+told-done (refused number place) count h = absurd (true≢false h)

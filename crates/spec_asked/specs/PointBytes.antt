@@ -38,5 +38,5 @@ unfoldable pub windingBytes : (triangles : List Float) (points : List ℕ) → L
 windingBytes triangles points = floatBytes binary32 (windings triangles (pointsIn points)) 0 (pointCount (pointsIn points))
 
 -- the lent bytes afterwards: with what is written at the front, and on a refusal as they were
-abbrev pub afterBytes : Verdict → (new old : List ℕ) → List ℕ
+unfoldable pub afterBytes : Verdict → (new old : List ℕ) → List ℕ
 afterBytes verdict new old = afterVerdict verdict (over 0 new old) old

@@ -28,7 +28,7 @@ same-length : tie.Need-same-length
 same-length c = search needs
 
 returns : tie.Need-returns
-returns c = 
+returns c =
     let a = c .before .before .before .before .before .before .before .before .before .args in
     c .before .before .put-u32s .ensures .0 .written
     ∙ ap (λ (words : List ℕ). over (a .at) (numberBytes 4 words 0 6) (now (a .out))) (c .before .before .before .before .before .before .put-answer .ensures)

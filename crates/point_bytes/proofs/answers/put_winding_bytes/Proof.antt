@@ -22,7 +22,7 @@ same-length : tie.Need-same-length
 same-length c = search needs
 
 returns : tie.Need-returns
-returns c = 
+returns c =
     let a = c .before .before .before .before .before .before .args in
     c .before .before .put-u32 .ensures .0 .written ∙ ap (λ (n : ℕ). over (a .at) (little 4 n) (now (a .out))) (c .before .before .before .bits-of .ensures)
 

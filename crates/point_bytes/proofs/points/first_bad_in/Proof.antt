@@ -29,7 +29,7 @@ is-coordinate-requires : tie.Need-is-coordinate-requires Inv-loop μ-loop
 is-coordinate-requires c κs = search needs
 
 returns : tie.Need-returns Inv-loop μ-loop
-returns c = 
+returns c =
     let loop = c .before .before .before .before .loop in
     let s = c .before .before .before .before .before .before .args .bytes .now in
     let found = bad-here (pointsIn s) (loop .i) (rw (points-long s) (c .before .before .before .loop-test .taken)) (ap isCoordinate (sym (c .before .before .number-in .ensures)) ∙ sym (c .before .is-coordinate .ensures) ∙ not-true _ (c .if1 .taken)) in
@@ -42,14 +42,14 @@ loop-less : tie.Need-loop-less Inv-loop μ-loop
 loop-less c = omega arith
 
 loop-again : tie.Need-loop-again Inv-loop μ-loop
-loop-again c = 
+loop-again c =
     let loop = c .before .before .before .before .loop in
     let s = c .before .before .before .before .before .before .args .bytes .now in
     let next = good-here (pointsIn s) (loop .i) (rw (points-long s) (c .before .before .before .loop-test .taken)) (ap isCoordinate (sym (c .before .before .number-in .ensures)) ∙ sym (c .before .is-coordinate .ensures) ∙ not-false _ (c .if1 .left)) in
     omega (arith, loop .inv)
 
 returns-2 : tie.Need-returns-2 Inv-loop μ-loop
-returns-2 c = 
+returns-2 c =
     let loop = c .before .loop in
     let s = c .before .before .before .args .bytes .now in
     let none = none-left (pointsIn s) (loop .i) (rw (points-long s) (c .loop-test .left)) in

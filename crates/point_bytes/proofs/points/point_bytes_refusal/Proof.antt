@@ -27,7 +27,7 @@ refused-if-requires-2 c κs = search needs
 
 returns-2 : tie.Need-returns-2
 unfolding pointBytesRefusal coordinateRefusal
-returns-2 c = 
+returns-2 c =
     goes-on _ _ _ _ _ (c .before .before .before .before .refused-if .ensures) (c .before .before .before .refuses .ensures) (c .before .before .if1 .left)
     (ends _ _ (c .refused-if2 .ensures ∙ rw (← c .before .first-bad-in .ensures, points-long)))
 

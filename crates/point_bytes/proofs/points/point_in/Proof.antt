@@ -37,10 +37,10 @@ plus-zero-requires-3 c κs = search needs
 returns : tie.Need-returns
 unfolding pointAt numberAt
 returns c = λ i. record {
-      x = (c .before .before .before .before .plus-zero .ensures ∙ ap plusZero (c .before .before .before .before .before .number-in .ensures)) i;
-      y = (c .before .before .plus-zero2 .ensures ∙ ap plusZero (c .before .before .before .number-in2 .ensures)) i;
-      z = (c .plus-zero3 .ensures ∙ ap plusZero (c .before .number-in3 .ensures)) i;
-    }
+  x = (c .before .before .before .before .plus-zero .ensures ∙ ap plusZero (c .before .before .before .before .before .number-in .ensures)) i;
+  y = (c .before .before .plus-zero2 .ensures ∙ ap plusZero (c .before .before .before .number-in2 .ensures)) i;
+  z = (c .plus-zero3 .ensures ∙ ap plusZero (c .before .number-in3 .ensures)) i;
+}
 
 pub point-in-spec : {M : Type 1} → statement M
 point-in-spec =

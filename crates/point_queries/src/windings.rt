@@ -1,0 +1,57 @@
+// The winding numbers about all points: tests 2 to 4, 6 and 8, then four bytes a point.
+use lists::refusal::Verdict;
+use lists::refusal::room_refusal;
+use lists::triangles::triangles_refusal;
+use point_bytes::point_bytes_refusal;
+use point_bytes::point_in;
+use point_bytes::put_winding_bytes;
+use winding_numbers::winding_number::winding_number;
+ghost use mathlib.Core.Path.{_≡_};
+ghost use Prim.Native.Nat.{_*_, _/_, _≤_};
+ghost use lib.ListN.{length};
+ghost use Rattle.spec_tables.specs.Tables.{over};
+ghost use Rattle.lists.specs.Values.{asVerdict};
+ghost use Rattle.spec_asked.specs.PointBytes.{windingBytes, afterBytes};
+ghost use Rattle.spec_asked.specs.Asked.{woundRefusal};
+
+// The first of the tests 2 to 4, 6 and 8 that refuses.
+fn wound_refusal(triangles: &[f32], points: &[u8], room: usize) -> Verdict
+    ensures { λ r. ⌜ asVerdict r ≡ woundRefusal (now (triangles .entry)) (now (points .entry)) room ⌝ }
+{
+    let bad_triangles = triangles_refusal(triangles);
+    if bad_triangles.refuses() {
+        return bad_triangles;
+    }
+    let no_room = room_refusal(room / 4, points.len() / 12);
+    if no_room.refuses() {
+        return no_room;
+    }
+    point_bytes_refusal(points)
+}
+
+// The winding number about each point, from the front of the bytes.
+fn put_windings(triangles: &[f32], points: &[u8], out: &mut [u8])
+    requires { ⌜ 4 * (length (now points) / 12) ≤ length (now out) ⌝ }
+    ensures { λ _. ⌜ now (out .exit) ≡ over 0 (windingBytes (now (triangles .entry)) (now (points .entry))) (now (out .entry)) ⌝ }
+{
+    let count = points.len() / 12;
+    let mut k = 0;
+    while k < count {
+        let winding = winding_number(triangles, point_in(points, k));
+        put_winding_bytes(out, 4 * k, winding);
+        k += 1;
+    }
+}
+
+// A refusal changes nothing.
+pub fn wind_lists(triangles: &[f32], points: &[u8], out: &mut [u8]) -> Verdict
+    ensures verdict { λ r. ⌜ asVerdict r ≡ woundRefusal (now (triangles .entry)) (now (points .entry)) (length (now (out .entry))) ⌝ }
+    ensures windings { λ r. ⌜ now (out .exit) ≡ afterBytes (asVerdict r) (windingBytes (now (triangles .entry)) (now (points .entry))) (now (out .entry)) ⌝ }
+{
+    let verdict = wound_refusal(triangles, points, out.len());
+    if verdict.refuses() {
+        return verdict;
+    }
+    put_windings(triangles, points, out);
+    verdict
+}
