@@ -28,7 +28,7 @@ use Rattle.spec_tree.specs.Refusals.{treeRefusal}
 use Rattle.spec_tree.proofs.Accepted.{accepted-listed, listing-most}
 use Rattle.spec_search.specs.Calls.{queryRefusal, Searchable}
 use Rattle.spec_asked.specs.PointBytes.{pointsIn, pointBytesRefusal}
-use Rattle.spec_asked.specs.Asked.{layoutRefusal, contents, treeIn, countRefusal, checkedRefusal, earlyRefusal, lateRefusal, askedRefusal, woundRefusal, checkVerdict, queryVerdict, Ready}
+use Rattle.spec_asked.specs.Asked.{layoutRefusal, contents, treeIn, countRefusal, checkedRefusal, earlyRefusal, lateRefusal, lateIn, askedRefusal, woundRefusal, checkVerdict, queryVerdict, Ready}
 use Rattle.spec_asked.proofs.PointBytes.{points-long, points-count, point-bytes-passed}
 
 -- ---- a row of tests that is made in two parts
@@ -161,7 +161,7 @@ module _ (x : Image) (points : List ℕ) (distance : Float) (room : ℕ) (v : Ve
   unfolding earlyRefusal askedRefusal
   early-stops t = row-stops v _ (treeIn x ∷ pointBytesRefusal points ∷ distanceRefusal distance ∷ []) b is told t
 
-  pub late-decides : b ≡ false → (rest : Verdict) → rest ≡ lateRefusal (x .triangles) (x .order) (x .links) (x .boxes) (x .nodes) points distance → rest ≡ askedRefusal x points distance room
+  pub late-decides : b ≡ false → (rest : Verdict) → rest ≡ lateIn x points distance → rest ≡ askedRefusal x points distance room
   unfolding earlyRefusal lateRefusal askedRefusal
   late-decides f rest e = row-goes-on v _ (treeIn x ∷ pointBytesRefusal points ∷ distanceRefusal distance ∷ []) b is told f rest e
 

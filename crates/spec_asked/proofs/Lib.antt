@@ -1,3 +1,4 @@
 pub mod PointBytes
 pub mod Asked
+pub mod Loaded
 pub mod Told

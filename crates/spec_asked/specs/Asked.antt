@@ -56,6 +56,9 @@ unfoldable pub lateRefusal : (triangles : List Float) (order links : List ℕ) (
 lateRefusal triangles order links boxes nodes points distance =
     firstRefusal (treeRefusal triangles order links boxes nodes ∷ pointBytesRefusal points ∷ distanceRefusal distance ∷ [])
 
+abbrev pub lateIn : Image → (points : List ℕ) (distance : Float) → Verdict
+lateIn x points distance = lateRefusal (x .triangles) (x .order) (x .links) (x .boxes) (x .nodes) points distance
+
 -- 2 to 9
 unfoldable pub askedRefusal : Image → (points : List ℕ) (distance : Float) (room : ℕ) → Verdict
 askedRefusal x points distance room =

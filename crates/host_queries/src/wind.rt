@@ -1,0 +1,46 @@
+// Winding numbers over an image: its layout, its triangles, and nothing of its tree.
+use crate::load::count_refusal;
+use lists::refusal::Verdict;
+use little_endian::read_f32s;
+use point_queries::wind_lists;
+use records::ImageLayout;
+use records::image_layout;
+ghost use mathlib.Core.Path.{_≡_};
+ghost use lib.ListN.{length};
+ghost use Rattle.spec_records.specs.Layouts.{version1, imageSize};
+ghost use Rattle.spec_image.specs.Image.{imageIn};
+ghost use Rattle.lists.specs.Values.{asVerdict};
+ghost use Rattle.spec_asked.specs.PointBytes.{windingBytes, afterBytes};
+ghost use Rattle.spec_asked.specs.Asked.{contents, woundRefusal, windingVerdict};
+
+fn wind_laid(image: &[u8], count: usize, nodes: usize, points: &[u8], out: &mut [u8]) -> Verdict
+    requires { ⌜ imageSize version1 count nodes ≡ length (now image) ⌝ }
+    ensures verdict { λ r. ⌜ asVerdict r ≡ woundRefusal (imageIn version1 (now (image .entry)) count nodes .triangles) (now (points .entry)) (length (now (out .entry))) ⌝ }
+    ensures windings { λ r. ⌜ now (out .exit) ≡ afterBytes (asVerdict r) (windingBytes (imageIn version1 (now (image .entry)) count nodes .triangles) (now (points .entry))) (now (out .entry)) ⌝ }
+{
+    let bad_count = count_refusal(count);
+    if bad_count.refuses() {
+        return bad_count;
+    }
+    let numbers = 9 * count;
+    let mut triangles = [0.0f32; 36864];
+    read_f32s(image, 20, numbers, &mut triangles, 0);
+    wind_lists(&triangles[..numbers], points, out)
+}
+
+// Test 10, and then what the image holds.
+pub fn wind(image: &[u8], points: &[u8], out: &mut [u8]) -> Verdict
+    ensures verdict { λ r. ⌜ asVerdict r ≡ windingVerdict (now (image .entry)) (now (points .entry)) (length (now (out .entry))) ⌝ }
+    ensures windings { λ r. ⌜ now (out .exit) ≡ afterBytes (asVerdict r) (windingBytes (contents (now (image .entry)) .triangles) (now (points .entry))) (now (out .entry)) ⌝ }
+{
+    match image_layout(image) {
+        ImageLayout::Wrong(at) => Verdict::Refused {
+            number: 10,
+            place: at,
+        },
+        ImageLayout::Right {
+            triangles: count,
+            nodes,
+        } => wind_laid(image, count, nodes, points, out),
+    }
+}
