@@ -1,10 +1,11 @@
-// Exports for the timing in tests/timing; no part of the engine.
+// Exports for tests/timing and tests/compare; no part of the engine.
 ghost use Rattle.spec_search.specs.Calls as Calls;
 use aabb_build::build::Built;
 use aabb_tree::check::is_accepted;
 use closest::answer::Query;
 use closest::sure::search;
 use lists::points::point_at;
+use lists::triangles::triangle_at;
 use lists::triangles::triangles_refusal;
 use primitives::vec3::Vec3;
 
@@ -30,6 +31,32 @@ pub extern "C" fn timing_build(
     );
     match built {
         Built::Tree { nodes, depth: _ } => nodes,
+        Built::Refused { .. } => 0,
+    }
+}
+
+// The depth that the build tells, 0 for a refusal.
+#[no_mangle]
+pub extern "C" fn timing_depth(
+    triangles: &[f32],
+    strategy: usize,
+    leaf_minimum: usize,
+    maximum_depth: usize,
+    order: &mut [u32],
+    links: &mut [u32],
+    boxes: &mut [f32],
+) -> usize {
+    let built = aabb_build::build::build(
+        triangles,
+        strategy,
+        leaf_minimum,
+        maximum_depth,
+        order,
+        links,
+        boxes,
+    );
+    match built {
+        Built::Tree { nodes: _, depth } => depth,
         Built::Refused { .. } => 0,
     }
 }
@@ -136,4 +163,24 @@ pub extern "C" fn timing_measured(
         }
     }
     0
+}
+
+// 1 where the winding numbers were written.
+#[no_mangle]
+pub extern "C" fn timing_winding(triangles: &[f32], points: &[f32], windings: &mut [f32]) -> u32 {
+    let verdict = winding_numbers::winding_number::winding(triangles, points, windings);
+    !verdict.refuses() as u32
+}
+
+// The solid angle of one triangle from one point; no number where there are more or fewer.
+#[no_mangle]
+pub extern "C" fn timing_solid(triangle: &[f32], point: &[f32]) -> f32 {
+    if triangle.len() == 9 {
+        if point.len() == 3 {
+            let t = triangle_at(triangle, 0);
+            let p = point_at(point, 0);
+            return winding_numbers::solid_angle::solid_angle(t, p);
+        }
+    }
+    0.0 / 0.0
 }
