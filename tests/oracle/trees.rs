@@ -7,9 +7,7 @@
 //!
 //! A case is words, u32 little-endian: n, strategy, leaf minimum, depth, distance bits, points,
 //! nodes, depth of the tree; then 9n coordinates, 3 a point, n order entries, 3 links a node, 6 box
-//! numbers a node, 6 words of the source answer a point, 6 words of the sure answer a point. With
-//! `count N` as its first argument it compares the two answers over N seeds of each kind instead, and
-//! prints why they differ.
+//! numbers a node, 6 words of the source answer a point, 6 words of the sure answer a point.
 
 use shark::{
     cases::{make, Wish, KINDS},
@@ -55,57 +53,8 @@ fn case(r: Request, out: &mut Vec<u32>) {
     points.iter().for_each(|p| answer(out, scan::scan(&list, v(p), d)));
 }
 
-/// Why the two answers differ, if they do.
-fn why(source: Option<(u32, [f32; 3], f32)>, sure: Option<(u32, [f32; 3], f32)>, limit: f32) -> &'static str {
-    match (source, sure) {
-        (None, None) => "same",
-        (Some(_), None) => "source beyond the limit, sure nothing",
-        (None, Some(_)) => "source nothing, sure found",
-        (Some(a), Some(b)) => {
-            let bits = |q: [f32; 3]| q.map(|x| (x + 0.0).to_bits());
-            if a.0 == b.0 && bits(a.1) == bits(b.1) && a.2 == b.2 {
-                "same"
-            } else if a.0 != b.0 && a.2 == b.2 {
-                "equal distance, another triangle"
-            } else if a.0 == b.0 {
-                "same triangle, the point was held into the box"
-            } else if a.2 >= limit {
-                "source beyond the limit, sure found another"
-            } else if b.2 < a.2 {
-                "sure nearer"
-            } else {
-                "source's computed point nearer than its box allows"
-            }
-        }
-    }
-}
-
-fn count(seeds: u64) {
-    let mut counts = std::collections::BTreeMap::new();
-    let mut queries = 0u64;
-    for kind in KINDS {
-        for seed in 1000..1000 + seeds {
-            let r = make(kind, seed, 40, &Wish { points: Some(20), ..Wish::default() });
-            let r = Request::read(&r.write()).unwrap();
-            let (s, tris, d) = (r.settings.unwrap(), r.triangles.unwrap(), r.distance.unwrap());
-            let built = Any::build(Variant::NanNone, s, &tris);
-            let list: Vec<[[f32; 3]; 3]> = tris.iter().map(|t| [v(&t[0]), v(&t[1]), v(&t[2])]).collect();
-            for p in r.points.unwrap() {
-                queries += 1;
-                let reason = why(plain(built.source(&p, d).0), scan::scan(&list, v(&p), d), d * d);
-                *counts.entry(reason).or_insert(0u64) += 1;
-            }
-        }
-    }
-    println!("{queries} queries");
-    counts.iter().for_each(|(k, n)| println!("{n:8} {k}"));
-}
-
 fn main() {
     let args: Vec<String> = std::env::args().skip(1).collect();
-    if args.first().map(String::as_str) == Some("count") {
-        return count(args[1].parse().unwrap());
-    }
     let mut out = Vec::new();
     for path in &args {
         let r = Request::read(&std::fs::read(path).unwrap()).unwrap();

@@ -1,0 +1,461 @@
+//! Runs the oracle and this engine in one process: on the smallest input of each fault, on the same made-up requests, and the
+//! sure query against a plain scan. Prints counts and the first that differ, and ends with status 1 where any does.
+//! tests/compare builds and runs it.
+//!
+//!     compare [REQUESTS [POINTS]]     200,000 requests, 10,000,000 points
+//!
+//! This engine is given the numbers as they were made, minus zeros too; the oracle and the scan read each as itself plus zero.
+
+use shark::{
+    cases::{make, Rng, Wish, FAR, KINDS},
+    request::{Request, Settings, P},
+    run::{caught, triangle, Any, Variant},
+    spatial_partitioning::aabb_tree::winding_numbers::{solid_angle, winding_number},
+};
+use std::{collections::BTreeMap, time::Instant};
+
+#[path = "beside/engine.rs"]
+mod engine;
+#[path = "beside/scan.rs"]
+mod scan;
+use engine::Tree;
+
+const UNIT: f64 = 1.0 / 1048576.0;
+const SHOWN: usize = 10;
+
+/// What was compared under one name, how often it differed, and the first that did.
+struct Tally {
+    name: &'static str,
+    compared: u64,
+    differ: u64,
+    first: Vec<String>,
+}
+
+impl Tally {
+    fn new(name: &'static str) -> Self {
+        Tally { name, compared: 0, differ: 0, first: Vec::new() }
+    }
+
+    fn note(&mut self, same: bool, tell: impl FnOnce() -> String) {
+        self.compared += 1;
+        if !same {
+            self.differ += 1;
+            if self.first.len() < SHOWN {
+                self.first.push(tell());
+            }
+        }
+    }
+
+    fn print(&self) -> u64 {
+        println!("{:>12} {}: {} differ", self.compared, self.name, self.differ);
+        self.first.iter().for_each(|line| println!("             {line}"));
+        self.differ
+    }
+}
+
+fn v(p: &P) -> [f32; 3] {
+    [p.x, p.y, p.z]
+}
+
+fn numbers<'a>(points: impl Iterator<Item = &'a P>) -> Vec<f32> {
+    points.flat_map(v).collect()
+}
+
+/// Triangle, point, squared distance.
+type Answer = Option<(u32, [f32; 3], f32)>;
+
+fn words(found: Answer) -> [u32; 6] {
+    found.map_or([0; 6], |(t, q, d)| [1, t, q[0].to_bits(), q[1].to_bits(), q[2].to_bits(), d.to_bits()])
+}
+
+fn source_of(tree: &Any, p: &P, d: f32) -> Answer {
+    tree.source(p, d).0.map(|f| (f.triangle, v(&f.point), f.squared))
+}
+
+const T0: [f32; 9] = [0.0, 0.0, 0.0, 1.0, 0.0, 0.0, 0.0, 1.0, 0.0];
+const T1: [f32; 9] = [10.0, 0.0, 0.0, 11.0, 0.0, 0.0, 10.0, 1.0, 0.0];
+const WIDE: [f32; 9] = [0.0, 0.0, 0.0, 4.0, 0.0, 0.0, 0.0, 4.0, 0.0];
+const AWAY: [f32; 9] = [100.0, 0.0, 0.0, 101.0, 0.0, 0.0, 100.0, 1.0, 0.0];
+const PINCHED: [f32; 9] = [0.0, 0.0, 0.0, 0.0, 0.0, 0.0, 4.0, 0.0, 0.0];
+const E: f32 = 1.0 / 1073741824.0;
+const NEAR: [f32; 9] = [-1.0, -4.0, 0.0, -E, 0.0, 0.0, -2.0, -4.0, 0.0];
+
+/// The smallest input for each: name, strategy, triangles, point, distance (leaf minimum 1, depth 40).
+const FAULTS: [(&str, u16, &[[f32; 9]], [f32; 3], f32); 19] = [
+    ("last leaf read past its end", 1, &[T0], [0.0, 0.0, 1.0], 4.0),
+    ("neighbouring leaf's first triangle measured", 1, &[WIDE, [6.0, 4.0, 0.0, 7.0, 4.0, 0.0, 6.0, 5.0, 0.0]], [4.0, 4.0, 0.0], 1.0),
+    ("pinched, a = b", 1, &[PINCHED], [1.0, 1.0, 0.0], 10.0),
+    ("pinched, a = b, asked at corner c", 1, &[[4.0, 0.0, 0.0, 4.0, 0.0, 0.0, 0.0, 0.0, 0.0]], [0.0, 0.0, 0.0], 10.0),
+    ("pinched, a = b, with another far off", 1, &[PINCHED, AWAY], [1.0, 1.0, 0.0], 1000.0),
+    ("corners apart, asked from far off", 1, &[[0.0, 0.0, 0.001, 0.001, 0.0, 0.0, 0.0, 0.0, 0.0]], [-1048576.0, 0.0, -1048576.0], FAR),
+    ("tiny", 1, &[[0.0, 0.0, 0.0, 1e-10, 0.0, 0.0, 0.0, 1e-10, 0.0]], [3e-11, 3e-11, 0.0], 1.0),
+    ("beyond the limit, in the root", 1, &[T0], [100.0, 0.0, 0.0], 1.0),
+    ("beyond the limit, in a box that holds the point", 1, &[WIDE, AWAY], [4.0, 4.0, 0.0], 1.0),
+    ("distance 0", 1, &[WIDE, AWAY], [1.0, 1.0, 0.0], 0.0),
+    ("equal distances", 1, &[T0, T1], [5.5, 0.0, 0.0], 50.0),
+    ("a cost that is no number, corners in a line", 2, &[[0.0, 0.0, 0.0, 1.0, 0.0, 0.0, 2.0, 0.0, 0.0], [10.0, 0.0, 0.0, 11.0, 0.0, 0.0, 12.0, 0.0, 0.0]], [5.0, 0.0, 0.0], 50.0),
+    ("a cost that is no number, areas run under", 2, &[[0.0, 0.0, 0.0, 1e-24, 0.0, 0.0, 0.0, 1e-24, 0.0], [5e-24, 0.0, 0.0, 6e-24, 0.0, 0.0, 5e-24, 1e-24, 0.0]], [1.0, 0.0, 0.0], 50.0),
+    ("computed point nearer than its box", 1, &[NEAR], [E / 2.0, -E / 2.0, 0.0], E),
+    ("computed point nearer than its box, with another far off", 1, &[NEAR, AWAY], [E / 2.0, -E / 2.0, 0.0], E),
+    ("computed point outside its box", 1, &[[1.0000004, 1.0000002, 1.0000004, 1.0, 1.0, 1.0, 1.0000005, 1.0000005, 1.0]], [1.0000001, 1.0, 1.0], 1.0),
+    ("finite and wrong, corners in a line", 1, &[[0.0, 0.0, 60.0, 0.0, 0.0, 55.0, 0.0, 0.0, 39.0]], [0.0, 0.0, 58.493656], 50.0),
+    ("finite and wrong, thin", 1, &[[0.0, 0.0, 0.0, 60.0, 61.0, 0.0, 181.0, 184.0, 0.0]], [95.9, 97.5, 0.5], 1000.0),
+    ("a coordinate that is no number", 1, &[[0.0, 0.0, 0.0, f32::NAN, 0.0, 0.0, 0.0, 1.0, 0.0], T1], [0.0, 0.0, 1.0], 4.0),
+];
+
+fn told(words: [u32; 6]) -> String {
+    let [x, y, z, d] = [2, 3, 4, 5].map(|i| f32::from_bits(words[i]));
+    if words[0] == 1 { format!("{} ({x:?}, {y:?}, {z:?}) {d:?}", words[1]) } else { "nothing".into() }
+}
+
+/// What each does on the smallest input of each fault: triangle, point and squared distance.
+fn faults() {
+    for (name, strategy, list, point, d) in FAULTS {
+        let s = Settings { version: 1, strategy, leaf_minimum: 1, depth: 40 };
+        let tris: Vec<[P; 3]> = list.iter().map(|t| [0, 3, 6].map(|i| P::new(t[i], t[i + 1], t[i + 2]))).collect();
+        let p = P::new(point[0], point[1], point[2]);
+        let rust = |variant| caught(|| words(source_of(&Any::build(variant, s, &tris), &p, d))).map_or_else(|why| format!("stops: {why}"), told);
+        let given = list.concat();
+        let tree = Tree::build(&given, strategy as usize, 1, 40);
+        let ours = |answers: Option<Vec<[u32; 6]>>| answers.map_or("refused".into(), |a| told(a[0]));
+        println!("{name}\n    as published {}\n    leaves repaired {}", rust(Variant::Unrepaired), rust(Variant::Repaired));
+        println!("    here {} nodes, source {}, sure {}", tree.nodes, ours(tree.source(&given, &point, d)), ours(tree.sure(&given, &point, d)));
+    }
+}
+
+/// How the source's answer and the sure one differ, if they do.
+fn why(source: Answer, sure: Answer, limit: f32, list: &[[[f32; 3]; 3]], p: [f32; 3]) -> &'static str {
+    let no_point = |t: u32| !scan::closest(&list[t as usize], p).iter().all(|x| x.is_finite());
+    match (source, sure) {
+        _ if words(source) == words(sure) => "the same answer",
+        (None, None) => "the same answer",
+        (Some(a), None) if a.2 >= limit => "source beyond the limit, sure nothing",
+        (Some(_), None) => "source within the limit by a point outside its box, sure nothing",
+        (None, Some(b)) if no_point(b.0) => "source nothing, the Rust has no point on the triangle that sure answers",
+        (None, Some(_)) => "source nothing, otherwise",
+        (Some(a), Some(b)) if a.0 != b.0 && a.2 == b.2 => "equal distance, sure the lower number",
+        (Some(a), Some(b)) if a.0 == b.0 => "same triangle, its point held into its box",
+        (Some(_), Some(b)) if no_point(b.0) => "sure nearer, the Rust has no point on that triangle",
+        (Some(a), Some(_)) if a.2 >= limit => "source beyond the limit, sure another within",
+        (Some(a), Some(b)) if b.2 < a.2 => "sure nearer, otherwise",
+        _ => "source nearer by a point outside its box",
+    }
+}
+
+/// A request as this engine is given it, and as it is read. Its name is what the oracle's `gen` makes it from.
+struct Asked {
+    name: String,
+    settings: Settings,
+    given: Vec<f32>,
+    given_points: Vec<f32>,
+    tris: Vec<[P; 3]>,
+    points: Vec<P>,
+    distance: f32,
+}
+
+impl Asked {
+    fn new(kind: &str, seed: u64, size: usize, wish: &Wish) -> Self {
+        let made = make(kind, seed, size, wish);
+        let read = Request::read(&made.write()).unwrap();
+        let settings = read.settings.unwrap();
+        let one = |key: &str, value: Option<String>| value.map_or(String::new(), |v| format!(" {key}={v}"));
+        let number = |key: &str, value: Option<u16>| one(key, value.map(|v| v.to_string()));
+        let name = format!("{kind} {seed} {size}")
+            + &one("points", wish.points.map(|p| p.to_string()))
+            + &one("spread", wish.spread.clone())
+            + &number("strategy", wish.strategy)
+            + &number("leaf", wish.leaf)
+            + &number("depth", wish.depth);
+        Asked {
+            name,
+            settings,
+            given: numbers(made.triangles.unwrap().iter().flatten()),
+            given_points: numbers(made.points.unwrap().iter()),
+            tris: read.triangles.unwrap(),
+            points: read.points.unwrap(),
+            distance: read.distance.unwrap(),
+        }
+    }
+
+    fn list(&self) -> Vec<[[f32; 3]; 3]> {
+        self.tris.iter().map(|t| [v(&t[0]), v(&t[1]), v(&t[2])]).collect()
+    }
+}
+
+struct Requests {
+    trees: Tally,
+    accepted: Tally,
+    source: Tally,
+    sure: Tally,
+    solid: Tally,
+    winding: Tally,
+    stopped: u64,
+    /// The Rust as published, leaves read to right + 1: queries that stop, and that answer otherwise.
+    published: [u64; 2],
+    past_16: u64,
+    sizes: [u64; 5],
+    most_solid: f64,
+    most_winding: f64,
+    most_past_16: f64,
+    whys: BTreeMap<&'static str, u64>,
+}
+
+impl Requests {
+    fn new() -> Self {
+        Requests {
+            trees: Tally::new("trees (nodes, depth, order, links, boxes; nothing written past them)"),
+            accepted: Tally::new("trees accepted by the check"),
+            source: Tally::new("source answers"),
+            sure: Tally::new("sure answers, against a plain scan"),
+            solid: Tally::new("solid angles, within 2 x 2^-20"),
+            winding: Tally::new("winding numbers, within n x 2^-20"),
+            stopped: 0,
+            published: [0; 2],
+            past_16: 0,
+            sizes: [0; 5],
+            most_solid: 0.0,
+            most_winding: 0.0,
+            most_past_16: 0.0,
+            whys: BTreeMap::new(),
+        }
+    }
+
+    fn run(&mut self, a: &Asked) {
+        let s = a.settings;
+        let n = a.tris.len();
+        self.sizes[[64, 512, 2048, 4095].iter().filter(|&&most| n > most).count()] += 1;
+        // Where the Rust stops on a cost that is no number, its tree with that one repair.
+        let theirs = caught(|| Any::build(Variant::Repaired, s, &a.tris)).unwrap_or_else(|_| {
+            self.stopped += 1;
+            Any::build(Variant::NanNone, s, &a.tris)
+        });
+        let seen = theirs.see();
+        let ours = Tree::build(&a.given, s.strategy as usize, s.leaf_minimum as usize, s.depth as usize);
+        let links: Vec<u32> = seen.nodes.iter().flat_map(|n| [if n.leaf { 1 } else { 2 }, n.left as u32, n.right as u32]).collect();
+        let boxes: Vec<u32> = seen.nodes.iter().flat_map(|n| n.bbox).map(f32::to_bits).collect();
+        let same = ours.nodes == seen.nodes.len()
+            && ours.depth == seen.depth
+            && ours.order[..n] == seen.order
+            && ours.links[..3 * ours.nodes] == links
+            && ours.boxes[..6 * ours.nodes].iter().map(|x| x.to_bits()).eq(boxes)
+            && ours.untouched_past(n);
+        self.trees.note(same, || a.name.clone());
+        self.accepted.note(ours.accepted(&a.given), || a.name.clone());
+
+        let (list, d) = (a.list(), a.distance);
+        let source: Vec<Answer> = a.points.iter().map(|p| source_of(&theirs, p, d)).collect();
+        let sure: Vec<Answer> = a.points.iter().map(|p| scan::scan(&list, v(p), d)).collect();
+        if let Ok(published) = caught(|| Any::build(Variant::Unrepaired, s, &a.tris)) {
+            for (p, repaired) in a.points.iter().zip(&source) {
+                match caught(|| source_of(&published, p, d)) {
+                    Err(_) => self.published[0] += 1,
+                    Ok(answer) => self.published[1] += (words(answer) != words(*repaired)) as u64,
+                }
+            }
+        }
+        Self::answers(&mut self.source, a, ours.source(&a.given, &a.given_points, d), &source);
+        Self::answers(&mut self.sure, a, ours.sure(&a.given, &a.given_points, d), &sure);
+        for ((p, x), y) in a.points.iter().zip(source).zip(sure) {
+            *self.whys.entry(why(x, y, d * d, &list, v(p))).or_default() += 1;
+        }
+        self.angles(a);
+    }
+
+    fn answers(tally: &mut Tally, a: &Asked, ours: Option<Vec<[u32; 6]>>, wanted: &[Answer]) {
+        for (k, p) in a.points.iter().enumerate() {
+            let (got, want) = (ours.as_ref().map(|o| o[k]), words(wanted[k]));
+            tally.note(got == Some(want), || format!("{} distance={:?}: point {k} {p:?}: {got:x?}, not {want:x?}", a.name, a.distance));
+        }
+    }
+
+    fn angles(&mut self, a: &Asked) {
+        let n = a.tris.len();
+        let triangles: Vec<_> = a.tris.iter().map(triangle).collect();
+        let windings = engine::windings(&a.given, &a.given_points);
+        let apart = |x: f32, y: f32| if x.is_nan() && y.is_nan() { 0.0 } else { (x as f64 - y as f64).abs() };
+        for (k, p) in a.points.iter().enumerate() {
+            let (mut sum, mut small) = (0f32, true);
+            for (i, t) in triangles.iter().enumerate() {
+                let (theirs, ours) = (solid_angle(t, p), engine::solid(&a.given[9 * i..9 * i + 9], &a.given_points[3 * k..3 * k + 3]));
+                sum += theirs;
+                small &= sum.abs() < 16.0;
+                let off = apart(theirs, ours);
+                self.most_solid = self.most_solid.max(off / UNIT);
+                self.solid.note(off <= 2.0 * UNIT, || format!("{}: triangle {i}, point {k} {p:?}: {ours:e}, not {theirs:e}", a.name));
+            }
+            let (theirs, ours) = (winding_number(triangles.iter(), p), windings.as_ref().map(|w| w[k]));
+            let off = ours.map_or(f64::INFINITY, |o| apart(theirs, o));
+            let most = if small { &mut self.most_winding } else { &mut self.most_past_16 };
+            *most = most.max(off / UNIT / n as f64);
+            if !small {
+                self.past_16 += 1;
+                continue;
+            }
+            self.winding.note(off <= n as f64 * UNIT, || format!("{}: point {k} {p:?}: {ours:?}, not {theirs:e}", a.name));
+        }
+    }
+}
+
+/// Mostly 1 to 64 triangles, a sixth up to 512, a fortieth up to 2,048, one in 200 up to 4,096.
+fn request(i: u64, r: &mut Rng) -> Asked {
+    let kind = KINDS[i as usize % KINDS.len()];
+    let (size, points) = match r.below(200) {
+        0..=160 => (1 + r.below(64), r.below(16)),
+        161..=193 => (65 + r.below(448), r.below(12)),
+        194..=198 => (513 + r.below(1536), r.below(10)),
+        _ => ([4096, 4096, 4095, 2049 + r.below(2047)][r.below(4)], 8),
+    };
+    let wish = Wish {
+        points: Some(points),
+        spread: [None, None, None, Some("near".into()), Some("box".into())][r.below(5)].clone(),
+        strategy: Some(1 + r.below(2) as u16),
+        leaf: [None, None, Some(1 << r.below(13)), Some(1 + r.below(4096) as u16)][r.below(4)],
+        depth: [None, None, Some(r.below(65) as u16)][r.below(3)],
+        ..Wish::default()
+    };
+    Asked::new(kind, 1_000_000 + i, size, &wish)
+}
+
+fn requests(count: u64) -> u64 {
+    let (start, mut all, mut r) = (Instant::now(), Requests::new(), Rng::new(2));
+    (0..count).for_each(|i| all.run(&request(i, &mut r)));
+    println!("{count} requests over {} kinds of shape, {:.0} s", KINDS.len(), start.elapsed().as_secs_f64());
+    println!("  1 to 64 triangles {}, to 512 {}, to 2,048 {}, to 4,095 {}, 4,096 {}", all.sizes[0], all.sizes[1], all.sizes[2], all.sizes[3], all.sizes[4]);
+    println!("  the Rust stops on a cost that is no number in {} of them: compared with its variant nan-none there", all.stopped);
+    println!("  the Rust as published stops at {} points and answers otherwise at {}", all.published[0], all.published[1]);
+    println!("  solid angles at most {:.4} x 2^-20 off, winding numbers {:.4} x 2^-20 a triangle", all.most_solid, all.most_winding);
+    println!("  {} points not judged, where a partial sum reaches 16: winding numbers at most {:.4} x 2^-20 a triangle off", all.past_16, all.most_past_16);
+    println!("  how source and sure answers differ:");
+    all.whys.iter().for_each(|(why, n)| println!("{n:>12} {why}"));
+    [&all.trees, &all.accepted, &all.source, &all.sure, &all.solid, &all.winding].iter().map(|t| t.print()).sum()
+}
+
+/// A tree that no builder made: any order, any cuts, leaves of any size.
+struct Growth<'a> {
+    list: &'a [[[f32; 3]; 3]],
+    tree: Tree,
+    /// 0 cuts anywhere, 1 in the middle, 2 takes one triangle off the front, 3 off the back
+    cuts: usize,
+    /// A node may be a leaf, one in so many.
+    leaves: usize,
+}
+
+impl Growth<'_> {
+    fn grow(&mut self, r: &mut Rng, first: usize, last: usize, depth: usize) -> [f32; 6] {
+        let count = last - first;
+        let mut around = [f32::INFINITY, f32::INFINITY, f32::INFINITY, f32::NEG_INFINITY, f32::NEG_INFINITY, f32::NEG_INFINITY];
+        let mut join = |b: [f32; 6]| (0..3).for_each(|i| (around[i], around[i + 3]) = (around[i].min(b[i]), around[i + 3].max(b[i + 3])));
+        let link = if count == 1 || depth == 64 || r.one_in(self.leaves) {
+            let corners = self.tree.order[first..last].iter().flat_map(|&t| self.list[t as usize]);
+            corners.for_each(|c| join([c[0], c[1], c[2], c[0], c[1], c[2]]));
+            [1, first as u32, last as u32]
+        } else {
+            let cut = first + [1 + r.below(count - 1), count / 2, 1, count - 1][self.cuts];
+            join(self.grow(r, first, cut, depth + 1));
+            let left = self.tree.nodes - 1;
+            join(self.grow(r, cut, last, depth + 1));
+            [2, left as u32, self.tree.nodes as u32 - 1]
+        };
+        self.tree.links.extend(link);
+        self.tree.boxes.extend(around);
+        self.tree.nodes += 1;
+        self.tree.depth = self.tree.depth.max(depth);
+        around
+    }
+}
+
+fn grown(list: &[[[f32; 3]; 3]], r: &mut Rng) -> Tree {
+    let mut order: Vec<u32> = (0..list.len() as u32).collect();
+    (1..order.len()).for_each(|i| order.swap(i, r.below(i + 1)));
+    let tree = Tree { nodes: 0, depth: 0, order, links: Vec::new(), boxes: Vec::new() };
+    let mut growth = Growth { list, tree, cuts: r.below(4), leaves: [5, 20, usize::MAX >> 32][r.below(3)] };
+    growth.grow(r, 0, list.len(), 1);
+    growth.tree
+}
+
+/// The search distance whose square is this squared distance exactly, if there is one.
+fn square_root_of(squared: f32) -> Option<f32> {
+    let near = squared.sqrt();
+    [near, near.next_up(), near.next_down()].into_iter().find(|d| d * d == squared && *d <= FAR)
+}
+
+fn scans(count: u64) -> u64 {
+    const EACH: usize = 100;
+    let (start, mut r) = (Instant::now(), Rng::new(3));
+    let mut sure = Tally::new("sure answers, against a plain scan");
+    let mut accepted = Tally::new("trees accepted by the check");
+    let (mut median, mut area, mut others, mut deepest, mut large) = (0u64, 0u64, 0u64, 0, 0u64);
+    let (mut found, mut looked, mut ties, mut at_limit) = (0u64, 0u64, 0u64, 0u64);
+    let mut i = 0;
+    while sure.compared < count {
+        let kind = KINDS[i as usize % KINDS.len()];
+        let size = match r.below(100) {
+            0..=79 => 1 + r.below(64),
+            80..=95 => 65 + r.below(192),
+            96..=97 => 257 + r.below(1000),
+            98 => 1257 + r.below(2840),
+            _ => 4096,
+        };
+        let wish = Wish { points: Some(EACH), spread: [None, None, Some("near".into()), Some("box".into())][r.below(4)].clone(), leaf: [Some(1), None][r.below(2)], ..Wish::default() };
+        let mut a = Asked::new(kind, 9_000_000 + i, size, &wish);
+        let n = a.tris.len();
+        large += (n == 4096) as u64;
+        // Triangles told twice or more tie with each other.
+        if r.one_in(4) {
+            for _ in 0..n / 3 {
+                let (to, from) = (r.below(n), r.below(n));
+                a.tris[to] = a.tris[from];
+                a.given.copy_within(9 * from..9 * from + 9, 9 * to);
+            }
+        }
+        let list = a.list();
+        let s = a.settings;
+        let tree = if i % 2 == 0 {
+            *(if s.strategy == 1 { &mut median } else { &mut area }) += 1;
+            Tree::build(&a.given, s.strategy as usize, s.leaf_minimum as usize, s.depth as usize)
+        } else {
+            others += 1;
+            grown(&list, &mut r)
+        };
+        deepest = deepest.max(tree.depth);
+        accepted.note(tree.accepted(&a.given), || a.name.clone());
+        // Half of the distances are at, just above or just below where a point's nearest stands.
+        let mut d = a.distance;
+        if r.one_in(2) {
+            let nearest = scan::scan(&list, v(&a.points[0]), FAR).and_then(|b| square_root_of(b.2));
+            if let Some(exact) = nearest {
+                at_limit += 1;
+                d = [exact, exact.next_up(), if exact > 0.0 { exact.next_down() } else { exact }][r.below(3)].min(FAR);
+            }
+        } else if r.one_in(3) {
+            d = FAR;
+        }
+        let ours = tree.sure(&a.given, &a.given_points, d);
+        for (k, p) in a.points.iter().enumerate() {
+            let answer = scan::scan(&list, v(p), d);
+            let (got, want) = (ours.as_ref().map(|o| o[k]), words(answer));
+            sure.note(got == Some(want), || format!("{} distance={d:?}, tree {}: point {k} {p:?}: {got:x?}, not {want:x?}", a.name, if i % 2 == 0 { "built" } else { "grown" }));
+            if let Some((t, _, squared)) = answer {
+                found += 1;
+                if k % 10 == 0 {
+                    looked += 1;
+                    let rest: Vec<_> = list.iter().enumerate().filter(|(j, _)| *j != t as usize).map(|(_, t)| *t).collect();
+                    ties += scan::scan(&rest, v(p), d).is_some_and(|b| b.2 == squared) as u64;
+                }
+            }
+        }
+        i += 1;
+    }
+    println!("{} points, {i} trees ({median} median, {area} area, {others} that no builder made; {large} of 4,096 triangles; depth up to {deepest}), {:.0} s", sure.compared, start.elapsed().as_secs_f64());
+    println!("  {found} found; among {looked} of these looked at, {ties} have another triangle at the same distance; {at_limit} trees with the limit at a point's nearest");
+    accepted.print() + sure.print()
+}
+
+fn main() {
+    let mut args = std::env::args().skip(1).map(|a| a.parse().expect("a number"));
+    let (trees, points) = (args.next().unwrap_or(200_000), args.next().unwrap_or(10_000_000));
+    faults();
+    let differ = requests(trees) + scans(points);
+    println!("{differ} differ");
+    std::process::exit((differ > 0) as i32);
+}

@@ -1,0 +1,86 @@
+//! This engine's exported functions (crates/timing) over plain slices, for compare.rs and hazard.rs.
+
+extern "C" {
+    fn timing_build(t: *const f32, tn: usize, strategy: usize, leaf: usize, depth: usize, o: *mut u32, on: usize, l: *mut u32, ln: usize, b: *mut f32, bn: usize) -> usize;
+    fn timing_depth(t: *const f32, tn: usize, strategy: usize, leaf: usize, depth: usize, o: *mut u32, on: usize, l: *mut u32, ln: usize, b: *mut f32, bn: usize) -> usize;
+    fn timing_check(t: *const f32, tn: usize, o: *const u32, on: usize, l: *const u32, ln: usize, b: *const f32, bn: usize, nodes: usize) -> u32;
+    fn timing_sure(t: *const f32, tn: usize, o: *const u32, on: usize, l: *const u32, ln: usize, b: *const f32, bn: usize, nodes: usize, p: *const f32, pn: usize, d: f32, a: *mut u32, an: usize) -> u32;
+    fn timing_source(t: *const f32, tn: usize, o: *const u32, on: usize, l: *const u32, ln: usize, b: *const f32, bn: usize, nodes: usize, p: *const f32, pn: usize, d: f32, a: *mut u32, an: usize) -> u32;
+    fn timing_winding(t: *const f32, tn: usize, p: *const f32, pn: usize, w: *mut f32, wn: usize) -> u32;
+    fn timing_solid(t: *const f32, tn: usize, p: *const f32, pn: usize) -> f32;
+}
+
+/// Stands in every lent entry before a call.
+pub const UNTOUCHED: u32 = 0x7e57_7e57;
+
+pub struct Tree {
+    pub nodes: usize,
+    pub depth: usize,
+    pub order: Vec<u32>,
+    pub links: Vec<u32>,
+    pub boxes: Vec<f32>,
+}
+
+impl Tree {
+    /// Room for the largest tree of n triangles and one entry more in each list.
+    fn room(n: usize) -> Self {
+        let most = 2 * n - 1;
+        let untouched = f32::from_bits(UNTOUCHED);
+        Tree { nodes: 0, depth: 0, order: vec![UNTOUCHED; n + 1], links: vec![UNTOUCHED; 3 * most + 1], boxes: vec![untouched; 6 * most + 1] }
+    }
+
+    pub fn build(t: &[f32], strategy: usize, leaf: usize, depth: usize) -> Self {
+        let n = t.len() / 9;
+        let (mut tree, mut again) = (Tree::room(n), Tree::room(n));
+        let call = |f: unsafe extern "C" fn(*const f32, usize, usize, usize, usize, *mut u32, usize, *mut u32, usize, *mut f32, usize) -> usize, to: &mut Tree| unsafe {
+            let (o, l, b) = (&mut to.order, &mut to.links, &mut to.boxes);
+            f(t.as_ptr(), t.len(), strategy, leaf, depth, o.as_mut_ptr(), o.len(), l.as_mut_ptr(), l.len(), b.as_mut_ptr(), b.len())
+        };
+        tree.nodes = call(timing_build, &mut tree);
+        tree.depth = call(timing_depth, &mut again);
+        tree
+    }
+
+    /// The entries past those of n triangles and this tree's nodes.
+    pub fn untouched_past(&self, n: usize) -> bool {
+        self.order[n..].iter().chain(&self.links[3 * self.nodes..]).all(|&x| x == UNTOUCHED)
+            && self.boxes[6 * self.nodes..].iter().all(|x| x.to_bits() == UNTOUCHED)
+    }
+
+    pub fn accepted(&self, t: &[f32]) -> bool {
+        let (n, l, b) = (t.len() / 9, &self.links, &self.boxes);
+        unsafe { timing_check(t.as_ptr(), t.len(), self.order.as_ptr(), n, l.as_ptr(), l.len(), b.as_ptr(), b.len(), self.nodes) == 1 }
+    }
+
+    /// Six words a point, or nothing where the call refuses or writes past its answers.
+    fn ask(&self, sure: bool, t: &[f32], p: &[f32], d: f32) -> Option<Vec<[u32; 6]>> {
+        let (n, l, b, need) = (t.len() / 9, &self.links, &self.boxes, 2 * p.len());
+        let mut a = vec![UNTOUCHED; need + 6];
+        let call = if sure { timing_sure } else { timing_source };
+        let answered = unsafe {
+            call(t.as_ptr(), t.len(), self.order.as_ptr(), n, l.as_ptr(), l.len(), b.as_ptr(), b.len(), self.nodes, p.as_ptr(), p.len(), d, a.as_mut_ptr(), a.len())
+        };
+        let right = answered == 1 && a[need..].iter().all(|&x| x == UNTOUCHED);
+        right.then(|| a[..need].chunks_exact(6).map(|w| w.try_into().unwrap()).collect())
+    }
+
+    pub fn sure(&self, t: &[f32], p: &[f32], d: f32) -> Option<Vec<[u32; 6]>> {
+        self.ask(true, t, p, d)
+    }
+
+    pub fn source(&self, t: &[f32], p: &[f32], d: f32) -> Option<Vec<[u32; 6]>> {
+        self.ask(false, t, p, d)
+    }
+}
+
+pub fn windings(t: &[f32], p: &[f32]) -> Option<Vec<f32>> {
+    let need = p.len() / 3;
+    let mut w = vec![f32::from_bits(UNTOUCHED); need + 1];
+    let answered = unsafe { timing_winding(t.as_ptr(), t.len(), p.as_ptr(), p.len(), w.as_mut_ptr(), w.len()) };
+    let right = answered == 1 && w.pop().unwrap().to_bits() == UNTOUCHED;
+    right.then_some(w)
+}
+
+pub fn solid(triangle: &[f32], point: &[f32]) -> f32 {
+    unsafe { timing_solid(triangle.as_ptr(), triangle.len(), point.as_ptr(), point.len()) }
+}
