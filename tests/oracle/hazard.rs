@@ -434,4 +434,14 @@ fn main() {
         }
         row.print(kind);
     }
+    println!("triangles of good shape by size, at most one side from the origin");
+    for k in 4..=20 {
+        let (mut row, scale) = (Row::default(), 10f32.powi(-k));
+        for _ in 0..cases / 10 {
+            let t = thin_triangle(r, 0.6, 1.0).map(|c| c * scale);
+            let case = Case { point: point_by(r, &t), tris: vec![t] };
+            row.see(&look(&case, false), &case);
+        }
+        row.print(&format!("1e-{k} to 2e-{k}"));
+    }
 }
