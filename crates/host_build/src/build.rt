@@ -18,6 +18,9 @@ use little_endian::read_f32s;
 use told::tell;
 use told::tell_refusal;
 
+// 36 bytes for each of the most triangles.
+const MOST_BYTES: usize = 147456;
+
 // The image of a tree in lists, where there is room for it: test 6.
 fn put_built(
     settings: Settings,
@@ -86,7 +89,7 @@ pub fn build_image(
     if triangles.len() % 36 != 0 {
         return tell_refusal(1, 0);
     }
-    if triangles.len() > 147456 {
+    if triangles.len() > MOST_BYTES {
         return tell_refusal(3, 0);
     }
     let numbers = triangles.len() / 4;

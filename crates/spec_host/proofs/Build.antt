@@ -1,7 +1,8 @@
 -- What the build of an image from bytes answers and leaves; that every image that is built is one that the writer accepts, and that it is no larger than is told. Assumes nothing.
 use mathlib.Core.Path.{_≡_, refl, sym, ap, _∙_}
 use mathlib.Core.List.{List, [], _∷_}
-use Prim.Native.Nat.{ℕ, _*_, _/_, _%_, _≤_, _<_}
+use Prim.Native.Nat.{ℕ, _*_, _/_, _%_, _^_, _≤_, _<_}
+use mathlib.Core.Bool.{not}
 use native.Mathlib.Omega.{arith}
 use borrow.Author.Tests.{eqb-true, lt-ltb, le-leb, eq-eqb, ne-eqb}
 use lib.Dec.{eqb}
@@ -33,9 +34,9 @@ use Rattle.spec_image.specs.Writing.{exactSize, writeRefusal}
 use Rattle.spec_image.proofs.Used.{image-used}
 use Rattle.spec_image.proofs.Kept.{floats-fit, written-back}
 use Rattle.spec_image.proofs.Writing.{Good, good-complete, good-count, good-nodes, write-passes}
-use Rattle.spec_host.specs.Told.{told, toldRefusal, Placed, InPlace}
+use Rattle.spec_host.specs.Told.{told, toldRefusal, Placed, InPlace, Heard}
 use Rattle.spec_host.specs.Build.{imageMost, numbersOf, raggedBytes, imageOver, builtImage, listRefusal, bytesRefusal, Puttable, ImagePut}
-use Rattle.spec_host.proofs.Told.{no-test, then-test, triangles-told, settings-told, room-told}
+use Rattle.spec_host.proofs.Told.{heard, at-zero, no-test, then-test, triangles-told, settings-told, room-told}
 
 -- ---- every image that is built is good
 module _ (triangles : List Float) (s : Settings) (g : GoodTriangles triangles) (h : GoodSettings s) where
@@ -200,6 +201,24 @@ module _ (s : List ℕ) (settings : Settings) (given : ℕ) where
 
 pub numbers-read : (s : List ℕ) (old new : List Float) → new ≡ over 0 (numbersOf s) old → take (length s / 4) new ≡ numbersOf s
 numbers-read s old new e = rw e (take-over (length s / 4) (numbersOf s) old (length-singles _ (length s / 4)))
+
+-- ---- what is told is read back
+module _ (s : List ℕ) (settings : Settings) (given : ℕ) where
+  bytes-told : InPlace (bytesRefusal s settings given)
+  unfolding bytesRefusal raggedBytes
+  bytes-told =
+      then-test (raggedBytes s) _ (at-zero (not (eqb (length s % 36) 0)) 1 (omega arith) (omega arith))
+      (λ _. then-test (listRefusal (numbersOf s) settings given) [] (list-told (numbersOf s) settings given) (λ _. no-test))
+
+  built-small : bytesRefusal s settings given ≡ passes → exactSize version1 (builtImage (numbersOf s) settings) < 2 ^ 56
+  unfolding bytesRefusal listRefusal imageOver
+  built-small e =
+      let p = all-pass _ (all-pass _ e .1 .0) in
+      let g = triangles-passed (numbersOf s) (p .0) in
+      omega (arith, good-nodes (builtImage (numbersOf s) settings) (built-good (numbersOf s) settings g (settings-passed settings (p .1 .0))), g .few)
+
+  pub bytes-heard : Heard (bytesRefusal s settings given) (exactSize version1 (builtImage (numbersOf s) settings)) (told (bytesRefusal s settings given) (exactSize version1 (builtImage (numbersOf s) settings)))
+  bytes-heard = heard (bytesRefusal s settings given) (exactSize version1 (builtImage (numbersOf s) settings)) bytes-told built-small
 
 -- ---- what is put reads back: the settings, the triangles and the tree that was built
 pub built-back : (s : List ℕ) (settings : Settings) (given : ℕ) → bytesRefusal s settings given ≡ passes

@@ -53,6 +53,11 @@ told-heard passes count ok =
     (rw (low, div-eq-of-lt (ok .counted)), mod-eq-of-lt (ok .counted))
 told-heard (refused number place) count ok = told-refusal number place (ok .verdict)
 
+-- the count matters only where all passed
+pub heard : (v : Verdict) (count : ℕ) → InPlace v → (v ≡ passes → count < 2 ^ 56) → Heard v count (told v count)
+heard passes count place few = told-heard passes count (record { verdict = tt; counted = few refl })
+heard (refused number place) count ok few = told-refusal number place ok
+
 -- ---- verdicts that can be told
 pub at-zero : (b : Bool) (number : ℕ) → 1 ≤ number → number ≤ 10 → InPlace (refusedIf b number 0)
 at-zero true number s m = record { some = s; most = m; near = go (eqb number 8) }
