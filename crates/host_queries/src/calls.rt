@@ -13,6 +13,7 @@ ghost use Rattle.spec_lists.specs.Reading.{triangleCount};
 ghost use Rattle.lists.specs.Values.{asVerdict};
 ghost use Rattle.spec_host.specs.Told.{told, InPlace};
 ghost use Rattle.spec_asked.specs.PointBytes.{answerBytes, windingBytes, afterBytes};
+ghost use Rattle.point_queries.specs.Values.{asQuery};
 ghost use Rattle.spec_asked.specs.Asked.{sure, source, contents, checkVerdict, queryVerdict, windingVerdict, answerIn};
 
 // What is done tells a count.
@@ -45,22 +46,29 @@ pub fn check_image(image: &[u8]) -> u64
     tell_count(verdict, triangles_held(image))
 }
 
-// The sure query at each point, 24 bytes an answer: tests 10 and 2 to 9.
+// A query at each point, 24 bytes an answer: tests 10 and 2 to 9.
+fn query_points(query: Query, image: &[u8], points: &[u8], distance: f32, answers: &mut [u8]) -> u64
+    ensures told { λ r. ⌜ r ≡ told (queryVerdict (now (image .entry)) (now (points .entry)) distance (length (now (answers .entry)))) (length (now (points .entry)) / 12) ⌝ }
+    ensures answers { λ _. ⌜ now (answers .exit) ≡ afterBytes (queryVerdict (now (image .entry)) (now (points .entry)) distance (length (now (answers .entry)))) (answerBytes (answerIn (asQuery query) (contents (now (image .entry))) distance) (now (points .entry))) (now (answers .entry)) ⌝ }
+{
+    let verdict = ask(query, image, points, distance, answers);
+    tell_count(verdict, points.len() / 12)
+}
+
+// The nearest surface point to each point, the lowest triangle number among equals.
 pub fn sure_points(image: &[u8], points: &[u8], distance: f32, answers: &mut [u8]) -> u64
     ensures told { λ r. ⌜ r ≡ told (queryVerdict (now (image .entry)) (now (points .entry)) distance (length (now (answers .entry)))) (length (now (points .entry)) / 12) ⌝ }
     ensures answers { λ _. ⌜ now (answers .exit) ≡ afterBytes (queryVerdict (now (image .entry)) (now (points .entry)) distance (length (now (answers .entry)))) (answerBytes (answerIn sure (contents (now (image .entry))) distance) (now (points .entry))) (now (answers .entry)) ⌝ }
 {
-    let verdict = ask(Query::Sure, image, points, distance, answers);
-    tell_count(verdict, points.len() / 12)
+    query_points(Query::Sure, image, points, distance, answers)
 }
 
-// The source query, in the same way.
+// What the Rust's search answers at each point.
 pub fn source_points(image: &[u8], points: &[u8], distance: f32, answers: &mut [u8]) -> u64
     ensures told { λ r. ⌜ r ≡ told (queryVerdict (now (image .entry)) (now (points .entry)) distance (length (now (answers .entry)))) (length (now (points .entry)) / 12) ⌝ }
     ensures answers { λ _. ⌜ now (answers .exit) ≡ afterBytes (queryVerdict (now (image .entry)) (now (points .entry)) distance (length (now (answers .entry)))) (answerBytes (answerIn source (contents (now (image .entry))) distance) (now (points .entry))) (now (answers .entry)) ⌝ }
 {
-    let verdict = ask(Query::Source, image, points, distance, answers);
-    tell_count(verdict, points.len() / 12)
+    query_points(Query::Source, image, points, distance, answers)
 }
 
 // The winding number about each point, an f32 in four bytes: tests 10, 2 to 4, 6 and 8.

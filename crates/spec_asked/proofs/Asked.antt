@@ -14,14 +14,14 @@ use Rattle.spec_tables.proofs.Pieces.{length-singles, take-over}
 use Rattle.spec_records.specs.Entries.{numbersIn, floatsIn}
 use Rattle.spec_records.specs.Records.{wrong, bodies, laidOut}
 use Rattle.spec_records.specs.Layouts.{version1, imageWants, imageSpans, imageSize, orderStart, nodesStart}
-use Rattle.spec_image.specs.Image.{Image, settingsIn, linksIn, boxIn, imageIn}
+use Rattle.spec_image.specs.Image.{Image, linksIn, boxIn, imageIn}
 use Rattle.spec_image.proofs.Sizes.{length-links, length-box, image-is}
 use Rattle.spec_numbers.specs.Values.{zero}
 use Rattle.spec_lists.specs.Limits.{mostTriangles}
-use Rattle.spec_lists.specs.Reading.{boxAt, triangleCount, pointCount}
+use Rattle.spec_lists.specs.Reading.{boxAt, triangleCount}
 use Rattle.spec_lists.specs.Refusals.{Verdict, passes, refused, refuses, refusedIf, firstRefusal, raggedRefusal, noneRefusal, tooManyRefusal, coordinateRefusal, trianglesRefusal, Settings, settingsRefusal, roomRefusal, pointsRefusal, distanceRefusal, isDistance, firstBad}
 use Rattle.spec_lists.specs.Passed.{GoodTriangles, GoodPoints}
-use Rattle.spec_lists.proofs.Verdicts.{stops, goes-on, ends, all-pass, not-refused, so}
+use Rattle.spec_lists.proofs.Verdicts.{stops, goes-on, ends, all-pass, not-refused, so, did-pass}
 use Rattle.spec_lists.proofs.Passed.{triangles-passed, room-passed}
 use Rattle.spec_tree.specs.Accepted.{accepted}
 use Rattle.spec_tree.specs.Refusals.{treeRefusal}
@@ -84,12 +84,15 @@ module _ (xs : List Float) (t : ℕ) (nine : length xs ≡ 9 * t) where
       let early : v ≡ trianglesRefusal xs = rw (whole, count-counts) (row-stops v (refusedIf (eqb t 0) 2 0 ∷ refusedIf (ltb mostTriangles t) 3 0 ∷ []) (coordinateRefusal 4 xs ∷ []) b e r h) in
       stops v (trianglesRefusal xs) rest b early r h
 
-pub count-passed : (t : ℕ) → countRefusal t ≡ passes → (1 ≤ t) × (t ≤ mostTriangles)
+count-passed : (t : ℕ) → countRefusal t ≡ passes → (1 ≤ t) × (t ≤ mostTriangles)
 unfolding countRefusal
 count-passed t e =
     let p = all-pass _ e in
     let none = eqb-false t 0 (not-refused (eqb t 0) 2 0 (p .0)) in
     (omega arith, ltb-false mostTriangles t (not-refused (ltb mostTriangles t) 3 0 (p .1 .0)))
+
+pub count-few : (t : ℕ) (v : Verdict) (b : Bool) → v ≡ countRefusal t → b ≡ refuses v → b ≡ false → t ≤ mostTriangles
+count-few t v b e r f = count-passed t (did-pass v (countRefusal t) b e r f) .1
 
 -- ---- the lists of an image of t triangles and n nodes, as they are read
 module _ (s : List ℕ) (t n : ℕ) where

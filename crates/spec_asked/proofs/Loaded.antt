@@ -1,18 +1,14 @@
 -- What is loaded of an image is what the image holds, and is refused and answered as such. Assumes nothing.
-use mathlib.Core.Path.{_≡_, refl, ap, _∙_}
+use mathlib.Core.Path.{_≡_, ap, _∙_}
 use mathlib.Core.List.{List}
 use Prim.Native.Nat.{ℕ, _*_, _≤_, _<_}
-use native.Mathlib.Omega.{arith}
 use lib.ListN.{length, take}
 use lib.Ieee.{Float}
 use Rattle.spec_records.specs.Layouts.{version1}
-use Rattle.spec_image.specs.Image.{Image, settingsIn, imageIn}
-use Rattle.spec_shapes.specs.Points.{Point}
+use Rattle.spec_image.specs.Image.{settingsIn, imageIn}
 use Rattle.spec_lists.specs.Limits.{mostTriangles}
 use Rattle.spec_lists.specs.Reading.{triangleCount}
 use Rattle.spec_lists.specs.Refusals.{refused, Settings}
-use Rattle.spec_lists.specs.Passed.{GoodTriangles}
-use Rattle.spec_search.specs.Answers.{Answer}
 use Rattle.spec_asked.specs.Asked.{treeIn, earlyRefusal, lateRefusal, lateIn, Query, answerBy, answerIn, Loaded, TreeLoaded}
 use Rattle.spec_asked.proofs.Asked.{count-counts, triangles-long, too-many-nodes}
 

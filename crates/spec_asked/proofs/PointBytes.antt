@@ -1,7 +1,7 @@
 -- What is read of point bytes, what bytes that passed give, and what a loop over the points writes. Assumes nothing.
 use mathlib.Core.Path.{_≡_, refl, sym, ap, _∙_}
-use mathlib.Core.Bool.{Bool, true, false, true≢false}
-use mathlib.Core.List.{List, [], _∷_, _++_, append-assoc, append-nil}
+use mathlib.Core.Bool.{true, false, true≢false}
+use mathlib.Core.List.{List, _++_, append-assoc, append-nil}
 use Prim.Native.Nat.{ℕ, zero, suc, _+_, _*_, _/_, _%_, _≤_, _<_}
 use native.Mathlib.Nat.{zero-add, add-zero, add-suc}
 use native.Mathlib.Omega.{arith}
@@ -11,7 +11,7 @@ use lib.ListN.{length, getD, length-append, drop-of-length-le, List·getD-append
 use lib.Seq.{getD-append-add}
 use lib.Ieee.{Float, nan, binary32, ofBits, toBits}
 use Rattle.spec_tables.specs.Tables.{over, many}
-use Rattle.spec_tables.proofs.Tables.{length-many, many-same}
+use Rattle.spec_tables.proofs.Tables.{many-same}
 use Rattle.spec_tables.proofs.Pieces.{length-singles, getD-many}
 use Rattle.spec_tables.proofs.Runs.{Run, run-start, run-front, run-end}
 use Rattle.spec_records.specs.Little.{little, littleAt}

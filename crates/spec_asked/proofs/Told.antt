@@ -1,20 +1,19 @@
 -- Every verdict of the calls can be told in one number. Assumes nothing.
 use mathlib.Core.Path.{_≡_, refl, sym}
 use mathlib.Core.Bool.{Bool, true, false, cond, not, true≢false}
-use mathlib.Core.List.{List, [], _∷_}
-use Prim.Native.Nat.{ℕ, _+_, _*_, _/_, _%_, _^_, _≤_, _<_}
+use mathlib.Core.List.{List, []}
+use Prim.Native.Nat.{ℕ, _+_, _/_, _%_, _^_, _≤_, _<_}
 use native.Mathlib.Nat.{pow-le-pow-right}
 use native.Mathlib.Omega.{arith}
 use borrow.Author.Tests.{ltb-true}
 use lib.Dec.{ltb, eqb}
-use lib.ListN.{length, drop, length-take}
+use lib.ListN.{length, length-take}
 use lib.Ieee.{Float}
 use Rattle.spec_tables.specs.Tables.{part}
 use Rattle.spec_records.specs.Little.{littleAt, Bytes}
-use Rattle.spec_records.specs.Records.{Span, Layout, wrong, bodies, Wants, done, one, sizeAt, bodyAt, isRight, behind, laidOut}
-use Rattle.spec_records.specs.Layouts.{version1, imageWants}
+use Rattle.spec_records.specs.Records.{Layout, wrong, bodies, Wants, done, one, sizeAt, bodyAt, isRight, behind, laidOut}
 use Rattle.spec_records.proofs.Little.{ofLittle-below, bytes-part}
-use Rattle.spec_lists.specs.Refusals.{Verdict, passes, refused, refuses, refusedIf, firstRefusal, coordinateRefusal, firstBad}
+use Rattle.spec_lists.specs.Refusals.{Verdict, passes, refused, refuses, refusedIf, coordinateRefusal, firstBad}
 use Rattle.spec_tree.specs.Accepted.{accepted}
 use Rattle.spec_tree.specs.Refusals.{treeRefusal}
 use Rattle.spec_host.specs.Told.{told, Placed, InPlace}

@@ -3,10 +3,9 @@
 use mathlib.Core.Path.{sym, _∙_}
 use native.Mathlib.Omega.{arith}
 use lib.Seq.{length-take-le}
-use Rattle.spec_lists.proofs.Verdicts.{did-pass}
 use Rattle.spec_asked.specs.Asked.{askedRefusal}
 use Rattle.spec_asked.proofs.PointBytes.{as-it-was}
-use Rattle.spec_asked.proofs.Asked.{count-stops, count-passed, triangles-long, triangles-read}
+use Rattle.spec_asked.proofs.Asked.{count-stops, count-few, triangles-long, triangles-read}
 use borrow.Author.Needs.{needs}
 use Rattle.host_queries.proofs.ask.ask_laid.Statement.{statement}
 use Rattle.host_queries.proofs.ask.ask_laid.Tie as tie
@@ -31,17 +30,17 @@ slice-aggregate-read-f32s c = search needs
 
 read-f32s-requires : tie.Need-read-f32s-requires
 read-f32s-requires c κs =
-    let few = count-passed _ (did-pass _ _ _ (c .before .before .before .count-refusal .ensures) (c .before .before .refuses .ensures) (c .before .if1 .left)) .1 in
+    let few = count-few _ _ _ (c .before .before .before .count-refusal .ensures) (c .before .before .refuses .ensures) (c .before .if1 .left) in
     (omega (arith, c .before .before .before .before .before .before .before .pre), omega arith)
 
 array-share-prefix-triangles : tie.Need-array-share-prefix-triangles
 array-share-prefix-triangles c =
-    let few = count-passed _ (did-pass _ _ _ (c .before .before .before .before .before .count-refusal .ensures) (c .before .before .before .before .refuses .ensures) (c .before .before .before .if1 .left)) .1 in
+    let few = count-few _ _ _ (c .before .before .before .before .before .count-refusal .ensures) (c .before .before .before .before .refuses .ensures) (c .before .before .before .if1 .left) in
     omega (arith, c .triangles2 .given)
 
 slice-aggregate-ask-triangles : tie.Need-slice-aggregate-ask-triangles
 slice-aggregate-ask-triangles c =
-    let few = count-passed _ (did-pass _ _ _ (c .before .before .before .before .before .before .count-refusal .ensures) (c .before .before .before .before .before .refuses .ensures) (c .before .before .before .before .if1 .left)) .1 in
+    let few = count-few _ _ _ (c .before .before .before .before .before .before .count-refusal .ensures) (c .before .before .before .before .before .refuses .ensures) (c .before .before .before .before .if1 .left) in
     sym (length-take-le _ _ (omega (arith, c .before .triangles2 .given)))
 
 ask-triangles-requires : tie.Need-ask-triangles-requires

@@ -2,8 +2,6 @@
 -- Assumes nothing.
 use Rattle.lists.specs.Values.{asVerdict}
 use mathlib.Core.Path.{sym, ap, _∙_}
-use mathlib.Core.List.{List}
-use Prim.Native.Nat.{ℕ}
 use native.Mathlib.Omega.{arith}
 use lib.Seq.{length-take-le}
 use Rattle.spec_shapes.specs.Points.{Point}

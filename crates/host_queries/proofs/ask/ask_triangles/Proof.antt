@@ -1,7 +1,6 @@
 -- `host_queries::ask_triangles` meets its contract: the tests before the tree, a count of nodes that no tree has, and the tree.
 -- Assumes nothing.
 use mathlib.Core.Path.{refl, sym, _∙_}
-use Prim.Native.Nat.{_/_}
 use lib.ListN.{length}
 use Rattle.spec_records.specs.Layouts.{version1}
 use Rattle.spec_image.specs.Image.{imageIn}

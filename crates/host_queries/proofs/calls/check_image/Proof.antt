@@ -1,7 +1,7 @@
 -- `host_queries::check_image` meets its contract: a check is a query at no points.
 -- Assumes nothing.
 use lib.Ieee.{ofBits}
-use mathlib.Core.Path.{_≡_, _∙_}
+use mathlib.Core.Path.{_∙_}
 use mathlib.Core.List.{[]}
 use native.Mathlib.Omega.{arith}
 use Rattle.spec_numbers.specs.Values.{zero}

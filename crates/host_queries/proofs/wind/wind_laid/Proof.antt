@@ -7,11 +7,10 @@ use native.Mathlib.Omega.{arith}
 use lib.ListN.{length}
 use lib.Seq.{length-take-le}
 use lib.Ieee.{Float}
-use Rattle.spec_lists.proofs.Verdicts.{did-pass}
 use Rattle.spec_asked.specs.PointBytes.{windingBytes, afterBytes}
 use Rattle.spec_asked.specs.Asked.{woundRefusal}
 use Rattle.spec_asked.proofs.PointBytes.{as-it-was}
-use Rattle.spec_asked.proofs.Asked.{count-stops, count-passed, triangles-long, triangles-read}
+use Rattle.spec_asked.proofs.Asked.{count-stops, count-few, triangles-long, triangles-read}
 use borrow.Author.Needs.{needs}
 use Rattle.host_queries.proofs.wind.wind_laid.Statement.{statement}
 use Rattle.host_queries.proofs.wind.wind_laid.Tie as tie
@@ -36,17 +35,17 @@ slice-aggregate-read-f32s c = search needs
 
 read-f32s-requires : tie.Need-read-f32s-requires
 read-f32s-requires c κs =
-    let few = count-passed _ (did-pass _ _ _ (c .before .before .before .count-refusal .ensures) (c .before .before .refuses .ensures) (c .before .if1 .left)) .1 in
+    let few = count-few _ _ _ (c .before .before .before .count-refusal .ensures) (c .before .before .refuses .ensures) (c .before .if1 .left) in
     (omega (arith, c .before .before .before .before .before .before .before .pre), omega arith)
 
 array-share-prefix-triangles : tie.Need-array-share-prefix-triangles
 array-share-prefix-triangles c =
-    let few = count-passed _ (did-pass _ _ _ (c .before .before .before .before .before .count-refusal .ensures) (c .before .before .before .before .refuses .ensures) (c .before .before .before .if1 .left)) .1 in
+    let few = count-few _ _ _ (c .before .before .before .before .before .count-refusal .ensures) (c .before .before .before .before .refuses .ensures) (c .before .before .before .if1 .left) in
     omega (arith, c .triangles2 .given)
 
 slice-aggregate-wind-lists : tie.Need-slice-aggregate-wind-lists
 slice-aggregate-wind-lists c =
-    let few = count-passed _ (did-pass _ _ _ (c .before .before .before .before .before .before .count-refusal .ensures) (c .before .before .before .before .before .refuses .ensures) (c .before .before .before .before .if1 .left)) .1 in
+    let few = count-few _ _ _ (c .before .before .before .before .before .before .count-refusal .ensures) (c .before .before .before .before .before .refuses .ensures) (c .before .before .before .before .if1 .left) in
     sym (length-take-le _ _ (omega (arith, c .before .triangles2 .given)))
 
 wind-lists-requires : tie.Need-wind-lists-requires

@@ -1,6 +1,5 @@
 -- `point_bytes::number_in` meets its contract: the number of four bytes.
 -- Assumes nothing.
-use Prim.Native.Nat.{_<_, _/_}
 use mathlib.Core.Path.{sym, ap, _∙_}
 use native.Mathlib.Omega.{arith}
 use lib.Ieee.{binary32, ofBits}

@@ -1,6 +1,6 @@
 -- `point_bytes::point_bytes_refusal` meets its contract: the two tests in turn.
 -- Assumes nothing.
-use mathlib.Core.Path.{sym, ap, _∙_}
+use mathlib.Core.Path.{_∙_}
 use Rattle.spec_lists.specs.Refusals.{coordinateRefusal}
 use Rattle.spec_lists.proofs.Verdicts.{stops, goes-on, ends}
 use Rattle.spec_asked.specs.PointBytes.{pointBytesRefusal}

@@ -3,7 +3,6 @@
 use mathlib.Core.Path.{refl, ap, _∙_}
 use Prim.Native.Nat.{_-_}
 use native.Mathlib.Omega.{arith}
-use Rattle.spec_shapes.specs.Points.{Point}
 use Rattle.spec_lists.proofs.Reading.{point-finite}
 use Rattle.spec_asked.specs.PointBytes.{pointsIn}
 use Rattle.spec_asked.specs.Asked.{answerBy}

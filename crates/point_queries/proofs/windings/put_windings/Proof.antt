@@ -3,8 +3,7 @@
 use mathlib.Core.Path.{refl, ap, _∙_}
 use Prim.Native.Nat.{_-_}
 use native.Mathlib.Omega.{arith}
-use lib.Ieee.{Float, binary32, toBits}
-use Rattle.spec_shapes.specs.Points.{Point}
+use lib.Ieee.{binary32, toBits}
 use Rattle.spec_angles.specs.Windings.{windingAbout, windingAt}
 use Rattle.spec_asked.proofs.PointBytes.{Wound, wound-start, wound-more, wound-end}
 use borrow.Author.Needs.{needs}

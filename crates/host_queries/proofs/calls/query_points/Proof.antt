@@ -1,4 +1,4 @@
--- `host_queries::source_points` meets its contract: the source query, told.
+-- `host_queries::query_points` meets its contract: the query, told.
 -- Assumes nothing.
 use mathlib.Core.Path.{ap, _∙_}
 use Prim.Native.Nat.{_/_}
@@ -7,11 +7,12 @@ use lib.ListN.{length}
 use Rattle.spec_lists.specs.Refusals.{Verdict}
 use Rattle.spec_host.specs.Told.{told}
 use Rattle.spec_asked.specs.PointBytes.{answerBytes, afterBytes}
-use Rattle.spec_asked.specs.Asked.{source, contents, answerIn}
+use Rattle.spec_asked.specs.Asked.{contents, answerIn}
 use Rattle.spec_asked.proofs.Told.{query-told}
+use Rattle.point_queries.specs.Values.{asQuery}
 use borrow.Author.Needs.{needs}
-use Rattle.host_queries.proofs.calls.source_points.Statement.{statement}
-use Rattle.host_queries.proofs.calls.source_points.Tie as tie
+use Rattle.host_queries.proofs.calls.query_points.Statement.{statement}
+use Rattle.host_queries.proofs.calls.query_points.Tie as tie
 
 ask-requires : tie.Need-ask-requires
 ask-requires c κs = search needs
@@ -28,8 +29,8 @@ returns : tie.Need-returns
 returns c =
     let a = c .before .before .before .before .before .before .before .before .args in (
       c .tell-count .ensures ∙ ap (λ (v : Verdict). told v (length (a .points .now) / 12)) (c .before .before .before .ask .ensures .0),
-      c .before .before .before .ask .ensures .1 ∙ ap (λ (v : Verdict). afterBytes v (answerBytes (answerIn source (contents (a .image .now)) (a .distance)) (a .points .now)) (a .answers .now)) (c .before .before .before .ask .ensures .0),
+      c .before .before .before .ask .ensures .1 ∙ ap (λ (v : Verdict). afterBytes v (answerBytes (answerIn (asQuery (a .query)) (contents (a .image .now)) (a .distance)) (a .points .now)) (a .answers .now)) (c .before .before .before .ask .ensures .0),
     )
 
-pub source-points-spec : {M : Type 1} → statement M
-source-points-spec = tie.close (tie.spec ask-requires tell-count-requires same-length returns)
+pub query-points-spec : {M : Type 1} → statement M
+query-points-spec = tie.close (tie.spec ask-requires tell-count-requires same-length returns)
