@@ -1,4 +1,4 @@
--- The tests of the calls made in turn, by what was found of the image; and that a call refuses as the list call does on what the image holds. Assumes nothing.
+-- The tests of the calls made in turn, by what was found of the image, and what passing them gives. Assumes nothing.
 use mathlib.Core.Path.{_≡_, refl, sym, ap, _∙_}
 use mathlib.Core.Bool.{Bool, true, false, not}
 use mathlib.Core.List.{List, [], _∷_, _++_}
@@ -19,17 +19,17 @@ use Rattle.spec_image.proofs.Sizes.{length-links, length-box, image-is}
 use Rattle.spec_numbers.specs.Values.{zero}
 use Rattle.spec_lists.specs.Limits.{mostTriangles}
 use Rattle.spec_lists.specs.Reading.{boxAt, triangleCount}
-use Rattle.spec_lists.specs.Refusals.{Verdict, passes, refused, refuses, refusedIf, firstRefusal, raggedRefusal, noneRefusal, tooManyRefusal, coordinateRefusal, trianglesRefusal, Settings, settingsRefusal, roomRefusal, pointsRefusal, distanceRefusal, isDistance, firstBad}
+use Rattle.spec_lists.specs.Refusals.{Verdict, passes, refused, refuses, refusedIf, firstRefusal, raggedRefusal, noneRefusal, tooManyRefusal, coordinateRefusal, trianglesRefusal, Settings, settingsRefusal, roomRefusal, distanceRefusal, isDistance, firstBad}
 use Rattle.spec_lists.specs.Passed.{GoodTriangles, GoodPoints}
 use Rattle.spec_lists.proofs.Verdicts.{stops, goes-on, ends, all-pass, not-refused, so, did-pass}
 use Rattle.spec_lists.proofs.Passed.{triangles-passed, room-passed}
 use Rattle.spec_tree.specs.Accepted.{accepted}
 use Rattle.spec_tree.specs.Refusals.{treeRefusal}
 use Rattle.spec_tree.proofs.Accepted.{accepted-listed, listing-most}
-use Rattle.spec_search.specs.Calls.{queryRefusal, Searchable}
+use Rattle.spec_search.specs.Calls.{Searchable}
 use Rattle.spec_asked.specs.PointBytes.{pointsIn, pointBytesRefusal}
 use Rattle.spec_asked.specs.Asked.{layoutRefusal, contents, treeIn, countRefusal, checkedRefusal, earlyRefusal, lateRefusal, lateIn, askedRefusal, woundRefusal, checkVerdict, queryVerdict, Ready}
-use Rattle.spec_asked.proofs.PointBytes.{points-long, points-count, point-bytes-passed}
+use Rattle.spec_asked.proofs.PointBytes.{point-bytes-passed}
 
 -- ---- a row of tests that is made in two parts
 pub row-then : (xs ys : List Verdict) → firstRefusal (xs ++ ys) ≡ firstRefusal (firstRefusal xs ∷ firstRefusal ys ∷ [])
@@ -188,18 +188,3 @@ drop-passed passes passes passes passes = refl
 pub check-asks-nothing : (image : List ℕ) → queryVerdict image [] zero 1 ≡ checkVerdict image
 unfolding queryVerdict checkVerdict askedRefusal checkedRefusal roomRefusal distanceRefusal isDistance le
 check-asks-nothing image = rw none-passes (drop-passed (layoutRefusal image) (trianglesRefusal (contents image .triangles)) (settingsRefusal (contents image .settings)) (treeIn (contents image)))
-
-drop-second : (a : Verdict) (rest : List Verdict) → firstRefusal (a ∷ passes ∷ rest) ≡ firstRefusal (a ∷ rest)
-unfolding firstRefusal
-drop-second passes rest = refl
-drop-second (refused n p) rest = refl
-
--- ---- on whole points and settings that pass, a call refuses as the list query does on what the image holds
-pub asks-as-lists : (x : Image) (points : List ℕ) (distance : Float) (room : ℕ) → settingsRefusal (x .settings) ≡ passes → length points % 12 ≡ 0
-    → askedRefusal x points distance room ≡ queryRefusal (x .triangles) (x .order) (x .links) (x .boxes) (x .nodes) (pointsIn points) distance (room / 4)
-unfolding askedRefusal queryRefusal pointBytesRefusal pointsRefusal
-asks-as-lists x points distance room fine whole =
-    let rooms : room / 4 / 6 ≡ room / 24 = omega arith in
-    let ragged : eqb (length points % 12) 0 ≡ true = eq-eqb (length points % 12) 0 whole in
-    let raggedToo : eqb (length (pointsIn points) % 3) 0 ≡ true = eq-eqb (length (pointsIn points) % 3) 0 (rw (points-long points) (omega arith)) in
-    rw (fine, rooms, points-count points, ragged, raggedToo) (drop-second (trianglesRefusal (x .triangles)) _)
