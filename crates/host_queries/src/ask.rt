@@ -17,7 +17,8 @@ ghost use Rattle.spec_records.specs.Layouts.{version1, imageSize};
 ghost use Rattle.spec_image.specs.Image.{imageIn};
 ghost use Rattle.lists.specs.Values.{asVerdict};
 ghost use Rattle.spec_asked.specs.PointBytes.{answerBytes, afterBytes};
-ghost use Rattle.spec_asked.specs.Asked.{contents, lateIn, askedRefusal, queryVerdict, answerIn, Loaded, Ready};
+ghost use Rattle.spec_asked.specs.Asked.{contents, askedRefusal, queryVerdict, answerIn};
+ghost use Rattle.spec_asked.specs.Loading.{lateIn, Loaded, Ready};
 ghost use Rattle.point_queries.specs.Values.{asQuery};
 
 // Tests 7, 8 and 9, and the answers. A tree over 4,096 triangles has at most 8,191 nodes.

@@ -13,7 +13,7 @@ ghost use Prim.Native.Nat.{_*_, _≤_};
 ghost use lib.ListN.{length};
 ghost use Rattle.spec_records.specs.Layouts.{version1, imageSize};
 ghost use Rattle.lists.specs.Values.{asVerdict, asSettings};
-ghost use Rattle.spec_asked.specs.Asked.{countRefusal, earlyRefusal, TreeLoaded};
+ghost use Rattle.spec_asked.specs.Loading.{countRefusal, earlyRefusal, TreeLoaded};
 
 // 2 and 3, by the count alone.
 pub fn count_refusal(count: usize) -> Verdict

@@ -17,7 +17,8 @@ ghost use Rattle.spec_lists.specs.Passed.{GoodPoints};
 ghost use Rattle.lists.specs.Values.{asVerdict};
 ghost use Rattle.spec_search.specs.Calls.{Searchable};
 ghost use Rattle.spec_asked.specs.PointBytes.{pointsIn, answerBytes, afterBytes};
-ghost use Rattle.spec_asked.specs.Asked.{lateRefusal, answerBy, Ready};
+ghost use Rattle.spec_asked.specs.Asked.{answerBy};
+ghost use Rattle.spec_asked.specs.Loading.{lateRefusal, Ready};
 ghost use Rattle.point_queries.specs.Values.{asQuery};
 
 // The first of the tests 7, 8 and 9 that refuses.

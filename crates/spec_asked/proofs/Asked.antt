@@ -28,7 +28,8 @@ use Rattle.spec_tree.specs.Refusals.{treeRefusal}
 use Rattle.spec_tree.proofs.Accepted.{accepted-listed, listing-most}
 use Rattle.spec_search.specs.Calls.{Searchable}
 use Rattle.spec_asked.specs.PointBytes.{pointsIn, pointBytesRefusal}
-use Rattle.spec_asked.specs.Asked.{layoutRefusal, contents, treeIn, countRefusal, checkedRefusal, earlyRefusal, lateRefusal, lateIn, askedRefusal, woundRefusal, checkVerdict, queryVerdict, Ready}
+use Rattle.spec_asked.specs.Asked.{layoutRefusal, contents, treeIn, checkedRefusal, askedRefusal, woundRefusal, checkVerdict, queryVerdict}
+use Rattle.spec_asked.specs.Loading.{countRefusal, earlyRefusal, lateRefusal, lateIn, Ready}
 use Rattle.spec_asked.proofs.PointBytes.{point-bytes-passed}
 
 -- ---- a row of tests that is made in two parts

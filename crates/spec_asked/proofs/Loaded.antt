@@ -9,7 +9,8 @@ use Rattle.spec_image.specs.Image.{settingsIn, imageIn}
 use Rattle.spec_lists.specs.Limits.{mostTriangles}
 use Rattle.spec_lists.specs.Reading.{triangleCount}
 use Rattle.spec_lists.specs.Refusals.{refused, Settings}
-use Rattle.spec_asked.specs.Asked.{treeIn, earlyRefusal, lateRefusal, lateIn, Query, answerBy, answerIn, Loaded, TreeLoaded}
+use Rattle.spec_asked.specs.Asked.{treeIn, Query, answerBy, answerIn}
+use Rattle.spec_asked.specs.Loading.{earlyRefusal, lateRefusal, lateIn, Loaded, TreeLoaded}
 use Rattle.spec_asked.proofs.Asked.{count-counts, triangles-long, too-many-nodes}
 
 module _ {image : List ℕ} {count nodes : ℕ} {triangles : List Float} (l : Loaded image count nodes triangles) where

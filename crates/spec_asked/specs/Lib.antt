@@ -1,2 +1,3 @@
 pub mod PointBytes
 pub mod Asked
+pub mod Loading

@@ -1,7 +1,7 @@
 -- `host_queries::count_refusal` meets its contract: the two tests in turn.
 -- Assumes nothing.
 use Rattle.spec_lists.proofs.Verdicts.{stops, goes-on, ends}
-use Rattle.spec_asked.specs.Asked.{countRefusal}
+use Rattle.spec_asked.specs.Loading.{countRefusal}
 use borrow.Author.Needs.{needs}
 use Rattle.host_queries.proofs.load.count_refusal.Statement.{statement}
 use Rattle.host_queries.proofs.load.count_refusal.Tie as tie

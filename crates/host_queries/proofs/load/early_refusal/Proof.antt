@@ -1,7 +1,7 @@
 -- `host_queries::early_refusal` meets its contract: the three tests in turn.
 -- Assumes nothing.
 use Rattle.spec_lists.proofs.Verdicts.{stops, goes-on, ends}
-use Rattle.spec_asked.specs.Asked.{earlyRefusal}
+use Rattle.spec_asked.specs.Loading.{earlyRefusal}
 use borrow.Author.Needs.{needs}
 use Rattle.host_queries.proofs.load.early_refusal.Statement.{statement}
 use Rattle.host_queries.proofs.load.early_refusal.Tie as tie

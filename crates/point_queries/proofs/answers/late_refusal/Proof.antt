@@ -1,7 +1,7 @@
 -- `point_queries::late_refusal` meets its contract: the three tests in turn.
 -- Assumes nothing.
 use Rattle.spec_lists.proofs.Verdicts.{stops, goes-on, ends}
-use Rattle.spec_asked.specs.Asked.{lateRefusal}
+use Rattle.spec_asked.specs.Loading.{lateRefusal}
 use borrow.Author.Needs.{needs}
 use Rattle.point_queries.proofs.answers.late_refusal.Statement.{statement}
 use Rattle.point_queries.proofs.answers.late_refusal.Tie as tie
