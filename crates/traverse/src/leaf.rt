@@ -1,8 +1,10 @@
 // The leaf reader: a struct that shows a caller a leaf's part of the order list, and thin functions over it.
 // The borrow checker covers no function over a struct that holds a reference, so each is proved by hand. The work is done by plain functions,
-// and whoever calls `entry_of`, whose parameters are a slice and a number, needs no proof by hand.
+// and whoever calls `entry_of`, whose parameters are a slice and numbers, needs no proof by hand.
 ghost use mathlib.Core.Path.{_≡_};
+ghost use Prim.Native.Nat.{_-_, min};
 ghost use lib.ListN.{length};
+ghost use Rattle.spec_tables.specs.Tables as Tables;
 ghost use Rattle.spec_tree.specs.Leaves as Leaves;
 ghost use Rattle.traverse.specs.Values as Values;
 use crate::traverse::LeafFound;
@@ -19,6 +21,21 @@ pub enum EntryFound {
     Refused { number: usize, place: usize },
 }
 
+fn lesser(a: usize, b: usize) -> usize
+    ensures { λ r. ⌜ r ≡ min a b ⌝ }
+{
+    if a < b { a } else { b }
+}
+
+// The order list from `first` to `last`, the end not included, as far as it goes.
+pub fn part_of(order: &[u32], first: usize, last: usize) -> &[u32]
+    ensures { λ r. ⌜ now r ≡ Tables.part (now (order .entry)) first (last - first) ⌝ }
+{
+    let end = lesser(last, order.len());
+    let start = lesser(first, end);
+    &order[start..end]
+}
+
 // What stands at a place of a leaf's part.
 pub fn entry_at(part: &[u32], i: usize) -> EntryFound
     ensures { λ r. ⌜ Values.asEntryFound r ≡ Leaves.entryAt (now (part .entry)) i ⌝ }
@@ -30,11 +47,13 @@ pub fn entry_at(part: &[u32], i: usize) -> EntryFound
 }
 
 impl<'a> Leaf<'a> {
-    // Of a leaf's part of the order list.
-    pub fn of(part: &'a [u32]) -> Leaf<'a>
-        ensures { λ r. ⌜ r .part ≡ part .entry ⌝ }
+    // Of the leaf with the order list's entries from `first` to `last`, the end not included.
+    pub fn of(order: &'a [u32], first: usize, last: usize) -> Leaf<'a>
+        ensures { λ r. ⌜ now (r .part) ≡ Tables.part (now (order .entry)) first (last - first) ⌝ }
     {
-        Leaf { part }
+        Leaf {
+            part: part_of(order, first, last),
+        }
     }
 
     // How many triangles it has.
@@ -52,11 +71,11 @@ impl<'a> Leaf<'a> {
     }
 }
 
-// The i-th triangle of a leaf's part, by way of its reader.
-pub fn entry_of(part: &[u32], i: usize) -> EntryFound
-    ensures { λ r. ⌜ Values.asEntryFound r ≡ Leaves.entryAt (now (part .entry)) i ⌝ }
+// The i-th triangle of the leaf with these entries, by way of its reader.
+pub fn entry_of(order: &[u32], first: usize, last: usize, i: usize) -> EntryFound
+    ensures { λ r. ⌜ Values.asEntryFound r ≡ Leaves.entryAt (Tables.part (now (order .entry)) first (last - first)) i ⌝ }
 {
-    Leaf::of(part).entry(i)
+    Leaf::of(order, first, last).entry(i)
 }
 
 // The i-th triangle of the tree's k-th leaf, both counted from 0, over any lists at all: 1 to 4 and 7 refuse.
@@ -74,7 +93,7 @@ pub fn leaf_entry(
     let found = leaf(triangles, order, links, boxes, nodes, k);
     match found {
         LeafFound::Nothing => EntryFound::Nothing,
-        LeafFound::Leaf { first, last, .. } => entry_of(&order[first..last], i),
+        LeafFound::Leaf { first, last, .. } => entry_of(order, first, last, i),
         LeafFound::Refused { number, place } => EntryFound::Refused { number, place },
     }
 }
