@@ -2,13 +2,13 @@
 use mathlib.Core.Path.{_≡_, refl, sym, ap, subst, _∙_}
 use mathlib.Core.Bool.{Bool, true, false, not, _&&_, _||_, or-true, true≢false}
 use mathlib.Core.List.{List, [], _∷_, _++_, map, flatten, append-assoc, append-nil}
-use Prim.Native.Nat.{ℕ, zero, suc, _+_, _-_, _*_, _≤_, _<_}
+use Prim.Native.Nat.{ℕ, zero, suc, _+_, _-_, _≤_, _<_}
 use native.Mathlib.Omega.{arith}
 use native.Mathlib.Decide.{decLt}
 use borrow.Author.Tests.{eqb-true, eq-eqb, not-true}
 use lib.Dec.{eqb}
 use lib.ListN.{length, getD, length-append, length-map}
-use lib.Ieee.{Float, nan}
+use lib.Ieee.{Float}
 use Rattle.spec_numbers.proofs.Tests.{both-passed}
 use Rattle.spec_lists.specs.Reading.{boxAt, triangleCount}
 use Rattle.spec_lists.specs.Refusals.{Verdict, passes, refused}
@@ -16,7 +16,7 @@ use Rattle.spec_lists.proofs.Verdicts.{all-pass, so}
 use Rattle.spec_tables.specs.Tables as Tables
 use Rattle.spec_shapes.specs.Boxes.{Box}
 use Rattle.spec_tree.specs.Trees.{Tree, leaf, branch, numbers, nodeCount, Filled, joined, linksFrom, boxesOf, rootFrom, kindAt, nodeBox}
-use Rattle.spec_tree.specs.Order.{upTo, Permutes, permutes, occurs, allBelow, distinct}
+use Rattle.spec_tree.specs.Order.{upTo, permutes, occurs, allBelow, distinct}
 use Rattle.spec_tree.specs.Accepted.{Listing, accepted}
 use Rattle.spec_tree.specs.Hangs.{Sound}
 use Rattle.spec_tree.specs.Refusals.{treeRefusal, checkRefusal}
@@ -227,6 +227,39 @@ module _ (boxAt : ℕ → Box) (n : ℕ) (order links : List ℕ) (boxes : List 
             ∙ ap (λ (l : List Box). getD l k (boxAt 0)) (leaves-boxed boxAt 0 0 t)
             ∙ getD-map (joined boxAt) (leaves t) k [] (boxAt 0) (omega (arith, count-read));
       }
+
+-- ---- what an accepted tree's leaves are, in one place
+pub record LeavesAre (boxAt : ℕ → Box) (n : ℕ) (order links : List ℕ) (boxes : List Float) (nodes : ℕ) (t : Tree) : Type 0 where
+  pub read : map (leafAt links boxes) (leafNodes links 0 nodes) ≡ leavesFrom boxAt 0 0 t
+  pub parts : map (partOf order) (leavesFrom boxAt 0 0 t) ≡ leaves t
+  pub whole : flatten (leaves t) ≡ order
+  pub once : (k : ℕ) → k < n → partsWith k (leaves t) ≡ 1
+  pub count : leafCount links nodes ≡ length (leaves t)
+  pub some : 1 ≤ leafCount links nodes
+  pub few : leafCount links nodes ≤ n
+  pub each : (k : ℕ) → k < leafCount links nodes → TheLeaf boxAt order (leafFrom links boxes nodes 0 k) (getD (leaves t) k [])
+  pub none : (k : ℕ) → leafCount links nodes ≤ k → leafFrom links boxes nodes 0 k ≡ nothing
+
+pub accepted-leaves : (boxAt : ℕ → Box) (n : ℕ) (order links : List ℕ) (boxes : List Float) (nodes : ℕ) → accepted boxAt n order links boxes nodes ≡ true
+    → (t : Tree) × Listing boxAt n order links boxes nodes t × LeavesAre boxAt n order links boxes nodes t
+accepted-leaves boxAt n order links boxes nodes h =
+    let listed = accepted-listed boxAt n order links boxes nodes h in
+    let t : Tree = listed .0 in
+    let s : Listing boxAt n order links boxes nodes t = listed .1 in (
+      t,
+      s,
+      record {
+        read = leaves-read boxAt n order links boxes nodes t s;
+        parts = parts-read boxAt n order links boxes nodes t s;
+        whole = parts-whole boxAt n order links boxes nodes t s;
+        once = in-one-leaf boxAt n order links boxes nodes t s;
+        count = count-read boxAt n order links boxes nodes t s;
+        some = count-some boxAt n order links boxes nodes t s;
+        few = count-few boxAt n order links boxes nodes t s;
+        each = leaf-some boxAt n order links boxes nodes t s;
+        none = leaf-none boxAt n order links boxes nodes t s;
+      },
+    )
 
 -- ---- lists that pass
 module _ (triangles : List Float) (order links : List ℕ) (boxes : List Float) (nodes : ℕ) (p : checkRefusal triangles order links boxes nodes ≡ passes) where

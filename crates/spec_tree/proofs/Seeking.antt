@@ -13,7 +13,7 @@ use lib.ListN.{length, getD}
 use lib.Ieee.{Float}
 use Rattle.spec_tree.specs.Trees.{kindAt, leftAt, rightAt}
 use Rattle.spec_tree.specs.Hangs.{LeafRange, ChildrenBefore, Sound}
-use Rattle.spec_tree.specs.Leaves.{Leaf, withLeaf, leafNodes, leafAt, leafCount, LeafFound, nothing, found, kth, leafFrom}
+use Rattle.spec_tree.specs.Leaves.{Leaf, withLeaf, leafNodes, leafAt, leafCount, nothing, found, kth, leafFrom}
 
 -- ---- the nodes that are leaves
 module _ (links : List ℕ) where

@@ -34,11 +34,11 @@ leavesFrom boxAt node entry (branch l r) = leavesFrom boxAt node entry l ++ leav
 abbrev pub partOf : List ℕ → Leaf → List ℕ
 partOf order l = Tables.part order (l .first) (l .last - l .first)
 
--- how many of the parts a number stands in
 abbrev pub oneIf : Bool → ℕ
 oneIf true = 1
 oneIf false = 0
 
+-- how many of the parts a number stands in
 unfoldable pub partsWith : ℕ → List (List ℕ) → ℕ
 partsWith k [] = 0
 partsWith k (part ∷ parts) = oneIf (occurs k part) + partsWith k parts

@@ -1,7 +1,7 @@
 -- A part of a list that runs past its end is what of it is there. Assumes nothing.
-use mathlib.Core.Path.{_≡_, refl, sym, ap, _∙_}
+use mathlib.Core.Path.{_≡_, sym, ap, _∙_}
 use mathlib.Core.List.{List, []}
-use Prim.Native.Nat.{ℕ, min, _+_, _-_, _≤_, _<_}
+use Prim.Native.Nat.{ℕ, min, _-_, _≤_, _<_}
 use native.Mathlib.Omega.{arith}
 use native.Mathlib.Decide.{decLt}
 use lib.ListN.{length, take, drop, length-drop, drop-of-length-le}
