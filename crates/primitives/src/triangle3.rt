@@ -163,13 +163,18 @@ impl Triangle3 {
         self.point_on(d, d.part())
     }
 
-    // The sure query's point: the closest point, or corner a where that is not finite, held into
-    // the triangle's box, zeros plus zero.
+    // q, or corner a where q is not finite, held into the triangle's box, zeros plus zero.
+    pub fn held(self, q: Vec3) -> Vec3
+        ensures { λ r. ⌜ Values.asPoint r ≡ Triangles.heldFrom (Values.asTriangle self) (Values.asPoint q) ⌝ }
+    {
+        self.bbox().hold(finite_or(self.a, q)).plus_zero()
+    }
+
+    // The sure query's point: the closest point, held.
     pub fn held_point(self, p: Vec3) -> Vec3
         ensures { λ r. ⌜ Values.asPoint r ≡ Triangles.heldPoint binary32 (Values.asTriangle self) (Values.asPoint p) ⌝ }
     {
-        let q = finite_or(self.a, self.closest_point(p));
-        self.bbox().hold(q).plus_zero()
+        self.held(self.closest_point(p))
     }
 
     // That point, and its squared distance to p.

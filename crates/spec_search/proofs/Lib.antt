@@ -3,7 +3,7 @@ pub mod Smallest
 pub mod Sure
 pub mod Nearest
 pub mod Turns
-pub mod Ways
 pub mod Walked
 pub mod Steps
 pub mod Calls
+pub mod Kept

@@ -5,3 +5,4 @@ pub mod Nearest
 pub mod Source
 pub mod Safe
 pub mod Calls
+pub mod Kept

@@ -101,9 +101,13 @@ closestPoint f t p = let d = dots f t p in pointOn f t d (part f d)
 unfoldable pub finiteOr : Point → Point → Point
 finiteOr a q = cond (isFinite q) q a
 
--- the computed closest point or its stand-in, held into the triangle's box, zeros plus zero
+-- q or its stand-in, held into the triangle's box, zeros plus zero
+abbrev pub heldFrom : Triangle → Point → Point
+heldFrom t q = plusZero (heldIn (boxOf t) (finiteOr (t .a) q))
+
+-- the computed closest point, held
 unfoldable pub heldPoint : Format → Triangle → Point → Point
-heldPoint f t p = plusZero (heldIn (boxOf t) (finiteOr (t .a) (closestPoint f t p)))
+heldPoint f t p = heldFrom t (closestPoint f t p)
 
 -- with its squared distance
 pub record Measured : Type 0 where

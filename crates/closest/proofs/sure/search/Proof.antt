@@ -1,5 +1,8 @@
--- `closest::sure::search` meets its contract: an accepted tree is safe to walk from its root.
+-- `closest::sure::search` meets its contract: an accepted tree is safe to walk from its root, and what is kept at first stands for nothing.
 -- Assumes nothing.
+use mathlib.Core.Path.{_∙_}
+use lib.Ieee.{div, ofBits, eq}
+use Rattle.spec_search.specs.Kept.{kept}
 use Rattle.spec_search.specs.Sure.{sureWalk}
 use Rattle.spec_search.proofs.Calls.{root-there, root-safe}
 use Rattle.spec_search.proofs.Steps.{hangs-there}
@@ -17,12 +20,22 @@ sub-node-walk : tie.Need-sub-node-walk
 sub-node-walk c = search needs
 
 node-walk-requires : tie.Need-node-walk-requires
-node-walk-requires c κs = (root-safe _ _ _ _ _ (c .before .before .before .before .before .pre), c .node-squared .ensures)
+node-walk-requires c κs = (root-safe _ _ _ _ _ (c .before .before .before .before .before .before .before .before .pre), c .before .before .before .node-squared .ensures)
+
+answer-of-requires : tie.Need-answer-of-requires
+answer-of-requires c κs = search needs
 
 returns : tie.Need-returns
-unfolding sureWalk
-returns c = c .node-walk .ensures
+unfolding sureWalk kept div ofBits eq
+returns c = (λ i. record { best = c .answer-of .ensures i; measured = c .before .before .node-walk .result }) ∙ c .before .before .node-walk .ensures
 
 pub search-spec : {M : Type 1} → statement M
 search-spec =
-    tie.close (tie.spec sub-root node-squared-requires sub-node-walk node-walk-requires returns)
+    tie.close
+    (tie.spec
+    sub-root
+    node-squared-requires
+    sub-node-walk
+    node-walk-requires
+    answer-of-requires
+    returns)

@@ -1,7 +1,7 @@
 use mathlib.Core.Path.{refl}
 use Rattle.spec_search.specs.Sure.{counts}
-use Rattle.closest.proofs.sure.does_count.Statement.{statement}
-use Rattle.closest.proofs.sure.does_count.Tie as tie
+use Rattle.closest.proofs.kept.does_count.Statement.{statement}
+use Rattle.closest.proofs.kept.does_count.Tie as tie
 
 returns : tie.Need-returns
 unfolding counts

@@ -1,12 +1,12 @@
--- `closest::measure_leaf` meets its contract: a part of a list of triangle numbers is one.
+-- `closest::leaf::measure_leaf` meets its contract: a part of a list of triangle numbers is one.
 -- Assumes nothing.
 use Prim.Native.Nat.{_-_}
 use native.Mathlib.Omega.{arith}
 use Rattle.spec_tree.proofs.Standing.{part-length}
 use Rattle.spec_search.proofs.Steps.{part-below}
 use borrow.Author.Needs.{needs}
-use Rattle.closest.proofs.sure.measure_leaf.Statement.{statement}
-use Rattle.closest.proofs.sure.measure_leaf.Tie as tie
+use Rattle.closest.proofs.leaf.measure_leaf.Statement.{statement}
+use Rattle.closest.proofs.leaf.measure_leaf.Tie as tie
 
 mul-measure-part : tie.Need-mul-measure-part
 mul-measure-part c = search needs
@@ -22,7 +22,7 @@ part-measure-part-end c = search needs
 
 measure-part-requires : tie.Need-measure-part-requires
 measure-part-requires c κs =
-    let start = c .before .before .before in
+    let start = c .before .before .before .before .before in
     let args = start .args in
     let range = start .pre .1 .0 in (
       part-below _ (args .order .now) (args .first) (args .last) (range .0) (range .1) (start .pre .0),

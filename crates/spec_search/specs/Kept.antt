@@ -1,0 +1,26 @@
+-- What a search keeps as a plain hit: at an infinite squared distance it stands for nothing. Definitions only.
+use mathlib.Core.Bool.{Bool, true, false, _&&_, _||_}
+use mathlib.Core.List.{List}
+use Prim.Native.Nat.{ℕ}
+use lib.Dec.{ltb}
+use lib.Ieee.{Float, Format, inf, lt, eq}
+use Rattle.spec_shapes.specs.Points.{Point}
+use Rattle.spec_search.specs.Answers.{Hit, Answer, nothing, found}
+use Rattle.spec_search.specs.Sure.{tookSure}
+use Rattle.spec_search.specs.Source.{tookSource}
+
+abbrev pub keptIf : Bool → Hit → Answer
+keptIf true h = nothing
+keptIf false h = found h
+
+unfoldable pub kept : Hit → Answer
+kept h = keptIf (eq (h .squared) (inf false)) h
+
+-- h is smaller than k, or level with it at a lower number
+unfoldable pub nearer : Hit → Hit → Bool
+nearer h k = lt (h .squared) (k .squared) || (eq (h .squared) (k .squared) && ltb (h .triangle) (k .triangle))
+
+-- what measuring a triangle does to what is kept: the sure query's way, or the source's
+abbrev pub tookBy : Bool → Format → List Float → Point → Float → ℕ → Answer → Answer
+tookBy true f triangles p limit = tookSure f triangles p limit
+tookBy false f triangles p limit = tookSource f triangles p
