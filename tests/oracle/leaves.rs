@@ -7,7 +7,8 @@
 //! A case is words, u32 little-endian: n, nodes; then 9n coordinates, n order entries, 3 links a
 //! node, 6 box numbers a node. Its lines are `leaves COUNT` and for each leaf its number, where its
 //! part of the order list begins and ends, its box, its triangles and `nothing`. The last two cases
-//! are the first tree with a link changed and a tree with no triangles: both are refused.
+//! are the first tree with a link changed and a tree with no triangles: both are refused. A number as
+//! third argument makes other trees.
 
 use shark::{
     cases::{make, Wish, KINDS},
@@ -52,7 +53,7 @@ fn visited(built: &Any, text: &mut String) {
 fn main() {
     let args: Vec<String> = std::env::args().skip(1).collect();
     let (mut out, mut text) = (Vec::new(), String::new());
-    let mut seed = 0;
+    let mut seed = args.get(2).map_or(0, |s| s.parse().unwrap());
     for kind in KINDS {
         for strategy in [1, 2, 1, 2] {
             seed += 1;
