@@ -1,0 +1,462 @@
+/* How much stock a rough casting has over its drawing: the numbers, and the picture on the screen over
+ * the bay.
+ *
+ *     stock DRAWING [PICTURE [LEAST MOST]]
+ *
+ * DRAWING is plain text as tools/make_input.py reads it: the drawing's triangles and the points that
+ * were touched. Stock is how far a touched point lies outside the drawing, or, with a minus, inside.
+ * It is wanted from LEAST to MOST (1 and 4 where none are given). PICTURE is written as SVG, which any
+ * browser shows: the drawing from two sides, each place in the colour of the touched point nearest to
+ * it.
+ *
+ * The engine's part is ask(): an image is built, and the points are asked for their nearest place on
+ * the drawing and for inside or outside. */
+#include "gauge.h"
+
+#include <math.h>
+#include <stdio.h>
+#include <stdlib.h>
+#include <string.h>
+
+enum { MOST_POINTS = 10000 };
+
+typedef struct { double x, y, z; } Vec;
+
+static float drawing[9 * GAUGE_MOST_TRIANGLES], touched[3 * MOST_POINTS], windings[MOST_POINTS];
+static struct gauge_answer answers[MOST_POINTS];
+static uint8_t image[GAUGE_IMAGE_MOST(GAUGE_MOST_TRIANGLES)];
+static size_t triangles, points;
+static unsigned strategy = GAUGE_AREA, leaf_minimum = 1, maximum_depth = 40;
+static float distance = 100;
+static double least = 1, most = 4;
+
+static void fail(const char *what, const char *more)
+{
+    fprintf(stderr, "stock: %s%s\n", what, more);
+    exit(1);
+}
+
+/* ---- the drawing */
+
+static void read_drawing(const char *path)
+{
+    char line[512], word[16], name[16];
+    FILE *file = fopen(path, "r");
+    if (file == NULL)
+        fail("cannot read ", path);
+    while (fgets(line, sizeof line, file) != NULL) {
+        float *t = drawing + 9 * triangles, *p = touched + 3 * points;
+        line[strcspn(line, "#\n")] = 0;
+        if (sscanf(line, "%15s", word) != 1)
+            continue;
+        if (strcmp(word, "triangle") == 0 && triangles < GAUGE_MOST_TRIANGLES &&
+            sscanf(line, "%*s %f %f %f %f %f %f %f %f %f", t, t + 1, t + 2, t + 3, t + 4, t + 5, t + 6, t + 7, t + 8) == 9)
+            triangles++;
+        else if (strcmp(word, "point") == 0 && points < MOST_POINTS && sscanf(line, "%*s %f %f %f", p, p + 1, p + 2) == 3)
+            points++;
+        else if (strcmp(word, "settings") == 0 && sscanf(line, "%*s %15s %u %u", name, &leaf_minimum, &maximum_depth) == 3)
+            strategy = strcmp(name, "median") == 0 ? GAUGE_MEDIAN : GAUGE_AREA;
+        else if (strcmp(word, "distance") != 0 || sscanf(line, "%*s %f", &distance) != 1)
+            fail("no triangle, point, settings or distance, or too many of them: ", line);
+    }
+    fclose(file);
+}
+
+/* ---- the engine's part */
+
+static uint64_t done(const char *call, uint64_t returned)
+{
+    if (gauge_refused(returned)) {
+        fprintf(stderr, "stock: %s refused: %u at %llu (include/gauge.h says what that is)\n", call, gauge_number(returned),
+                (unsigned long long)gauge_place(returned));
+        exit(1);
+    }
+    return returned;
+}
+
+static void ask(void)
+{
+    const uint8_t *p = (const uint8_t *)touched;
+    size_t length = GAUGE_POINT_BYTES * points;
+    uint64_t size = done("gauge_build", gauge_build(strategy, leaf_minimum, maximum_depth, (const uint8_t *)drawing,
+                                                    GAUGE_TRIANGLE_BYTES * triangles, image, sizeof image));
+    done("gauge_sure", gauge_sure(image, size, p, length, distance, (uint8_t *)answers, sizeof answers));
+    done("gauge_winding", gauge_winding(image, size, p, length, (uint8_t *)windings, sizeof windings));
+    printf("%zu triangles, an image of %llu bytes, %zu points touched\n", triangles, (unsigned long long)size, points);
+}
+
+static double stock_of(size_t i)
+{
+    double away = sqrt(answers[i].squared);
+    return fabsf(windings[i]) > 0.5f ? -away : away;
+}
+
+/* ---- what it means for the casting */
+
+enum { SHORT, THIN, GOOD, HEAVY, UNKNOWN, CLASSES };
+
+static const char *const colours[CLASSES] = {"#d7301f", "#fdae1b", "#1a9850", "#2b6cb8", "#b4b4b4"};
+static const int shades[CLASSES][3] = {{215, 48, 31}, {253, 174, 27}, {26, 152, 80}, {43, 108, 184}, {180, 180, 180}};
+static size_t counted[CLASSES];
+static size_t worst;
+
+static int class_of(size_t i)
+{
+    if (!answers[i].found)
+        return UNKNOWN;
+    double stock = stock_of(i);
+    return stock < 0 ? SHORT : stock < least ? THIN : stock <= most ? GOOD : HEAVY;
+}
+
+static void judge(void)
+{
+    worst = MOST_POINTS;
+    for (size_t i = 0; i < points; i++) {
+        counted[class_of(i)]++;
+        if (answers[i].found && (worst == MOST_POINTS || stock_of(i) < stock_of(worst)))
+            worst = i;
+    }
+}
+
+static void print_stock(void)
+{
+    static const char *const words[CLASSES] = {"SHORT", "thin", "", "heavy", ""};
+    for (size_t i = 0; i < points; i++) {
+        const struct gauge_answer *a = &answers[i];
+        printf("%4zu  at %9.3f %9.3f %9.3f  ", i, (double)touched[3 * i], (double)touched[3 * i + 1], (double)touched[3 * i + 2]);
+        if (a->found)
+            printf("stock %+8.3f  over triangle %4u at %9.3f %9.3f %9.3f  %s\n", stock_of(i), a->triangle, (double)a->x, (double)a->y,
+                   (double)a->z, words[class_of(i)]);
+        else
+            printf("nothing within %g\n", (double)distance);
+    }
+    printf("short of stock %zu, thin %zu, good %zu, heavy %zu, no answer %zu\n", counted[SHORT], counted[THIN], counted[GOOD],
+           counted[HEAVY], counted[UNKNOWN]);
+    if (worst < points)
+        printf("least stock %+.3f at point %zu\n", stock_of(worst), worst);
+}
+
+/* ---- the picture */
+
+static Vec minus(Vec a, Vec b)
+{
+    Vec r = {a.x - b.x, a.y - b.y, a.z - b.z};
+    return r;
+}
+
+static Vec cross(Vec a, Vec b)
+{
+    Vec r = {a.y * b.z - a.z * b.y, a.z * b.x - a.x * b.z, a.x * b.y - a.y * b.x};
+    return r;
+}
+
+static double dot(Vec a, Vec b)
+{
+    return a.x * b.x + a.y * b.y + a.z * b.z;
+}
+
+static Vec unit(Vec a)
+{
+    double size = sqrt(dot(a, a));
+    Vec r = {0, 0, 0};
+    if (size > 0) {
+        r.x = a.x / size;
+        r.y = a.y / size;
+        r.z = a.z / size;
+    }
+    return r;
+}
+
+static Vec corner(size_t t, int k)
+{
+    const float *c = drawing + 9 * t + 3 * k;
+    Vec r = {c[0], c[1], c[2]};
+    return r;
+}
+
+static Vec normal_of(size_t t)
+{
+    return unit(cross(minus(corner(t, 1), corner(t, 0)), minus(corner(t, 2), corner(t, 0))));
+}
+
+static Vec foot(size_t i)
+{
+    Vec r = {answers[i].x, answers[i].y, answers[i].z};
+    return r;
+}
+
+/* A view: what is right, up and towards the eye; where it stands on the sheet. */
+typedef struct { Vec right, up, eye, centre; double scale, x, y; } View;
+
+/* A piece of a triangle, of an edge, or a touched point, in the plane of the sheet. */
+enum Kind { FACE, EDGE, DOT };
+typedef struct { double depth, x[3], y[3]; enum Kind kind; int class; double light; } Piece;
+
+enum { PARTS = 4, MOST_PIECES = (PARTS * PARTS + 3 * PARTS) * GAUGE_MOST_TRIANGLES + MOST_POINTS };
+static Piece pieces[MOST_PIECES];
+static size_t piece_count;
+
+static double across(const View *v, Vec p)
+{
+    return v->x + v->scale * dot(v->right, minus(p, v->centre));
+}
+
+static double down(const View *v, Vec p)
+{
+    return v->y - v->scale * dot(v->up, minus(p, v->centre));
+}
+
+/* The class of the touched point whose place on the drawing is nearest, of those on faces turned much
+ * the same way; unknown where none is within reach. */
+static int class_near(Vec p, Vec normal, double reach)
+{
+    static Vec normals[GAUGE_MOST_TRIANGLES];
+    static int made;
+    double best = reach * reach;
+    int class = UNKNOWN;
+    for (size_t t = 0; !made && t < triangles; t++)
+        normals[t] = normal_of(t);
+    made = 1;
+    for (size_t i = 0; i < points; i++) {
+        if (!answers[i].found)
+            continue;
+        Vec d = minus(foot(i), p);
+        double away = dot(d, d);
+        if (away < best && dot(normals[answers[i].triangle], normal) > 0.5) {
+            best = away;
+            class = class_of(i);
+        }
+    }
+    return class;
+}
+
+static Vec mixed(Vec a, Vec b, Vec c, double s, double t)
+{
+    Vec r = {a.x + s * (b.x - a.x) + t * (c.x - a.x), a.y + s * (b.y - a.y) + t * (c.y - a.y), a.z + s * (b.z - a.z) + t * (c.z - a.z)};
+    return r;
+}
+
+static void add_piece(const View *v, Vec a, Vec b, Vec c, Vec normal, double reach)
+{
+    static const Vec lamp = {-0.28, 0.16, 0.95}; /* from the left of the eye */
+    Vec corners[3] = {a, b, c}, middle = mixed(a, b, c, 1.0 / 3, 1.0 / 3);
+    Vec turned = {dot(normal, v->right), dot(normal, v->up), dot(normal, v->eye)};
+    double lit = dot(turned, lamp);
+    Piece *p = &pieces[piece_count++];
+    p->kind = FACE;
+    p->depth = dot(v->eye, middle);
+    p->class = class_near(middle, normal, reach);
+    p->light = 0.66 + 0.34 * (lit > 0 ? lit : 0);
+    for (int k = 0; k < 3; k++) {
+        p->x[k] = across(v, corners[k]);
+        p->y[k] = down(v, corners[k]);
+    }
+}
+
+/* A side of a triangle where the surface bends sharply, in PARTS pieces. */
+static void add_edge(const View *v, size_t t, int side, double lift)
+{
+    Vec a = corner(t, side), b = corner(t, (side + 1) % 3), normal = normal_of(t);
+    if (dot(normal, v->eye) <= 0)
+        return;
+    for (size_t other = 0; other < triangles; other++)
+        for (int k = 0; other != t && k < 3; k++) {
+            Vec from = minus(corner(other, (k + 1) % 3), a), to = minus(corner(other, k), b);
+            if (dot(from, from) == 0 && dot(to, to) == 0 && dot(normal_of(other), normal) > 0.8)
+                return;
+        }
+    for (int i = 0; i < PARTS; i++) {
+        Vec ends[2] = {mixed(a, b, a, (double)i / PARTS, 0), mixed(a, b, a, (double)(i + 1) / PARTS, 0)};
+        Piece *p = &pieces[piece_count++];
+        p->kind = EDGE;
+        p->depth = dot(v->eye, ends[0]) + lift;
+        for (int k = 0; k < 2; k++) {
+            p->x[k] = across(v, ends[k]);
+            p->y[k] = down(v, ends[k]);
+        }
+    }
+}
+
+/* The triangle in PARTS times PARTS pieces, where it is turned towards the eye. */
+static void add_triangle(const View *v, size_t t, double reach)
+{
+    Vec a = corner(t, 0), b = corner(t, 1), c = corner(t, 2), normal = normal_of(t);
+    double n = PARTS;
+    if (dot(normal, v->eye) <= 0)
+        return;
+    for (int i = 0; i < PARTS; i++)
+        for (int k = 0; i + k < PARTS; k++) {
+            Vec here = mixed(a, b, c, i / n, k / n), one = mixed(a, b, c, (i + 1) / n, k / n), other = mixed(a, b, c, i / n, (k + 1) / n);
+            add_piece(v, here, one, other, normal, reach);
+            if (i + k + 1 < PARTS)
+                add_piece(v, one, mixed(a, b, c, (i + 1) / n, (k + 1) / n), other, normal, reach);
+        }
+}
+
+static void add_dot(const View *v, size_t i, double lift)
+{
+    Vec normal = normal_of(answers[i].triangle), at = foot(i);
+    Piece *p = &pieces[piece_count];
+    if (!answers[i].found || dot(normal, v->eye) <= 0.05)
+        return;
+    piece_count++;
+    p->kind = DOT;
+    p->depth = dot(v->eye, at) + lift;
+    p->x[0] = across(v, at);
+    p->y[0] = down(v, at);
+    p->class = class_of(i);
+}
+
+static int farther_first(const void *a, const void *b)
+{
+    double x = ((const Piece *)a)->depth, y = ((const Piece *)b)->depth;
+    return x < y ? -1 : x > y;
+}
+
+static void draw_view(FILE *f, const View *v, double reach)
+{
+    piece_count = 0;
+    for (size_t t = 0; t < triangles; t++) {
+        add_triangle(v, t, reach);
+        for (int side = 0; side < 3; side++)
+            add_edge(v, t, side, reach / 3);
+    }
+    for (size_t i = 0; i < points; i++)
+        add_dot(v, i, reach / 3);
+    qsort(pieces, piece_count, sizeof *pieces, farther_first);
+    for (size_t i = 0; i < piece_count; i++) {
+        const Piece *p = &pieces[i];
+        const int *s = shades[p->class];
+        if (p->kind == DOT) {
+            fprintf(f, "<circle cx='%.1f' cy='%.1f' r='%s' fill='%s'/>\n", p->x[0], p->y[0], p->class == SHORT ? "5" : "1.8",
+                    p->class == SHORT ? "#fff" : "#222");
+            continue;
+        }
+        if (p->kind == EDGE) {
+            fprintf(f, "<path d='M%.1f %.1fL%.1f %.1f' stroke='#222' stroke-width='2'/>\n", p->x[0], p->y[0], p->x[1], p->y[1]);
+            continue;
+        }
+        int r = (int)(s[0] * p->light), g = (int)(s[1] * p->light), b = (int)(s[2] * p->light);
+        /* the edge in the same colour closes the seams between pieces */
+        fprintf(f, "<path d='M%.1f %.1fL%.1f %.1fL%.1f %.1fz' fill='#%02x%02x%02x' stroke='#%02x%02x%02x'/>\n", p->x[0], p->y[0], p->x[1],
+                p->y[1], p->x[2], p->y[2], r, g, b, r, g, b);
+    }
+}
+
+enum { WIDE = 1600, HIGH = 900 };
+
+static void text(FILE *f, double x, double y, int size, const char *fill, const char *anchor, const char *words)
+{
+    fprintf(f, "<text x='%.0f' y='%.0f' font-size='%d' fill='%s' text-anchor='%s'>%s</text>\n", x, y, size, fill, anchor, words);
+}
+
+/* The verdict, for a look from across the bay. Enough is said only where every point was measured. */
+static void draw_verdict(FILE *f)
+{
+    static const char *const words[CLASSES] = {"SHORT OF STOCK", "STOCK IS THIN", "ENOUGH STOCK", "ENOUGH STOCK", "NOT MEASURED"};
+    static const char *const which[CLASSES] = {"short", "thin", "good", "heavy", "without answer"};
+    char more[128];
+    int class = counted[SHORT] != 0 ? SHORT : counted[THIN] != 0 ? THIN : counted[UNKNOWN] != 0 || points == 0 ? UNKNOWN : GOOD;
+    const char *ink = class == SHORT || class == GOOD ? "#fff" : "#000";
+    fprintf(f, "<rect width='%d' height='120' fill='%s'/>\n", WIDE, colours[class]);
+    text(f, 40, 86, 76, ink, "start", words[class]);
+    snprintf(more, sizeof more, "%zu of %zu points %s", counted[class], points, which[class]);
+    text(f, WIDE - 40, 100, 30, ink, "end", more);
+    if (worst >= points)
+        return;
+    snprintf(more, sizeof more, "least %+.2f mm", stock_of(worst));
+    text(f, WIDE - 40, 58, 44, ink, "end", more);
+}
+
+static void draw_legend(FILE *f)
+{
+    static const double at[CLASSES] = {40, 325, 595, 915, 1275};
+    char words[CLASSES][64];
+    snprintf(words[SHORT], 64, "short: below 0");
+    snprintf(words[THIN], 64, "thin: below %g", least);
+    snprintf(words[GOOD], 64, "good: %g to %g mm", least, most);
+    snprintf(words[HEAVY], 64, "heavy: above %g mm", most);
+    snprintf(words[UNKNOWN], 64, "not touched");
+    for (int c = 0; c < CLASSES; c++) {
+        fprintf(f, "<rect x='%.0f' y='%d' width='40' height='40' fill='%s' stroke='#000'/>\n", at[c], HIGH - 60, colours[c]);
+        text(f, at[c] + 52, HIGH - 31, 25, "#000", "start", words[c]);
+    }
+}
+
+/* A ring round the place with the least stock, where the view shows it, with its number. */
+static void draw_ring(FILE *f, const View *v)
+{
+    char number[32];
+    if (worst >= points || class_of(worst) > THIN || dot(normal_of(answers[worst].triangle), v->eye) <= 0.05)
+        return;
+    double x = across(v, foot(worst)), y = down(v, foot(worst));
+    int low = y > v->y;
+    double to_x = v->x + (x < v->x ? -260 : 260), to_y = v->y + (low ? 260 : -240);
+    snprintf(number, sizeof number, "%+.2f mm", stock_of(worst));
+    fprintf(f, "<circle cx='%.1f' cy='%.1f' r='34' fill='none' stroke='#000' stroke-width='6'/>\n", x, y);
+    fprintf(f, "<path d='M%.1f %.1fL%.1f %.1f' stroke='#000' stroke-width='6'/>\n", x + (to_x - x) * 34 / hypot(to_x - x, to_y - y),
+            y + (to_y - y) * 34 / hypot(to_x - x, to_y - y), to_x, to_y);
+    text(f, to_x, to_y + (low ? 50 : -14), 48, "#000", "middle", number);
+}
+
+static View view_from(double turn, double rise, Vec centre, double scale, double x)
+{
+    View v;
+    Vec eye = {cos(rise) * cos(turn), cos(rise) * sin(turn), sin(rise)}, right = {-sin(turn), cos(turn), 0};
+    v.eye = eye;
+    v.right = right;
+    v.up = cross(eye, right);
+    v.centre = centre;
+    v.scale = scale;
+    v.x = x;
+    v.y = 480;
+    return v;
+}
+
+static void draw(const char *path)
+{
+    Vec low = corner(0, 0), high = low;
+    for (size_t t = 0; t < triangles; t++)
+        for (int k = 0; k < 3; k++) {
+            Vec c = corner(t, k);
+            low.x = fmin(low.x, c.x), low.y = fmin(low.y, c.y), low.z = fmin(low.z, c.z);
+            high.x = fmax(high.x, c.x), high.y = fmax(high.y, c.y), high.z = fmax(high.z, c.z);
+        }
+    Vec centre = mixed(low, high, low, 0.5, 0), sizes = minus(high, low);
+    double size = sqrt(dot(sizes, sizes));
+    View above = view_from(-0.35, 0.62, centre, 980 / size, 410), under = view_from(2.4, -0.62, centre, 980 / size, 1190);
+    FILE *f = fopen(path, "w");
+    if (f == NULL)
+        fail("cannot write ", path);
+    fprintf(f, "<svg xmlns='http://www.w3.org/2000/svg' viewBox='0 0 %d %d' font-family='sans-serif' font-weight='bold'>\n", WIDE, HIGH);
+    fprintf(f, "<rect width='%d' height='%d' fill='#f4f4f4'/>\n", WIDE, HIGH);
+    draw_view(f, &above, size / 14);
+    draw_view(f, &under, size / 14);
+    draw_ring(f, &above);
+    draw_ring(f, &under);
+    text(f, above.x, 790, 28, "#000", "middle", "from above");
+    text(f, under.x, 790, 28, "#000", "middle", "from below");
+    draw_verdict(f);
+    draw_legend(f);
+    fprintf(f, "</svg>\n");
+    if (fclose(f) != 0)
+        fail("cannot write ", path);
+    printf("the picture is %s\n", path);
+}
+
+int main(int argc, char **argv)
+{
+    if (argc != 2 && argc != 3 && argc != 5)
+        fail("usage: stock DRAWING [PICTURE [LEAST MOST]]", "");
+    if (argc == 5) {
+        least = atof(argv[3]);
+        most = atof(argv[4]);
+    }
+    read_drawing(argv[1]);
+    ask();
+    judge();
+    print_stock();
+    if (argc > 2)
+        draw(argv[2]);
+    return 0;
+}
