@@ -511,6 +511,21 @@ static void ask_empty_and_full(Slice points)
     ask_build(1, 1, 40, bytes_of(drawing, 36 * 4096), MOST_OUT);
 }
 
+/* 64 levels are accepted, 65 are not. */
+static void each_depth(Slice points)
+{
+    static const size_t levels[] = {1, 2, 63, 64, 65, 66, 100};
+    make_drawing(100);
+    make_points(3, 100);
+    for (size_t k = 0; k < sizeof levels / sizeof *levels; k++)
+        for (int leaves_right = 0; leaves_right < 2; leaves_right++)
+            for (size_t more = 0; more < 2; more++) {
+                size_t n = levels[k] + more * (100 - levels[k]);
+                size_t size = plain_chain(levels[k], leaves_right, (const uint8_t *)drawing, n, image_bytes);
+                ask_all(bytes_of(image_bytes, size), points, 4194304);
+            }
+}
+
 static void in_turn(size_t n)
 {
     Slice points = bytes_of(touched, 36);
@@ -590,6 +605,7 @@ int main(int argc, char **argv)
     out_room = make_room(MOST_OUT);
     in_turn(1);
     in_turn(3);
+    each_depth(bytes_of(touched, 36));
     ask_empty_and_full(bytes_of(touched, 36));
     while (calls < wanted)
         by_chance();

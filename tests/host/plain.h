@@ -20,6 +20,10 @@ uint64_t plain_winding(const uint8_t *image, size_t image_length,
                        const uint8_t *points, size_t points_length,
                        uint8_t *windings, size_t windings_length);
 
+/* The image of a tree of so many levels, each branch with one leaf of one triangle, at its right or at
+ * its left; the leaf at the bottom has the rest. Returns its length. */
+size_t plain_chain(size_t levels, int leaves_right, const uint8_t *triangles, size_t count, uint8_t *image);
+
 /* How deep the tree was that plain_build built last. */
 extern unsigned plain_depth;
 /* How many angles plain_winding has made, and how many of them were more than 2^-20 off atan2. */

@@ -37,10 +37,14 @@ static void too_small(int signal)
 
 static void *run(void *given)
 {
+    static uint8_t other[65536];
+    stack_t alternate = {.ss_sp = other, .ss_size = sizeof other};
     Job *job = given;
     const uint8_t *p = (const uint8_t *)points;
     uint8_t here;
     job->top = &here;
+    if (sigaltstack(&alternate, NULL) != 0)
+        return NULL;
     switch (job->call) {
     case BUILD:
         job->returned = gauge_build(strategy, 1, LEVELS, (const uint8_t *)drawing, 36 * triangles, out, sizeof out);
@@ -148,75 +152,9 @@ static void draw_chain(size_t n)
     }
 }
 
-static void put_u16(uint8_t *s, size_t x)
+static void ask_chain(int leaves_right, const char *input)
 {
-    s[0] = (uint8_t)x;
-    s[1] = (uint8_t)(x >> 8);
-}
-
-static void put_header(uint8_t *s, size_t length, unsigned kind)
-{
-    put_u16(s, length);
-    put_u16(s + 2, length >> 16);
-    put_u16(s + 4, kind);
-}
-
-/* A node over the triangles from first up to last; the triangles stand in order. */
-static void put_node(uint8_t *s, unsigned kind, size_t left, size_t right, size_t first, size_t last)
-{
-    float box[6];
-    for (int k = 0; k < 3; k++)
-        box[k] = box[3 + k] = drawing[9 * first + k];
-    for (size_t i = 9 * first; i < 9 * last; i++) {
-        box[i % 3] = fminf(box[i % 3], drawing[i]);
-        box[3 + i % 3] = fmaxf(box[3 + i % 3], drawing[i]);
-    }
-    put_u16(s, kind);
-    put_u16(s + 2, left);
-    put_u16(s + 4, right);
-    memcpy(s + 6, box, 24);
-}
-
-/* The image of a tree of 64 levels, each branch with one leaf: at its right, or at its left. The
- * last leaf holds what is left. */
-static void make_chain(int right_leaves)
-{
-    size_t n = triangles, nodes = 2 * LEVELS - 1, rest = n - (LEVELS - 1);
-    uint8_t *s = image;
-    put_header(s, 8, 1);
-    put_u16(s + 6, 1);
-    put_u16(s + 8, 1);
-    put_u16(s + 10, 1);
-    put_u16(s + 12, LEVELS);
-    put_header(s + 14, 36 * n, 2);
-    memcpy(s + 20, drawing, 36 * n);
-    s += 20 + 36 * n;
-    put_header(s, 2 * n, 3);
-    for (size_t i = 0; i < n; i++)
-        put_u16(s + 6 + 2 * i, i);
-    s += 6 + 2 * n;
-    put_header(s, 30 * nodes, 4);
-    s += 6;
-    if (right_leaves) {
-        put_node(s, 1, 0, rest, 0, rest);
-        for (size_t k = 1; k < LEVELS; k++) {
-            size_t root = 2 * k - 2, last = rest + k;
-            put_node(s + 30 * (root + 1), 1, last - 1, last, last - 1, last);
-            put_node(s + 30 * (root + 2), 2, root, root + 1, 0, last);
-        }
-    } else {
-        for (size_t k = 0; k + 1 < LEVELS; k++)
-            put_node(s + 30 * k, 1, k, k + 1, k, k + 1);
-        put_node(s + 30 * (LEVELS - 1), 1, LEVELS - 1, n, LEVELS - 1, n);
-        for (size_t k = LEVELS - 1; k-- > 0;)
-            put_node(s + 30 * (2 * LEVELS - 2 - k), 2, k, 2 * LEVELS - 3 - k, k, n);
-    }
-    image_length = 32 + 38 * n + 30 * nodes;
-}
-
-static void ask_chain(int right_leaves, const char *input)
-{
-    make_chain(right_leaves);
+    image_length = plain_chain(LEVELS, leaves_right, (const uint8_t *)drawing, triangles, image);
     note(CHECK, triangles, input);
     note(SURE, POINTS, input);
     note(SOURCE, POINTS, input);
@@ -225,10 +163,8 @@ static void ask_chain(int right_leaves, const char *input)
 
 int main(void)
 {
-    static uint8_t other[65536];
-    stack_t alternate = {.ss_sp = other, .ss_size = sizeof other};
     struct sigaction action = {.sa_handler = too_small, .sa_flags = SA_ONSTACK};
-    need(sigaltstack(&alternate, NULL) == 0 && sigaction(SIGSEGV, &action, NULL) == 0, "sigaction");
+    need(sigaction(SIGSEGV, &action, NULL) == 0, "sigaction");
     for (size_t i = 0; i < POINTS; i++) {
         points[3 * i] = (float)(i * 7 % 64);
         points[3 * i + 1] = (float)(i * 11 % 64);
