@@ -42,8 +42,9 @@
  * those that are counted stay as they were.
  *
  * No call allocates, keeps anything between calls, or writes to a file or a screen; any number of
- * threads may call at once, as long as none writes a slice that another uses. No call needs the
- * floating-point unit in another state than C starts it in: rounding to nearest, subnormals kept.
+ * threads may call at once, as long as none writes a slice that another uses. The calls count on the
+ * floating-point state that C starts with: round to nearest, subnormals kept. (A host linked with
+ * -ffast-math starts in another state, in which subnormals are zero.)
  */
 #ifndef GAUGE_H
 #define GAUGE_H

@@ -47,6 +47,8 @@ static void *run(void *given)
         return NULL;
     switch (job->call) {
     case BUILD:
+        if (gauge_image_most(triangles) != GAUGE_IMAGE_MOST(triangles))
+            return NULL;
         job->returned = gauge_build(strategy, 1, LEVELS, (const uint8_t *)drawing, 36 * triangles, out, sizeof out);
         break;
     case CHECK:
