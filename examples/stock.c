@@ -185,25 +185,44 @@ static Vec foot(size_t i)
     return r;
 }
 
-/* A view: what is right, up and towards the eye; where it stands on the sheet. */
-typedef struct { Vec right, up, eye, centre; double scale, x, y; } View;
+/* A view: what is right, up and towards the eye; the middle of what it shows, and where on the sheet
+ * that stands. */
+typedef struct { Vec right, up, eye; double middle_right, middle_up, scale, x, y; } View;
 
 /* A piece of a triangle, of an edge, or a touched point, in the plane of the sheet. */
 enum Kind { FACE, EDGE, DOT };
 typedef struct { double depth, x[3], y[3]; enum Kind kind; int class; double light; } Piece;
 
-enum { PARTS = 4, MOST_PIECES = (PARTS * PARTS + 3 * PARTS) * GAUGE_MOST_TRIANGLES + MOST_POINTS };
+enum { MOST_PARTS = 24, MOST_PIECES = 300000 };
 static Piece pieces[MOST_PIECES];
 static size_t piece_count;
 
+static Piece *new_piece(enum Kind kind, double depth)
+{
+    if (piece_count == MOST_PIECES)
+        fail("too much to draw", "");
+    Piece *p = &pieces[piece_count++];
+    p->kind = kind;
+    p->depth = depth;
+    return p;
+}
+
 static double across(const View *v, Vec p)
 {
-    return v->x + v->scale * dot(v->right, minus(p, v->centre));
+    return v->x + v->scale * (dot(v->right, p) - v->middle_right);
 }
 
 static double down(const View *v, Vec p)
 {
-    return v->y - v->scale * dot(v->up, minus(p, v->centre));
+    return v->y - v->scale * (dot(v->up, p) - v->middle_up);
+}
+
+/* In how many parts a side is cut, so that none is much longer than step. */
+static int parts_of(Vec a, Vec b, double step)
+{
+    Vec d = minus(a, b);
+    double parts = ceil(sqrt(dot(d, d)) / step);
+    return parts < 1 ? 1 : parts > MOST_PARTS ? MOST_PARTS : (int)parts;
 }
 
 /* The class of the touched point whose place on the drawing is nearest, of those on faces turned much
@@ -242,9 +261,7 @@ static void add_piece(const View *v, Vec a, Vec b, Vec c, Vec normal, double rea
     Vec corners[3] = {a, b, c}, middle = mixed(a, b, c, 1.0 / 3, 1.0 / 3);
     Vec turned = {dot(normal, v->right), dot(normal, v->up), dot(normal, v->eye)};
     double lit = dot(turned, lamp);
-    Piece *p = &pieces[piece_count++];
-    p->kind = FACE;
-    p->depth = dot(v->eye, middle);
+    Piece *p = new_piece(FACE, dot(v->eye, middle));
     p->class = class_near(middle, normal, reach);
     p->light = 0.66 + 0.34 * (lit > 0 ? lit : 0);
     for (int k = 0; k < 3; k++) {
@@ -253,8 +270,8 @@ static void add_piece(const View *v, Vec a, Vec b, Vec c, Vec normal, double rea
     }
 }
 
-/* A side of a triangle where the surface bends sharply, in PARTS pieces. */
-static void add_edge(const View *v, size_t t, int side, double lift)
+/* A side of a triangle where the surface bends sharply. */
+static void add_edge(const View *v, size_t t, int side, double step)
 {
     Vec a = corner(t, side), b = corner(t, (side + 1) % 3), normal = normal_of(t);
     if (dot(normal, v->eye) <= 0)
@@ -265,11 +282,10 @@ static void add_edge(const View *v, size_t t, int side, double lift)
             if (dot(from, from) == 0 && dot(to, to) == 0 && dot(normal_of(other), normal) > 0.8)
                 return;
         }
-    for (int i = 0; i < PARTS; i++) {
-        Vec ends[2] = {mixed(a, b, a, (double)i / PARTS, 0), mixed(a, b, a, (double)(i + 1) / PARTS, 0)};
-        Piece *p = &pieces[piece_count++];
-        p->kind = EDGE;
-        p->depth = dot(v->eye, ends[0]) + lift;
+    int parts = parts_of(a, b, step);
+    for (int i = 0; i < parts; i++) {
+        Vec ends[2] = {mixed(a, b, a, (double)i / parts, 0), mixed(a, b, a, (double)(i + 1) / parts, 0)};
+        Piece *p = new_piece(EDGE, dot(v->eye, ends[0]) + step);
         for (int k = 0; k < 2; k++) {
             p->x[k] = across(v, ends[k]);
             p->y[k] = down(v, ends[k]);
@@ -277,33 +293,32 @@ static void add_edge(const View *v, size_t t, int side, double lift)
     }
 }
 
-/* The triangle in PARTS times PARTS pieces, where it is turned towards the eye. */
-static void add_triangle(const View *v, size_t t, double reach)
+/* The triangle in pieces, where it is turned towards the eye. */
+static void add_triangle(const View *v, size_t t, double step, double reach)
 {
     Vec a = corner(t, 0), b = corner(t, 1), c = corner(t, 2), normal = normal_of(t);
-    double n = PARTS;
+    int ab = parts_of(a, b, step), bc = parts_of(b, c, step), ca = parts_of(c, a, step);
+    int parts = ab > bc ? ab : bc;
+    parts = parts > ca ? parts : ca;
+    double n = parts;
     if (dot(normal, v->eye) <= 0)
         return;
-    for (int i = 0; i < PARTS; i++)
-        for (int k = 0; i + k < PARTS; k++) {
+    for (int i = 0; i < parts; i++)
+        for (int k = 0; i + k < parts; k++) {
             Vec here = mixed(a, b, c, i / n, k / n), one = mixed(a, b, c, (i + 1) / n, k / n), other = mixed(a, b, c, i / n, (k + 1) / n);
             add_piece(v, here, one, other, normal, reach);
-            if (i + k + 1 < PARTS)
+            if (i + k + 1 < parts)
                 add_piece(v, one, mixed(a, b, c, (i + 1) / n, (k + 1) / n), other, normal, reach);
         }
 }
 
 static void add_dot(const View *v, size_t i, double lift)
 {
-    Vec normal = normal_of(answers[i].triangle), at = foot(i);
-    Piece *p = &pieces[piece_count];
-    if (!answers[i].found || dot(normal, v->eye) <= 0.05)
+    if (!answers[i].found || dot(normal_of(answers[i].triangle), v->eye) <= 0.05)
         return;
-    piece_count++;
-    p->kind = DOT;
-    p->depth = dot(v->eye, at) + lift;
-    p->x[0] = across(v, at);
-    p->y[0] = down(v, at);
+    Piece *p = new_piece(DOT, dot(v->eye, foot(i)) + lift);
+    p->x[0] = across(v, foot(i));
+    p->y[0] = down(v, foot(i));
     p->class = class_of(i);
 }
 
@@ -313,16 +328,17 @@ static int farther_first(const void *a, const void *b)
     return x < y ? -1 : x > y;
 }
 
-static void draw_view(FILE *f, const View *v, double reach)
+static void draw_view(FILE *f, const View *v, double size)
 {
+    double step = size / 28, reach = size / 14;
     piece_count = 0;
     for (size_t t = 0; t < triangles; t++) {
-        add_triangle(v, t, reach);
+        add_triangle(v, t, step, reach);
         for (int side = 0; side < 3; side++)
-            add_edge(v, t, side, reach / 3);
+            add_edge(v, t, side, step);
     }
     for (size_t i = 0; i < points; i++)
-        add_dot(v, i, reach / 3);
+        add_dot(v, i, step);
     qsort(pieces, piece_count, sizeof *pieces, farther_first);
     for (size_t i = 0; i < piece_count; i++) {
         const Piece *p = &pieces[i];
@@ -391,51 +407,52 @@ static void draw_ring(FILE *f, const View *v)
         return;
     double x = across(v, foot(worst)), y = down(v, foot(worst));
     int low = y > v->y;
-    double to_x = v->x + (x < v->x ? -260 : 260), to_y = v->y + (low ? 260 : -240);
+    double to_x = v->x + (x < v->x ? -260 : 260), to_y = v->y + (low ? 290 : -250);
     snprintf(number, sizeof number, "%+.2f mm", stock_of(worst));
     fprintf(f, "<circle cx='%.1f' cy='%.1f' r='34' fill='none' stroke='#000' stroke-width='6'/>\n", x, y);
     fprintf(f, "<path d='M%.1f %.1fL%.1f %.1f' stroke='#000' stroke-width='6'/>\n", x + (to_x - x) * 34 / hypot(to_x - x, to_y - y),
             y + (to_y - y) * 34 / hypot(to_x - x, to_y - y), to_x, to_y);
+    fprintf(f, "<g stroke='#f4f4f4' stroke-width='10'>\n"); /* clear of what is behind it */
+    text(f, to_x, to_y + (low ? 50 : -14), 48, "#f4f4f4", "middle", number);
+    fprintf(f, "</g>\n");
     text(f, to_x, to_y + (low ? 50 : -14), 48, "#000", "middle", number);
 }
 
-static View view_from(double turn, double rise, Vec centre, double scale, double x)
+/* From this direction, filling a frame whose middle is at x. */
+static View view_from(double turn, double rise, double x)
 {
-    View v;
     Vec eye = {cos(rise) * cos(turn), cos(rise) * sin(turn), sin(rise)}, right = {-sin(turn), cos(turn), 0};
-    v.eye = eye;
-    v.right = right;
-    v.up = cross(eye, right);
-    v.centre = centre;
-    v.scale = scale;
-    v.x = x;
-    v.y = 480;
+    View v = {right, cross(eye, right), eye, 0, 0, 0, x, 465};
+    double low[2] = {INFINITY, INFINITY}, high[2] = {-INFINITY, -INFINITY};
+    for (size_t t = 0; t < triangles; t++)
+        for (int k = 0; k < 3; k++) {
+            double at[2] = {dot(v.right, corner(t, k)), dot(v.up, corner(t, k))};
+            for (int i = 0; i < 2; i++) {
+                low[i] = fmin(low[i], at[i]);
+                high[i] = fmax(high[i], at[i]);
+            }
+        }
+    v.middle_right = (low[0] + high[0]) / 2;
+    v.middle_up = (low[1] + high[1]) / 2;
+    v.scale = fmin(720 / (high[0] - low[0]), 560 / (high[1] - low[1]));
     return v;
 }
 
 static void draw(const char *path)
 {
-    Vec low = corner(0, 0), high = low;
-    for (size_t t = 0; t < triangles; t++)
-        for (int k = 0; k < 3; k++) {
-            Vec c = corner(t, k);
-            low.x = fmin(low.x, c.x), low.y = fmin(low.y, c.y), low.z = fmin(low.z, c.z);
-            high.x = fmax(high.x, c.x), high.y = fmax(high.y, c.y), high.z = fmax(high.z, c.z);
-        }
-    Vec centre = mixed(low, high, low, 0.5, 0), sizes = minus(high, low);
-    double size = sqrt(dot(sizes, sizes));
-    View above = view_from(-0.35, 0.62, centre, 980 / size, 410), under = view_from(2.4, -0.62, centre, 980 / size, 1190);
+    View above = view_from(-0.35, 0.62, 410), under = view_from(2.4, -0.62, 1190);
+    double size = 900 / above.scale;
     FILE *f = fopen(path, "w");
     if (f == NULL)
         fail("cannot write ", path);
     fprintf(f, "<svg xmlns='http://www.w3.org/2000/svg' viewBox='0 0 %d %d' font-family='sans-serif' font-weight='bold'>\n", WIDE, HIGH);
     fprintf(f, "<rect width='%d' height='%d' fill='#f4f4f4'/>\n", WIDE, HIGH);
-    draw_view(f, &above, size / 14);
-    draw_view(f, &under, size / 14);
+    draw_view(f, &above, size);
+    draw_view(f, &under, size);
     draw_ring(f, &above);
     draw_ring(f, &under);
-    text(f, above.x, 790, 28, "#000", "middle", "from above");
-    text(f, under.x, 790, 28, "#000", "middle", "from below");
+    text(f, above.x, 800, 28, "#000", "middle", "from above");
+    text(f, under.x, 800, 28, "#000", "middle", "from below");
     draw_verdict(f);
     draw_legend(f);
     fprintf(f, "</svg>\n");
