@@ -1,9 +1,18 @@
 // What a C host links (include/gauge.h): each function is the proved one behind it, under its C name.
 ghost use mathlib.Core.Path.{_≡_};
+ghost use Prim.Native.Nat.{_/_};
 ghost use lib.ListN.{length};
+ghost use Rattle.spec_lists.specs.Reading.{triangleCount};
+ghost use Rattle.spec_host.specs.Told.{told};
 ghost use Rattle.spec_host.specs.Build.{imageMost, numbersOf, builtImage, bytesRefusal, ImagePut};
+ghost use Rattle.spec_asked.specs.PointBytes.{answerBytes, windingBytes, afterBytes};
+ghost use Rattle.spec_asked.specs.Asked.{sure, source, contents, checkVerdict, queryVerdict, windingVerdict, answerIn};
 use host_build::build_image;
 use host_build::image_most;
+use host_queries::check_image;
+use host_queries::source_points;
+use host_queries::sure_points;
+use host_queries::winding_points;
 
 #[no_mangle]
 pub extern "C" fn gauge_image_most(triangles: usize) -> u64
@@ -23,4 +32,40 @@ pub extern "C" fn gauge_build(
     ensures { λ r. ⌜ ImagePut (bytesRefusal (now (triangles .entry)) (record { strategy = strategy; leafMinimum = «leaf_minimum»; maximumDepth = «maximum_depth» }) (length (now (image .entry)))) (builtImage (numbersOf (now (triangles .entry))) (record { strategy = strategy; leafMinimum = «leaf_minimum»; maximumDepth = «maximum_depth» })) (now (image .entry)) r (now (image .exit)) ⌝ }
 {
     build_image(strategy, leaf_minimum, maximum_depth, triangles, image)
+}
+
+#[no_mangle]
+pub extern "C" fn gauge_check(image: &[u8]) -> u64
+    ensures { λ r. ⌜ r ≡ told (checkVerdict (now (image .entry))) (triangleCount (contents (now (image .entry)) .triangles)) ⌝ }
+{
+    check_image(image)
+}
+
+#[no_mangle]
+pub extern "C" fn gauge_sure(image: &[u8], points: &[u8], distance: f32, answers: &mut [u8]) -> u64
+    ensures told { λ r. ⌜ r ≡ told (queryVerdict (now (image .entry)) (now (points .entry)) distance (length (now (answers .entry)))) (length (now (points .entry)) / 12) ⌝ }
+    ensures answers { λ _. ⌜ now (answers .exit) ≡ afterBytes (queryVerdict (now (image .entry)) (now (points .entry)) distance (length (now (answers .entry)))) (answerBytes (answerIn sure (contents (now (image .entry))) distance) (now (points .entry))) (now (answers .entry)) ⌝ }
+{
+    sure_points(image, points, distance, answers)
+}
+
+#[no_mangle]
+pub extern "C" fn gauge_source(
+    image: &[u8],
+    points: &[u8],
+    distance: f32,
+    answers: &mut [u8],
+) -> u64
+    ensures told { λ r. ⌜ r ≡ told (queryVerdict (now (image .entry)) (now (points .entry)) distance (length (now (answers .entry)))) (length (now (points .entry)) / 12) ⌝ }
+    ensures answers { λ _. ⌜ now (answers .exit) ≡ afterBytes (queryVerdict (now (image .entry)) (now (points .entry)) distance (length (now (answers .entry)))) (answerBytes (answerIn source (contents (now (image .entry))) distance) (now (points .entry))) (now (answers .entry)) ⌝ }
+{
+    source_points(image, points, distance, answers)
+}
+
+#[no_mangle]
+pub extern "C" fn gauge_winding(image: &[u8], points: &[u8], windings: &mut [u8]) -> u64
+    ensures told { λ r. ⌜ r ≡ told (windingVerdict (now (image .entry)) (now (points .entry)) (length (now (windings .entry)))) (length (now (points .entry)) / 12) ⌝ }
+    ensures windings { λ _. ⌜ now (windings .exit) ≡ afterBytes (windingVerdict (now (image .entry)) (now (points .entry)) (length (now (windings .entry)))) (windingBytes (contents (now (image .entry)) .triangles) (now (points .entry))) (now (windings .entry)) ⌝ }
+{
+    winding_points(image, points, windings)
 }
