@@ -84,12 +84,13 @@
 #define GAUGE_DISTANCE 9
 #define GAUGE_LAYOUT 10
 
-/* The stack that each call takes at most: a thread whose whole stack is so many bytes is enough. */
-#define GAUGE_STACK_BUILD 1048576
-#define GAUGE_STACK_CHECK 1048576
-#define GAUGE_STACK_SURE 1048576
-#define GAUGE_STACK_SOURCE 1048576
-#define GAUGE_STACK_WINDING 1048576
+/* The stack that each call takes at most: a thread whose whole stack is so many bytes is enough.
+ * gauge_image_most takes next to none. */
+#define GAUGE_STACK_BUILD (704 * 1024)
+#define GAUGE_STACK_CHECK (512 * 1024)
+#define GAUGE_STACK_SURE (512 * 1024)
+#define GAUGE_STACK_SOURCE (512 * 1024)
+#define GAUGE_STACK_WINDING (160 * 1024)
 
 /* Room for the image of n triangles, whatever tree is built: for an array's length. n is 1 to 4,096. */
 #define GAUGE_IMAGE_MOST(n) (98 * (size_t)(n) + 2)
