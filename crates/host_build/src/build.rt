@@ -11,6 +11,8 @@ use aabb_build::build::Built;
 use aabb_build::build::build;
 use image::image_size;
 use image::put_image;
+use lists::limits::MOST_NODES;
+use lists::limits::MOST_TRIANGLES;
 use lists::refusal::Verdict;
 use lists::settings::Settings;
 use lists::triangles::triangle_count;
@@ -18,8 +20,8 @@ use little_endian::read_f32s;
 use told::tell;
 use told::tell_refusal;
 
-// 36 bytes for each of the most triangles.
-const MOST_BYTES: usize = 147456;
+// Of a triangle list that passes test 3.
+const MOST_BYTES: usize = 36 * MOST_TRIANGLES;
 
 // The image of a tree in lists, where there is room for it: test 6.
 fn put_built(
@@ -46,9 +48,9 @@ fn put_built(
 fn build_list(settings: Settings, triangles: &[f32], image: &mut [u8]) -> u64
     ensures { λ r. ⌜ ImagePut (listRefusal (now (triangles .entry)) (asSettings settings) (length (now (image .entry)))) (builtImage (now (triangles .entry)) (asSettings settings)) (now (image .entry)) r (now (image .exit)) ⌝ }
 {
-    let mut order = [0u32; 4096];
-    let mut links = [0u32; 24573];
-    let mut boxes = [0.0f32; 49146];
+    let mut order = [0u32; MOST_TRIANGLES];
+    let mut links = [0u32; 3 * MOST_NODES];
+    let mut boxes = [0.0f32; 6 * MOST_NODES];
     let built = build(
         triangles,
         settings.strategy,
@@ -93,7 +95,7 @@ pub fn build_image(
         return tell_refusal(3, 0);
     }
     let numbers = triangles.len() / 4;
-    let mut list = [0.0f32; 36864];
+    let mut list = [0.0f32; 9 * MOST_TRIANGLES];
     read_f32s(triangles, 0, numbers, &mut list, 0);
     let settings = Settings {
         strategy,

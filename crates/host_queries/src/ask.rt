@@ -4,6 +4,8 @@ use crate::load::count_refusal;
 use crate::load::early_refusal;
 use crate::load::load_tree;
 use image::settings_of;
+use lists::limits::MOST_NODES;
+use lists::limits::MOST_TRIANGLES;
 use lists::refusal::Verdict;
 use little_endian::read_f32s;
 use point_queries::Query;
@@ -21,7 +23,7 @@ ghost use Rattle.spec_asked.specs.Asked.{contents, askedRefusal, queryVerdict, 
 ghost use Rattle.spec_asked.specs.Loading.{lateIn, Loaded, Ready};
 ghost use Rattle.point_queries.specs.Values.{asQuery};
 
-// Tests 7, 8 and 9, and the answers. A tree over 4,096 triangles has at most 8,191 nodes.
+// Tests 7, 8 and 9, and the answers.
 fn ask_tree(
     query: Query,
     image: &[u8],
@@ -38,9 +40,9 @@ fn ask_tree(
     ensures verdict { λ r. ⌜ asVerdict r ≡ lateIn (imageIn version1 (now (image .entry)) count nodes) (now (points .entry)) distance ⌝ }
     ensures answers { λ r. ⌜ now (answers .exit) ≡ afterBytes (asVerdict r) (answerBytes (answerIn (asQuery query) (imageIn version1 (now (image .entry)) count nodes) distance) (now (points .entry))) (now (answers .entry)) ⌝ }
 {
-    let mut order = [0u32; 4096];
-    let mut links = [0u32; 24573];
-    let mut boxes = [0.0f32; 49146];
+    let mut order = [0u32; MOST_TRIANGLES];
+    let mut links = [0u32; 3 * MOST_NODES];
+    let mut boxes = [0.0f32; 6 * MOST_NODES];
     load_tree(image, count, nodes, &mut order, &mut links, &mut boxes);
     let links_end = 3 * nodes;
     let boxes_end = 6 * nodes;
@@ -81,7 +83,7 @@ fn ask_triangles(
     if early.refuses() {
         return early;
     }
-    if nodes > 8191 {
+    if nodes > MOST_NODES {
         return Verdict::Refused {
             number: 7,
             place: 0,
@@ -118,7 +120,7 @@ fn ask_laid(
         return bad_count;
     }
     let numbers = 9 * count;
-    let mut triangles = [0.0f32; 36864];
+    let mut triangles = [0.0f32; 9 * MOST_TRIANGLES];
     read_f32s(image, 20, numbers, &mut triangles, 0);
     ask_triangles(
         query,

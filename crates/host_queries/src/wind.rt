@@ -1,5 +1,6 @@
 // Winding numbers over an image: its layout, its triangles, and nothing of its tree.
 use crate::load::count_refusal;
+use lists::limits::MOST_TRIANGLES;
 use lists::refusal::Verdict;
 use little_endian::read_f32s;
 use point_queries::wind_lists;
@@ -23,7 +24,7 @@ fn wind_laid(image: &[u8], count: usize, nodes: usize, points: &[u8], out: &mut 
         return bad_count;
     }
     let numbers = 9 * count;
-    let mut triangles = [0.0f32; 36864];
+    let mut triangles = [0.0f32; 9 * MOST_TRIANGLES];
     read_f32s(image, 20, numbers, &mut triangles, 0);
     wind_lists(&triangles[..numbers], points, out)
 }

@@ -2,6 +2,9 @@
 
 pub const MOST_TRIANGLES: usize = 4096;
 
+// Of a tree over so many triangles.
+pub const MOST_NODES: usize = 2 * MOST_TRIANGLES - 1;
+
 // The largest magnitude of a coordinate.
 pub const FURTHEST_COORDINATE: f32 = 1048576.0;
 

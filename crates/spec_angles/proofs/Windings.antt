@@ -15,10 +15,9 @@ use Rattle.spec_tables.proofs.Runs.{Run, run-start, run-store, run-end}
 use Rattle.spec_shapes.specs.Points.{Point}
 use Rattle.spec_shapes.specs.Triangles.{Triangle}
 use Rattle.spec_lists.specs.Reading.{triangleAt, triangleCount, pointAt, pointCount}
-use Rattle.spec_lists.specs.Refusals.{Verdict, passes, refused, refuses, afterVerdict}
-use Rattle.spec_lists.proofs.Verdicts.{all-pass}
+use Rattle.spec_lists.specs.Refusals.{Verdict, passes, refuses}
+use Rattle.spec_lists.proofs.Verdicts.{all-pass, refusal-leaves}
 use Rattle.spec_lists.proofs.Passed.{room-passed}
-use Rattle.spec_numbers.proofs.Tests.{passed}
 use Rattle.spec_angles.specs.Winding.{solidAngle, sumOf, windingNumber, pi, four}
 use Rattle.spec_angles.specs.Windings.{windingAbout, windingAt, windingRefusal, written, afterWinding}
 
@@ -64,11 +63,7 @@ module _ (f : Format) (triangles points old : List Float) (count : ℕ) where
 module _ (triangles points old : List Float) where
   pub as-it-was : (f : Format) (v : Verdict) → v ≡ windingRefusal triangles points (length old) → refuses v ≡ true → old ≡ afterWinding f triangles points old
   unfolding afterWinding
-  as-it-was f v is h = rw (← is) (go v h)
-    where
-      go : (v : Verdict) → refuses v ≡ true → old ≡ afterVerdict v (written f triangles points old) old
-      go passes h = absurd (passed h)
-      go (refused number place) h = refl
+  as-it-was f v is h = rw (← is) (refusal-leaves v (written f triangles points old) old h)
 
   pub room-for-all : windingRefusal triangles points (length old) ≡ passes → pointCount points ≤ length old
   unfolding windingRefusal

@@ -1,6 +1,6 @@
 -- What is read of point bytes, what bytes that passed give, and what a loop over the points writes. Assumes nothing.
 use mathlib.Core.Path.{_≡_, refl, sym, ap, _∙_}
-use mathlib.Core.Bool.{true, false, true≢false}
+use mathlib.Core.Bool.{true, false}
 use mathlib.Core.List.{List, _++_, append-assoc, append-nil}
 use Prim.Native.Nat.{ℕ, zero, suc, _+_, _*_, _/_, _%_, _≤_, _<_}
 use native.Mathlib.Nat.{zero-add, add-zero, add-suc}
@@ -20,9 +20,9 @@ use Rattle.spec_records.proofs.Little.{length-little}
 use Rattle.spec_records.proofs.Entries.{length-numbers}
 use Rattle.spec_shapes.specs.Points.{Point}
 use Rattle.spec_lists.specs.Reading.{pointAt, pointCount}
-use Rattle.spec_lists.specs.Refusals.{Verdict, passes, refused, refuses}
+use Rattle.spec_lists.specs.Refusals.{Verdict, passes, refuses}
 use Rattle.spec_lists.specs.Passed.{GoodPoints}
-use Rattle.spec_lists.proofs.Verdicts.{all-pass, so}
+use Rattle.spec_lists.proofs.Verdicts.{all-pass, so, refusal-leaves}
 use Rattle.spec_lists.proofs.Passed.{coordinates-passed}
 use Rattle.spec_search.specs.Answers.{Answer, nothing, found, sixWords}
 use Rattle.spec_search.specs.Calls.{answerWords}
@@ -139,8 +139,7 @@ module _ (triangles : List Float) (points old : List ℕ) where
 -- ---- the lent bytes afterwards
 pub as-it-was : (v : Verdict) (new old : List ℕ) → refuses v ≡ true → old ≡ afterBytes v new old
 unfolding afterBytes
-as-it-was (refused number place) new old h = refl
-as-it-was passes new old h = absurd (true≢false (sym h))
+as-it-was v new old h = refusal-leaves v (over 0 new old) old h
 
 pub as-written : (v : Verdict) (new old out : List ℕ) → v ≡ passes → out ≡ over 0 new old → out ≡ afterBytes v new old
 unfolding afterBytes

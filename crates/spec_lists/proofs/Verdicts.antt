@@ -5,7 +5,7 @@ use mathlib.Core.List.{List, [], _∷_}
 use Prim.Native.Nat.{ℕ}
 use native.Mathlib.Omega.{arith}
 use Rattle.spec_numbers.proofs.Tests.{passed, failed}
-use Rattle.spec_lists.specs.Refusals.{Verdict, passes, refused, refuses, firstRefusal, refusedIf}
+use Rattle.spec_lists.specs.Refusals.{Verdict, passes, refused, refuses, firstRefusal, refusedIf, afterVerdict}
 
 never-both : (n p : ℕ) → refused n p ≡ passes → ⊥
 never-both n p e = let z : _≡_ {A = ℕ} 0 1 = cc in omega arith
@@ -64,3 +64,8 @@ did-pass v test b e r f = sym e ∙ go v (sym r ∙ f)
     go : (v : Verdict) → refuses v ≡ false → v ≡ passes
     go passes h = refl
     go (refused number place) h = absurd (true≢false h)
+
+-- ---- a lent list afterwards: a refusal leaves it as it was
+pub refusal-leaves : {A : Type 0} (v : Verdict) (new old : List A) → refuses v ≡ true → old ≡ afterVerdict v new old
+refusal-leaves passes new old h = absurd (true≢false (sym h))
+refusal-leaves (refused number place) new old h = refl

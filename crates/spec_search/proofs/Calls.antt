@@ -1,6 +1,6 @@
 -- What lists that passed the tests of a query give the searches, and what the loop over the points writes. Assumes nothing.
 use mathlib.Core.Path.{_≡_, refl, sym, ap, _∙_}
-use mathlib.Core.Bool.{true, true≢false}
+use mathlib.Core.Bool.{true}
 use mathlib.Core.List.{List}
 use Prim.Native.Nat.{ℕ, _+_, _-_, _*_, _/_, _≤_, _<_}
 use native.Mathlib.Omega.{arith}
@@ -11,8 +11,8 @@ use Rattle.spec_tables.proofs.Runs.{Run, run-start, run-front, run-end}
 use Rattle.spec_shapes.specs.Points.{Point}
 use Rattle.spec_lists.specs.Limits.{deepest, mostTriangles}
 use Rattle.spec_lists.specs.Reading.{boxAt, triangleCount, pointAt, pointCount}
-use Rattle.spec_lists.specs.Refusals.{Verdict, passes, refused, refuses}
-use Rattle.spec_lists.proofs.Verdicts.{all-pass, so}
+use Rattle.spec_lists.specs.Refusals.{Verdict, passes, refuses}
+use Rattle.spec_lists.proofs.Verdicts.{all-pass, so, refusal-leaves}
 use Rattle.spec_lists.proofs.Passed.{triangles-passed, points-passed, room-passed}
 use Rattle.spec_tree.specs.Trees.{Tree, numbers}
 use Rattle.spec_tree.specs.Accepted.{Listing}
@@ -63,8 +63,7 @@ module _ (triangles : List Float) (order links : List ℕ) (boxes : List Float) 
 module _ (f : Format) (answer : Point → Answer) (points : List Float) (old : List ℕ) where
   pub as-it-was : (v : Verdict) → refuses v ≡ true → old ≡ afterQuery f answer points v old
   unfolding afterQuery
-  as-it-was (refused number place) h = refl
-  as-it-was passes h = absurd (true≢false (sym h))
+  as-it-was v h = refusal-leaves v (over 0 (answerWords f answer points) old) old h
 
   pub is-answered : (v : Verdict) (new : List ℕ) → v ≡ passes → new ≡ over 0 (answerWords f answer points) old → new ≡ afterQuery f answer points v old
   unfolding afterQuery
