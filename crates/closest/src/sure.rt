@@ -89,7 +89,8 @@ pub fn node_walk(
 }
 
 // Looks at two children, the nearer box first and the left one among equals. Each box is measured
-// here, once, and its squared distance handed down.
+// here, once, and its squared distance handed down. The farther box is mostly passed over by then: a
+// test here is cheaper than a call.
 pub fn pair_walk(
     triangles: &[f32],
     order: &[u32],
@@ -123,6 +124,9 @@ pub fn pair_walk(
             best,
             number,
         );
+        if is_passed(asked[3], to_left, best, *number) {
+            return then;
+        }
         return node_walk(
             triangles,
             order,
@@ -150,6 +154,9 @@ pub fn pair_walk(
         best,
         number,
     );
+    if is_passed(asked[3], to_right, best, *number) {
+        return then;
+    }
     node_walk(
         triangles,
         order,

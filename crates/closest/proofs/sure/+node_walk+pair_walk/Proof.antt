@@ -60,7 +60,7 @@ abbrev node-calls : ℕ → node-walk-lts.Claims
 node-calls t = (is-passed-reads.Asked, is-passed-reads.Learnt, links-of-reads.Asked, links-of-reads.Learnt, measure-leaf-reads.Asked, measure-leaf-reads.Learnt, pair-walk-below t, pair-walk.Post)
 
 abbrev pair-calls : ℕ → pair-walk-lts.Claims
-pair-calls t = (point-of-reads.Asked, point-of-reads.Learnt, node-squared-reads.Asked, node-squared-reads.Learnt, node-walk-below t, node-walk.Post)
+pair-calls t = (point-of-reads.Asked, point-of-reads.Learnt, node-squared-reads.Asked, node-squared-reads.Learnt, node-walk-below t, node-walk.Post, is-passed-reads.Asked, is-passed-reads.Learnt)
 
 -- a distance that was measured from the point that was read
 measured-from : (boxes : List Float) (node : ℕ) (squared : Float) (p q : Point) → p ≡ q → squared ≡ nodeSquared binary32 boxes p node → squared ≡ nodeSquared binary32 boxes q node
@@ -147,22 +147,38 @@ pair-walk-node-walk-requires t c κs =
     let a = start .args in
     (falls-out (a .depth) t (start .pre .0), (right-asks (a .triangles .now) (a .order .now) (a .links .now) (a .boxes .now) (a .depth) (a .left) (a .right) (a .measured) (start .pre .1), (measured-from (a .boxes .now) (a .right) _ _ _ (c .before .before .before .before .before .point-of .ensures) (c .before .before .before .node-squared2 .ensures))))
 
-pair-walk-node-walk-requires-2 : (t : ℕ) → pair-walk-lts.Need-node-walk-requires-2 (pair-calls t) (pair-walk-at t) pair-walk.Post
-pair-walk-node-walk-requires-2 t c κs =
-    let start = c .before .before .before .before .before .before .before .before .before .before .before .before .before in
-    let a = start .args in
-    let how = sureSearch binary32 (a .triangles .now) (a .boxes .now) (pointOf (a .asked .now)) (fourthOf (a .asked .now)) in
-    let s = soughtOf (a .best .now) (a .number .now) (a .measured) in
-    (falls-out (a .depth) t (start .pre .0), (then-left-asks (a .triangles .now) (a .order .now) (a .links .now) (a .boxes .now) (a .depth) (a .left) (a .right) (a .measured) (start .pre .1) how s _ refl (c .before .before .node-walk .ensures), (measured-from (a .boxes .now) (a .left) _ _ _ (c .before .before .before .before .before .before .before .before .point-of .ensures) (c .before .before .before .before .before .before .before .node-squared .ensures))))
+pair-walk-element-copy-out-is-passed : (t : ℕ) → pair-walk-lts.Need-element-copy-out-is-passed (pair-calls t) (pair-walk-at t) pair-walk.Post
+pair-walk-element-copy-out-is-passed t c = search needs
+
+pair-walk-is-passed-requires : (t : ℕ) → pair-walk-lts.Need-is-passed-requires (pair-calls t) (pair-walk-at t) pair-walk.Post
+pair-walk-is-passed-requires t c κs = search needs
 
 pair-walk-returns : (t : ℕ) → pair-walk-lts.Need-returns (pair-calls t) (pair-walk-at t) pair-walk.Post
 pair-walk-returns t c =
-    let start = c .before .before .before .before .before .before .before .before .before .before .before .before .before .before in
+    let start = c .before .before .before .before .before .before .before .before .before .before .before .before .before .before .before .before in
     let a = start .args in
     let how = sureSearch binary32 (a .triangles .now) (a .boxes .now) (pointOf (a .asked .now)) (fourthOf (a .asked .now)) in
     let s = soughtOf (a .best .now) (a .number .now) (a .measured) in
     right-answers how (a .order .now) (a .links .now) (a .depth) (a .left) (a .right) s _ _
-    (right-first-here binary32 (a .boxes .now) (pointOf (a .asked .now)) (a .left) (a .right) _ _ true (measured-from (a .boxes .now) (a .left) _ _ _ (c .before .before .before .before .before .before .before .before .before .point-of .ensures) (c .before .before .before .before .before .before .before .before .node-squared .ensures)) (measured-from (a .boxes .now) (a .right) _ _ _ (c .before .before .before .before .before .before .before .before .before .point-of .ensures) (c .before .before .before .before .before .before .before .node-squared2 .ensures)) (c .before .before .before .before .before .before .if1 .taken)) (c .before .before .before .node-walk .ensures) (c .node-walk2 .ensures)
+    (right-first-here binary32 (a .boxes .now) (pointOf (a .asked .now)) (a .left) (a .right) _ _ true (measured-from (a .boxes .now) (a .left) _ _ _ (c .before .before .before .before .before .before .before .before .before .before .before .point-of .ensures) (c .before .before .before .before .before .before .before .before .before .before .node-squared .ensures)) (measured-from (a .boxes .now) (a .right) _ _ _ (c .before .before .before .before .before .before .before .before .before .before .before .point-of .ensures) (c .before .before .before .before .before .before .before .before .before .node-squared2 .ensures)) (c .before .before .before .before .before .before .before .before .if1 .taken)) (c .before .before .before .before .before .node-walk .ensures)
+    (sym (walk-passed how (a .order .now) (a .links .now) (a .depth) (a .left) _ (passed-here binary32 (a .boxes .now) (pointOf (a .asked .now)) (fourthOf (a .asked .now)) _ (a .left) _ _ true (measured-from (a .boxes .now) (a .left) _ _ _ (c .before .before .before .before .before .before .before .before .before .before .before .point-of .ensures) (c .before .before .before .before .before .before .before .before .before .before .node-squared .ensures)) (c .before .is-passed .ensures) (c .if2 .taken))))
+
+pair-walk-node-walk-requires-2 : (t : ℕ) → pair-walk-lts.Need-node-walk-requires-2 (pair-calls t) (pair-walk-at t) pair-walk.Post
+pair-walk-node-walk-requires-2 t c κs =
+    let start = c .before .before .before .before .before .before .before .before .before .before .before .before .before .before .before .before .before .before in
+    let a = start .args in
+    let how = sureSearch binary32 (a .triangles .now) (a .boxes .now) (pointOf (a .asked .now)) (fourthOf (a .asked .now)) in
+    let s = soughtOf (a .best .now) (a .number .now) (a .measured) in
+    (falls-out (a .depth) t (start .pre .0), (then-left-asks (a .triangles .now) (a .order .now) (a .links .now) (a .boxes .now) (a .depth) (a .left) (a .right) (a .measured) (start .pre .1) how s _ refl (c .before .before .before .before .before .before .before .node-walk .ensures), (measured-from (a .boxes .now) (a .left) _ _ _ (c .before .before .before .before .before .before .before .before .before .before .before .before .before .point-of .ensures) (c .before .before .before .before .before .before .before .before .before .before .before .before .node-squared .ensures))))
+
+pair-walk-returns-2 : (t : ℕ) → pair-walk-lts.Need-returns-2 (pair-calls t) (pair-walk-at t) pair-walk.Post
+pair-walk-returns-2 t c =
+    let start = c .before .before .before .before .before .before .before .before .before .before .before .before .before .before .before .before .before .before .before in
+    let a = start .args in
+    let how = sureSearch binary32 (a .triangles .now) (a .boxes .now) (pointOf (a .asked .now)) (fourthOf (a .asked .now)) in
+    let s = soughtOf (a .best .now) (a .number .now) (a .measured) in
+    right-answers how (a .order .now) (a .links .now) (a .depth) (a .left) (a .right) s _ _
+    (right-first-here binary32 (a .boxes .now) (pointOf (a .asked .now)) (a .left) (a .right) _ _ true (measured-from (a .boxes .now) (a .left) _ _ _ (c .before .before .before .before .before .before .before .before .before .before .before .before .before .before .point-of .ensures) (c .before .before .before .before .before .before .before .before .before .before .before .before .before .node-squared .ensures)) (measured-from (a .boxes .now) (a .right) _ _ _ (c .before .before .before .before .before .before .before .before .before .before .before .before .before .before .point-of .ensures) (c .before .before .before .before .before .before .before .before .before .before .before .before .node-squared2 .ensures)) (c .before .before .before .before .before .before .before .before .before .before .before .if1 .taken)) (c .before .before .before .before .before .before .before .before .node-walk .ensures) (c .node-walk2 .ensures)
 
 pair-walk-node-walk-requires-3 : (t : ℕ) → pair-walk-lts.Need-node-walk-requires-3 (pair-calls t) (pair-walk-at t) pair-walk.Post
 pair-walk-node-walk-requires-3 t c κs =
@@ -170,22 +186,38 @@ pair-walk-node-walk-requires-3 t c κs =
     let a = start .args in
     (falls-out (a .depth) t (start .pre .0), (left-asks (a .triangles .now) (a .order .now) (a .links .now) (a .boxes .now) (a .depth) (a .left) (a .right) (a .measured) (start .pre .1), (measured-from (a .boxes .now) (a .left) _ _ _ (c .before .before .before .before .before .point-of .ensures) (c .before .before .before .before .node-squared .ensures))))
 
-pair-walk-node-walk-requires-4 : (t : ℕ) → pair-walk-lts.Need-node-walk-requires-4 (pair-calls t) (pair-walk-at t) pair-walk.Post
-pair-walk-node-walk-requires-4 t c κs =
-    let start = c .before .before .before .before .before .before .before .before .before .before .before .before .before in
-    let a = start .args in
-    let how = sureSearch binary32 (a .triangles .now) (a .boxes .now) (pointOf (a .asked .now)) (fourthOf (a .asked .now)) in
-    let s = soughtOf (a .best .now) (a .number .now) (a .measured) in
-    (falls-out (a .depth) t (start .pre .0), (then-right-asks (a .triangles .now) (a .order .now) (a .links .now) (a .boxes .now) (a .depth) (a .left) (a .right) (a .measured) (start .pre .1) how s _ refl (c .before .before .node-walk3 .ensures), (measured-from (a .boxes .now) (a .right) _ _ _ (c .before .before .before .before .before .before .before .before .point-of .ensures) (c .before .before .before .before .before .before .node-squared2 .ensures))))
+pair-walk-element-copy-out-is-passed-2 : (t : ℕ) → pair-walk-lts.Need-element-copy-out-is-passed-2 (pair-calls t) (pair-walk-at t) pair-walk.Post
+pair-walk-element-copy-out-is-passed-2 t c = search needs
 
-pair-walk-returns-2 : (t : ℕ) → pair-walk-lts.Need-returns-2 (pair-calls t) (pair-walk-at t) pair-walk.Post
-pair-walk-returns-2 t c =
-    let start = c .before .before .before .before .before .before .before .before .before .before .before .before .before .before in
+pair-walk-is-passed-requires-2 : (t : ℕ) → pair-walk-lts.Need-is-passed-requires-2 (pair-calls t) (pair-walk-at t) pair-walk.Post
+pair-walk-is-passed-requires-2 t c κs = search needs
+
+pair-walk-returns-3 : (t : ℕ) → pair-walk-lts.Need-returns-3 (pair-calls t) (pair-walk-at t) pair-walk.Post
+pair-walk-returns-3 t c =
+    let start = c .before .before .before .before .before .before .before .before .before .before .before .before .before .before .before .before in
     let a = start .args in
     let how = sureSearch binary32 (a .triangles .now) (a .boxes .now) (pointOf (a .asked .now)) (fourthOf (a .asked .now)) in
     let s = soughtOf (a .best .now) (a .number .now) (a .measured) in
     left-answers how (a .order .now) (a .links .now) (a .depth) (a .left) (a .right) s _ _
-    (right-first-here binary32 (a .boxes .now) (pointOf (a .asked .now)) (a .left) (a .right) _ _ false (measured-from (a .boxes .now) (a .left) _ _ _ (c .before .before .before .before .before .before .before .before .before .point-of .ensures) (c .before .before .before .before .before .before .before .before .node-squared .ensures)) (measured-from (a .boxes .now) (a .right) _ _ _ (c .before .before .before .before .before .before .before .before .before .point-of .ensures) (c .before .before .before .before .before .before .before .node-squared2 .ensures)) (c .before .before .before .before .before .before .if1 .left)) (c .before .before .before .node-walk3 .ensures) (c .node-walk4 .ensures)
+    (right-first-here binary32 (a .boxes .now) (pointOf (a .asked .now)) (a .left) (a .right) _ _ false (measured-from (a .boxes .now) (a .left) _ _ _ (c .before .before .before .before .before .before .before .before .before .before .before .point-of .ensures) (c .before .before .before .before .before .before .before .before .before .before .node-squared .ensures)) (measured-from (a .boxes .now) (a .right) _ _ _ (c .before .before .before .before .before .before .before .before .before .before .before .point-of .ensures) (c .before .before .before .before .before .before .before .before .before .node-squared2 .ensures)) (c .before .before .before .before .before .before .before .before .if1 .left)) (c .before .before .before .before .before .node-walk3 .ensures)
+    (sym (walk-passed how (a .order .now) (a .links .now) (a .depth) (a .right) _ (passed-here binary32 (a .boxes .now) (pointOf (a .asked .now)) (fourthOf (a .asked .now)) _ (a .right) _ _ true (measured-from (a .boxes .now) (a .right) _ _ _ (c .before .before .before .before .before .before .before .before .before .before .before .point-of .ensures) (c .before .before .before .before .before .before .before .before .before .node-squared2 .ensures)) (c .before .is-passed2 .ensures) (c .if3 .taken))))
+
+pair-walk-node-walk-requires-4 : (t : ℕ) → pair-walk-lts.Need-node-walk-requires-4 (pair-calls t) (pair-walk-at t) pair-walk.Post
+pair-walk-node-walk-requires-4 t c κs =
+    let start = c .before .before .before .before .before .before .before .before .before .before .before .before .before .before .before .before .before .before in
+    let a = start .args in
+    let how = sureSearch binary32 (a .triangles .now) (a .boxes .now) (pointOf (a .asked .now)) (fourthOf (a .asked .now)) in
+    let s = soughtOf (a .best .now) (a .number .now) (a .measured) in
+    (falls-out (a .depth) t (start .pre .0), (then-right-asks (a .triangles .now) (a .order .now) (a .links .now) (a .boxes .now) (a .depth) (a .left) (a .right) (a .measured) (start .pre .1) how s _ refl (c .before .before .before .before .before .before .before .node-walk3 .ensures), (measured-from (a .boxes .now) (a .right) _ _ _ (c .before .before .before .before .before .before .before .before .before .before .before .before .before .point-of .ensures) (c .before .before .before .before .before .before .before .before .before .before .before .node-squared2 .ensures))))
+
+pair-walk-returns-4 : (t : ℕ) → pair-walk-lts.Need-returns-4 (pair-calls t) (pair-walk-at t) pair-walk.Post
+pair-walk-returns-4 t c =
+    let start = c .before .before .before .before .before .before .before .before .before .before .before .before .before .before .before .before .before .before .before in
+    let a = start .args in
+    let how = sureSearch binary32 (a .triangles .now) (a .boxes .now) (pointOf (a .asked .now)) (fourthOf (a .asked .now)) in
+    let s = soughtOf (a .best .now) (a .number .now) (a .measured) in
+    left-answers how (a .order .now) (a .links .now) (a .depth) (a .left) (a .right) s _ _
+    (right-first-here binary32 (a .boxes .now) (pointOf (a .asked .now)) (a .left) (a .right) _ _ false (measured-from (a .boxes .now) (a .left) _ _ _ (c .before .before .before .before .before .before .before .before .before .before .before .before .before .before .point-of .ensures) (c .before .before .before .before .before .before .before .before .before .before .before .before .before .node-squared .ensures)) (measured-from (a .boxes .now) (a .right) _ _ _ (c .before .before .before .before .before .before .before .before .before .before .before .before .before .before .point-of .ensures) (c .before .before .before .before .before .before .before .before .before .before .before .before .node-squared2 .ensures)) (c .before .before .before .before .before .before .before .before .before .before .before .if1 .left)) (c .before .before .before .before .before .before .before .before .node-walk3 .ensures) (c .node-walk4 .ensures)
 
 pub +node-walk+pair-walk-spec : {M : Type 1} → statement M
 +node-walk+pair-walk-spec = close μ-node-walk μ-pair-walk (λ t. node-walk-lts.spec (node-calls t)
@@ -208,8 +240,14 @@ pub +node-walk+pair-walk-spec : {M : Type 1} → statement M
     (pair-walk-node-squared-requires t)
     (pair-walk-node-squared-requires-2 t)
     (pair-walk-node-walk-requires t)
-    (pair-walk-node-walk-requires-2 t)
+    (pair-walk-element-copy-out-is-passed t)
+    (pair-walk-is-passed-requires t)
     (pair-walk-returns t)
-    (pair-walk-node-walk-requires-3 t)
-    (pair-walk-node-walk-requires-4 t)
+    (pair-walk-node-walk-requires-2 t)
     (pair-walk-returns-2 t)
+    (pair-walk-node-walk-requires-3 t)
+    (pair-walk-element-copy-out-is-passed-2 t)
+    (pair-walk-is-passed-requires-2 t)
+    (pair-walk-returns-3 t)
+    (pair-walk-node-walk-requires-4 t)
+    (pair-walk-returns-4 t)
