@@ -67,14 +67,18 @@ fn is_large(bounds: &[f32], part: &[u32], parent: Box3) -> bool
     union_of(bounds, part).volume() / parent.volume() > 0.8
 }
 
-// Whether both children of the cut are large.
+// Whether both children of the cut are large. The right one's box is worked out only where the left
+// one is.
 fn are_both_large(bounds: &[f32], part: &[u32], cut: usize, parent: Box3) -> bool
     requires { ⌜ 0 < cut ⌝ }
     requires { ⌜ cut < length (now part) ⌝ }
     requires { ⌜ Splits.AllInTable (now bounds) (now part) ⌝ }
     ensures { λ r. ⌜ r ≡ Median.areBothLarge binary32 (Shapes.asBox parent) (Splits.boxesOf (now (bounds .entry)) (now (part .entry))) cut ⌝ }
 {
-    is_large(bounds, &part[..cut], parent) & is_large(bounds, &part[cut..], parent)
+    if is_large(bounds, &part[..cut], parent) {
+        return is_large(bounds, &part[cut..], parent);
+    }
+    false
 }
 
 pub fn median_split(bounds: &[f32], part: &[u32], axis: Axis, parent: Box3) -> Split

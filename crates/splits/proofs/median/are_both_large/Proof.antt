@@ -1,5 +1,6 @@
 -- `splits::are_both_large` meets its contract: what `is_large` ensures of each half.
 -- Assumes nothing.
+use mathlib.Core.Path.{sym, _∙_}
 use native.Mathlib.Omega.{arith}
 use lib.ListN.{length-take, length-drop}
 use Rattle.spec_tree.specs.Splits.{boxIn}
@@ -33,15 +34,23 @@ part-is-large-end c = search needs
 
 is-large-requires-2 : tie.Need-is-large-requires-2
 is-large-requires-2 c κs =
-    let args = c .before .before .before .before .before .args in
-    let pre = c .before .before .before .before .before .pre in
+    let args = c .before .before .before .before .before .before .args in
+    let pre = c .before .before .before .before .before .before .pre in
     rw (to-the-end (args .cut) (args .part .now)) (simp length-drop (omega arith), in-table-after (args .bounds .now) (args .part .now) (pre .1 .1) (args .cut))
 
 returns : tie.Need-returns
 unfolding areBothLarge
 returns c =
-    let args = c .before .before .before .before .before .before .args in
-    rw (c .is-large2 .ensures, c .before .before .is-large .ensures, to-the-end (args .cut) (args .part .now), map-take (boxIn (args .bounds .now)), map-drop (boxIn (args .bounds .now)))
+    let args = c .before .before .before .before .before .before .before .args in
+    let left = rw (map-take (boxIn (args .bounds .now))) at (sym (c .before .before .before .is-large .ensures) ∙ c .before .before .if1 .taken) in
+    rw (c .is-large2 .ensures, to-the-end (args .cut) (args .part .now), map-drop (boxIn (args .bounds .now)), left)
+
+returns-2 : tie.Need-returns-2
+unfolding areBothLarge
+returns-2 c =
+    let args = c .before .before .before .before .before .args in
+    let left = rw (map-take (boxIn (args .bounds .now))) at (sym (c .before .is-large .ensures) ∙ c .if1 .left) in
+    rw left
 
 pub are-both-large-spec : {M : Type 1} → statement M
 are-both-large-spec =
@@ -54,4 +63,5 @@ are-both-large-spec =
     part-is-large-start
     part-is-large-end
     is-large-requires-2
-    returns)
+    returns
+    returns-2)
