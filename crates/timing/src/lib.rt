@@ -1,4 +1,4 @@
-// Exports for tests/timing and tests/compare; no part of the engine.
+// Exports for tests/timing, tests/compare and tests/peers; no part of the engine.
 ghost use Rattle.spec_search.specs.Calls as Calls;
 use aabb_build::build::Built;
 use aabb_tree::check::is_accepted;

@@ -1,3 +1,4 @@
+-- `closest::does_count` meets its contract: the comparison is the definition.
 use mathlib.Core.Path.{refl}
 use Rattle.spec_search.specs.Sure.{counts}
 use Rattle.closest.proofs.kept.does_count.Statement.{statement}
