@@ -15,11 +15,12 @@
  *                 nothing found is six zeros
  *     windings    4 bytes each: an f32
  *
- * On x86-64, for which the library is, an array of float or of struct gauge_answer has these bytes:
- * hand it over by a cast.
+ * On x86-64 Linux, for which the library is, an array of float or of struct gauge_answer has these
+ * bytes: hand it over by a cast.
  *
  * Every call returns a number. Below 2^56 it is done, and the number is the count that stands at
- * the call. Else it is refused: gauge_number says why, gauge_place where, and no byte was changed.
+ * the call; of slices that a machine can address no count is as large as 2^56. Else it is refused:
+ * gauge_number says why, gauge_place where, and no byte was changed.
  *
  *     number                 given exactly when                                  place
  *     GAUGE_RAGGED        1  triangle bytes are no multiple of 36                0
@@ -37,6 +38,9 @@
  *                            above 4,194,304
  *     GAUGE_LAYOUT       10  the image's records are laid out wrong              byte offset of the
  *                                                                                first wrong record
+ *
+ * An index among the numbers counts from 0. In triangles place / 9 is the triangle and place % 9 the
+ * number in it; in points place / 3 is the point and place % 3 its x, y or z.
  *
  * Where several hold, GAUGE_LAYOUT is told first, then the lowest number. On success bytes past
  * those that are counted stay as they were.
@@ -84,8 +88,9 @@
 #define GAUGE_DISTANCE 9
 #define GAUGE_LAYOUT 10
 
-/* The stack that each call takes at most: a thread whose whole stack is so many bytes is enough.
- * gauge_image_most takes next to none. */
+/* A thread whose whole stack is so many bytes is enough for the call. Measured, not proved: of the
+ * largest and the deepest inputs, with the toolchain that the library was made by, tests/host/stack.c
+ * finds 4 to 9 bytes in a hundred left. gauge_image_most takes next to none. */
 #define GAUGE_STACK_BUILD (704 * 1024)
 #define GAUGE_STACK_CHECK (512 * 1024)
 #define GAUGE_STACK_SURE (512 * 1024)
@@ -151,6 +156,9 @@ uint64_t gauge_check(const uint8_t *image, size_t image_length);
 
 /* For each point the nearest point of the drawing, the lowest triangle number among equals, or
  * nothing where none is nearer than distance: what measuring every triangle would find, bit for bit.
+ *
+ * A hazard: of a triangle thinner than about 1:100, or without area, the computed point may be off,
+ * mostly too far (docs/DIFFERENCES.md, "The hazard that stays").
  *
  * Counted: the points answered, from the front of answers.
  * Refused: GAUGE_LAYOUT, GAUGE_NONE, GAUGE_TOO_MANY, GAUGE_COORDINATE, GAUGE_SETTING, GAUGE_ROOM
