@@ -361,9 +361,8 @@ static Slice damage(Slice image)
     case 4:
         return with_u16(image, node, below(4) ? below(4) : (unsigned)chance());
     case 5: /* a side of a node, near what it was or anything */
-        s = copied(image);
         node += 2 + 2 * below(2);
-        return with_u16(s, node, below(3) ? s.bytes[node] + 256u * s.bytes[node + 1] + below(5) - 2u : (unsigned)chance());
+        return with_u16(image, node, below(3) ? image.bytes[node] + 256u * image.bytes[node + 1] + below(5) - 2u : (unsigned)chance());
     case 6:
         return with_f32(image, node + 6 + 4 * below(6), below(2) ? NAN : any_bits());
     case 7: /* the next number, up or down */
