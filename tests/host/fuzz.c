@@ -6,7 +6,8 @@
  * First each bad image and each small length in turn, then drawings, damages and questions by chance,
  * until so many calls are made. Each slice stands flush with a page that cannot be touched, before it
  * or behind it, and what is written has other bytes beside it: a byte read or written outside ends the
- * program or is counted as a difference. The exit status is 0 where nothing differs. */
+ * program or is counted as a difference. The exit status is 0 where nothing differs and, of ENOUGH
+ * calls or more, each call was done and refused in every way that gauge.h lists for it. */
 #define _DEFAULT_SOURCE
 #include "plain.h"
 
@@ -113,6 +114,17 @@ static Out make_out(size_t length)
 enum { MOST_CALL, BUILD, CHECK, SURE, SOURCE, WINDING, CALLS };
 static const char *const names[CALLS] = {"gauge_image_most", "gauge_build", "gauge_check", "gauge_sure", "gauge_source", "gauge_winding"};
 static uint64_t calls, called[CALLS], ended[CALLS][11], differences, unknown;
+
+/* How a call may end, as gauge.h lists it: 0 is done, the others are refusals. */
+enum { ENOUGH = 20000 };
+static const int listed[CALLS][11] = {
+    {1, 0, 0, 0, 0, 0, 0, 0, 0, 0, 0}, /* gauge_image_most */
+    {1, 1, 1, 1, 1, 1, 1, 0, 0, 0, 0}, /* gauge_build */
+    {1, 0, 1, 1, 1, 1, 0, 1, 0, 0, 1}, /* gauge_check */
+    {1, 0, 1, 1, 1, 1, 1, 1, 1, 1, 1}, /* gauge_sure */
+    {1, 0, 1, 1, 1, 1, 1, 1, 1, 1, 1}, /* gauge_source */
+    {1, 0, 1, 1, 1, 0, 1, 0, 1, 0, 1}, /* gauge_winding */
+};
 
 static void count(int call, uint64_t returned, uint64_t wanted, int same_bytes)
 {
@@ -591,6 +603,20 @@ static void by_chance(void)
     ask_questions(image, n, n > 600 ? 4 : 12);
 }
 
+/* How many ends were listed and never met, or met and not listed. */
+static int wrong_ends(void)
+{
+    int wrong = 0;
+    for (int call = 0; call < CALLS; call++)
+        for (int k = 0; k <= 10; k++)
+            if (listed[call][k] ? calls >= ENOUGH && ended[call][k] == 0 : ended[call][k] != 0) {
+                fprintf(stderr, "fuzz: %s: end %d (0 is done, else a refusal) %s\n", names[call], k,
+                        listed[call][k] ? "was never met" : "was met and is not listed");
+                wrong++;
+            }
+    return wrong;
+}
+
 int main(int argc, char **argv)
 {
     if (argc < 2 || argc > 3) {
@@ -625,5 +651,5 @@ int main(int argc, char **argv)
     printf("seed %llu: %llu calls, %llu differences; %llu angles, %llu of them more than 2^-20 off\n", (unsigned long long)seed,
            (unsigned long long)calls, (unsigned long long)(differences + unknown), (unsigned long long)plain_angles,
            (unsigned long long)plain_angles_off);
-    return differences + unknown + plain_angles_off != 0;
+    return wrong_ends() != 0 || differences + unknown + plain_angles_off != 0;
 }
