@@ -3,8 +3,9 @@
  *
  *     stock DRAWING [PICTURE [LEAST MOST]]
  *
- * DRAWING is plain text as tools/make_input.py reads it: the drawing's triangles and the points that
- * were touched. Stock is how far a touched point lies outside the drawing, or, with a minus, inside.
+ * DRAWING is plain text as tools/make_input.py reads it: settings, the drawing's triangles, the points
+ * that were touched, and how far to search. Stock is how far a touched point lies outside the drawing,
+ * or, with a minus, inside.
  * It is wanted from LEAST to MOST (1 and 4 where none are given). PICTURE is written as SVG, which any
  * browser shows: the drawing from two sides, each place in the colour of the touched point nearest to
  * it.
@@ -26,8 +27,8 @@ static float drawing[9 * GAUGE_MOST_TRIANGLES], touched[3 * MOST_POINTS], windin
 static struct gauge_answer answers[MOST_POINTS];
 static uint8_t image[GAUGE_IMAGE_MOST(GAUGE_MOST_TRIANGLES)];
 static size_t triangles, points;
-static unsigned strategy = GAUGE_AREA, leaf_minimum = 1, maximum_depth = 40;
-static float distance = 100;
+static unsigned strategy, leaf_minimum, maximum_depth;
+static float distance;
 static double least = 1, most = 4;
 
 static void fail(const char *what, const char *more)
@@ -40,7 +41,8 @@ static void fail(const char *what, const char *more)
 
 static void read_drawing(const char *path)
 {
-    char line[512], word[16], name[16];
+    char line[512], word[16], name[16], extra[2]; /* where a line reads an extra, it has one word too many */
+    int distances = 0;
     FILE *file = fopen(path, "r");
     if (file == NULL)
         fail("cannot read ", path);
@@ -50,16 +52,21 @@ static void read_drawing(const char *path)
         if (sscanf(line, "%15s", word) != 1)
             continue;
         if (strcmp(word, "triangle") == 0 && triangles < GAUGE_MOST_TRIANGLES &&
-            sscanf(line, "%*s %f %f %f %f %f %f %f %f %f", t, t + 1, t + 2, t + 3, t + 4, t + 5, t + 6, t + 7, t + 8) == 9)
+            sscanf(line, "%*s %f %f %f %f %f %f %f %f %f %1s", t, t + 1, t + 2, t + 3, t + 4, t + 5, t + 6, t + 7, t + 8, extra) == 9)
             triangles++;
-        else if (strcmp(word, "point") == 0 && points < MOST_POINTS && sscanf(line, "%*s %f %f %f", p, p + 1, p + 2) == 3)
+        else if (strcmp(word, "point") == 0 && points < MOST_POINTS && sscanf(line, "%*s %f %f %f %1s", p, p + 1, p + 2, extra) == 3)
             points++;
-        else if (strcmp(word, "settings") == 0 && sscanf(line, "%*s %15s %u %u", name, &leaf_minimum, &maximum_depth) == 3)
+        else if (strcmp(word, "settings") == 0 && sscanf(line, "%*s %15s %9u %9u %1s", name, &leaf_minimum, &maximum_depth, extra) == 3 &&
+                 (strcmp(name, "median") == 0 || strcmp(name, "area") == 0))
             strategy = strcmp(name, "median") == 0 ? GAUGE_MEDIAN : GAUGE_AREA;
-        else if (strcmp(word, "distance") != 0 || sscanf(line, "%*s %f", &distance) != 1)
+        else if (strcmp(word, "distance") == 0 && sscanf(line, "%*s %f %1s", &distance, extra) == 1)
+            distances++;
+        else
             fail("no triangle, point, settings or distance, or too many of them: ", line);
     }
     fclose(file);
+    if (strategy == 0 || distances == 0)
+        fail("a settings line and a distance line are wanted in ", path);
 }
 
 /* ---- the engine's part */
@@ -461,13 +468,24 @@ static void draw(const char *path)
     printf("the picture is %s\n", path);
 }
 
+static double number(const char *word)
+{
+    char *end;
+    double x = strtod(word, &end);
+    if (end == word || *end != 0)
+        fail("no number: ", word);
+    return x;
+}
+
 int main(int argc, char **argv)
 {
     if (argc != 2 && argc != 3 && argc != 5)
         fail("usage: stock DRAWING [PICTURE [LEAST MOST]]", "");
     if (argc == 5) {
-        least = atof(argv[3]);
-        most = atof(argv[4]);
+        least = number(argv[3]);
+        most = number(argv[4]);
+        if (!(least <= most))
+            fail("LEAST to MOST is no range", "");
     }
     read_drawing(argv[1]);
     ask();
