@@ -34,6 +34,8 @@ def lines(form, entries):
 
 FILES = {"rt": "crates/winding_numbers/src/arc_tangent.rt", "antt": "crates/spec_angles/specs/Table.antt"}
 
+if len(sys.argv) != 2 or sys.argv[1] not in ("rt", "antt", "check"):
+    sys.exit("usage: python3 tools/arc_tangent_table.py rt | antt | check")
 entries = [entry(k) for k in range(1025)]
 assert entries[0] == 0 and entries[1024] == 843314857
 if sys.argv[1] == "check":
