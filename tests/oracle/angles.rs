@@ -3,7 +3,7 @@
 //!
 //!     cargo build --release --offline
 //!     target/release/angles > crates/replay_angles/stdin 2> crates/replay_angles/stdout
-//!     target/release/angles 200 > /tmp/windings          (a long list, for tests/angles/run.sh)
+//!     target/release/angles 200 > target/windings        (a long list, for tests/angles/run.sh)
 //!
 //! On standard error it writes what a replay must print: how many there are of each, and that none differs.
 //!

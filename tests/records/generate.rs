@@ -1,6 +1,6 @@
 //! Makes the cases of crates/image_run and crates/host_build_run and what they must print, by a reading of the document of its own.
 //!
-//!     rustc --edition 2021 -O tests/records/generate.rs -o /tmp/generate && /tmp/generate crates/image_run crates/host_build_run
+//!     rustc --edition 2021 -O tests/records/generate.rs -o target/generate && target/generate crates/image_run crates/host_build_run
 
 use std::fmt::Write as _;
 

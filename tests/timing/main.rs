@@ -1,5 +1,6 @@
-//! Times this engine beside the Rust, in one process, on the oracle's sphere of 4,096 triangles. Put it
-//! into the oracle's src/bin/ as timing.rs, make the library by `rt staticlib timing`, and run there:
+//! Times this engine beside the Rust, in one process, on the oracle's sphere, soup and grid of 4,096
+//! triangles and its sphere of 256. Put it into the oracle's src/bin/ as timing.rs, make the library by
+//! `rt staticlib timing`, and run there:
 //!
 //!     RUSTFLAGS="-L native=TARGET/staticlib -l static=timing" cargo run --release --offline --bin timing
 
