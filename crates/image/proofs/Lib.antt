@@ -1,2 +1,3 @@
 pub mod Taken
+pub mod Unique
 pub mod Wrote
