@@ -21,7 +21,7 @@ use Rattle.spec_numbers.proofs.Exact.{plus-zero, rounds-to-itself}
 use Rattle.spec_numbers.proofs.Sum.{sum-keeps-order}
 use Rattle.spec_shapes.specs.Points.{Point, on, dot}
 use Rattle.spec_angles.specs.Root.{unsigned, rootable, root, rootOrNan, IsRoot}
-use Rattle.spec_angles.specs.Winding.{length}
+use Rattle.spec_angles.specs.Winding.{norm}
 use Rattle.spec_angles.proofs.Bits.{value-is-unsigned}
 use Rattle.spec_angles.proofs.RootLaw.{units-of}
 use Rattle.spec_angles.proofs.Root.{root-is-nearest}
@@ -129,23 +129,23 @@ module _ (f : Format) (a : Point) (A : (i : Axis) → Within (2 ^ 21) (on i a)) 
       let m = le-says y (dot f a a) (value-is-unsigned y (2 ^ k) (2 ^ low f) v) squared-unsigned (kept i y (positive-of-value y (2 ^ k) (2 ^ low f) v (pow-pos k)) (round-fits f false (2 ^ k) (2 ^ low f)) b) in
       le-of-mul-le-mul-right (omega (arith, mul-le-mul-right (2 ^ low f) m, ap (λ (z : ℕ). z * den (dot f a a)) c)) (den-pos y)
 
-  -- ---- the length
+  -- ---- the norm
   squared-fits : T (fits f (dot f a a))
   unfolding dot
   squared-fits = add-fits f _ _
 
-  length-is : length f a ≡ root f (dot f a a)
-  unfolding length rootOrNan
-  length-is = rw (is-true (rootable (dot f a a)) (unsigned-rootable (dot f a a) squared-unsigned))
+  norm-is : norm f a ≡ root f (dot f a a)
+  unfolding norm rootOrNan
+  norm-is = rw (is-true (rootable (dot f a a)) (unsigned-rootable (dot f a a) squared-unsigned))
 
-  pub length-is-root : IsRoot f (dot f a a) (length f a)
-  length-is-root = rw length-is (root-is-nearest f (dot f a a) squared-fits (unsigned-rootable (dot f a a) squared-unsigned))
+  pub norm-is-root : IsRoot f (dot f a a) (norm f a)
+  norm-is-root = rw norm-is (root-is-nearest f (dot f a a) squared-fits (unsigned-rootable (dot f a a) squared-unsigned))
 
-  pub direction-within : ((i : Axis) → T (fits f (on i a))) → T (not (eq (length f a) +0)) → (i : Axis) → Within 2 (div f (on i a) (length f a))
+  pub direction-within : ((i : Axis) → T (fits f (on i a))) → T (not (eq (norm f a) +0)) → (i : Axis) → Within 2 (div f (on i a) (norm f a))
   direction-within F n i =
       let x = on i a in
-      let l = length f a in
+      let l = norm f a in
       let u = in-whole-units f x (A i .isFinite) (F i) in
-      let s = some-magnitude l (unsigned-finite l (length-is-root .isUnsigned)) n in
-      quotient-within f x l (A i .isFinite) (length-is-root .isUnsigned) s
-      (at-most-twice f (dot f a a) l squared-fits squared-unsigned length-is-root s (num x) (den x) (u .0) 21 (den-pos x) (u .1) (A i .most) (le-trans (lit≤ tt) (wide f)) (grows i))
+      let s = some-magnitude l (unsigned-finite l (norm-is-root .isUnsigned)) n in
+      quotient-within f x l (A i .isFinite) (norm-is-root .isUnsigned) s
+      (at-most-twice f (dot f a a) l squared-fits squared-unsigned norm-is-root s (num x) (den x) (u .0) 21 (den-pos x) (u .1) (A i .most) (le-trans (lit≤ tt) (wide f)) (grows i))

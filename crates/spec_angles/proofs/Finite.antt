@@ -115,7 +115,7 @@ pub record Bounded (f : Format) (a : Point) : Type 0 where
   pub inside : (i : Axis) → Within (2 ^ 21) (on i a)
   pub holds : (i : Axis) → T (fits f (on i a))
 
-over-inside : (f : Format) (a : Point) → Bounded f a → T (not (eq (Winding.length f a) zero)) → Inside 2 (over f a (Winding.length f a))
+over-inside : (f : Format) (a : Point) → Bounded f a → T (not (eq (Winding.norm f a) zero)) → Inside 2 (over f a (Winding.norm f a))
 unfolding over
 over-inside f a A n X = direction-within f a (A .inside) (A .holds) n X
 over-inside f a A n Y = direction-within f a (A .inside) (A .holds) n Y
@@ -126,13 +126,13 @@ unfolding Winding.originAngle
 origin-angle-within f t A B C = go (eq a zero) (eq b zero) (eq c zero) (λ h. h) (λ h. h) (λ h. h)
   where
     a : Float
-    a = Winding.length f (t .a)
+    a = Winding.norm f (t .a)
 
     b : Float
-    b = Winding.length f (t .b)
+    b = Winding.norm f (t .b)
 
     c : Float
-    c = Winding.length f (t .c)
+    c = Winding.norm f (t .c)
 
     go : (x y z : Bool) → (T (not x) → T (not (eq a zero))) → (T (not y) → T (not (eq b zero))) → (T (not z) → T (not (eq c zero)))
         → Within 8 (cond (x || y || z) zero (Winding.unitAngle f record { a = over f (t .a) a; b = over f (t .b) b; c = over f (t .c) c }))

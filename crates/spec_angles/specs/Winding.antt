@@ -11,8 +11,9 @@ use Rattle.spec_angles.specs.Root.{rootOrNan}
 use Rattle.spec_angles.specs.Angle.{angleOrNan}
 
 -- ---- the solid angle
-unfoldable pub length : Format → Point → Float
-length f a = rootOrNan f (dot f a a)
+-- the length of a vector
+unfoldable pub norm : Format → Point → Float
+norm f a = rootOrNan f (dot f a a)
 
 unfoldable pub seenFrom : Format → Point → Triangle → Triangle
 seenFrom f q t = record { a = minus f (t .a) q; b = minus f (t .b) q; c = minus f (t .c) q }
@@ -31,9 +32,9 @@ unitAngle f t = cond (eq (numerator f t) zero) zero (mul f (angleOrNan f (numera
 -- of a triangle as it is seen from the origin: zero where a corner is there
 unfoldable pub originAngle : Format → Triangle → Float
 originAngle f t =
-    let a = length f (t .a) in
-    let b = length f (t .b) in
-    let c = length f (t .c) in
+    let a = norm f (t .a) in
+    let b = norm f (t .b) in
+    let c = norm f (t .c) in
     cond (eq a zero || eq b zero || eq c zero) zero (unitAngle f record { a = over f (t .a) a; b = over f (t .b) b; c = over f (t .c) c })
 
 unfoldable pub solidAngle : Format → Triangle → Point → Float

@@ -8,8 +8,9 @@ use crate::root::root_or_nan;
 use primitives::triangle3::Triangle3;
 use primitives::vec3::Vec3;
 
-fn length_of(a: Vec3) -> f32
-    ensures { λ r. ⌜ r ≡ Winding.length binary32 (Values.asPoint a) ⌝ }
+// The length of a vector.
+fn norm_of(a: Vec3) -> f32
+    ensures { λ r. ⌜ r ≡ Winding.norm binary32 (Values.asPoint a) ⌝ }
 {
     root_or_nan(a.dot(a))
 }
@@ -51,9 +52,9 @@ fn unit_angle(t: Triangle3) -> f32
 fn origin_angle(t: Triangle3) -> f32
     ensures { λ r. ⌜ r ≡ Winding.originAngle binary32 (Values.asTriangle t) ⌝ }
 {
-    let a = length_of(t.a);
-    let b = length_of(t.b);
-    let c = length_of(t.c);
+    let a = norm_of(t.a);
+    let b = norm_of(t.b);
+    let c = norm_of(t.c);
     if (a == 0.0) | (b == 0.0) | (c == 0.0) {
         return 0.0;
     }

@@ -6,22 +6,22 @@ use lib.Ieee.{Float, binary32, eq, ofBits}
 use Rattle.spec_numbers.specs.Values.{zero}
 use Rattle.spec_shapes.specs.Points.{Point, over}
 use Rattle.spec_shapes.specs.Triangles.{Triangle}
-use Rattle.spec_angles.specs.Winding.{length, unitAngle, originAngle}
+use Rattle.spec_angles.specs.Winding.{norm, unitAngle, originAngle}
 use borrow.Author.Needs.{needs}
 use Rattle.winding_numbers.proofs.solid_angle.origin_angle.Statement.{statement}
 use Rattle.winding_numbers.proofs.solid_angle.origin_angle.Tie as tie
 
-length-of-requires : tie.Need-length-of-requires
-length-of-requires c κs = search needs
+norm-of-requires : tie.Need-norm-of-requires
+norm-of-requires c κs = search needs
 
-length-of-requires-2 : tie.Need-length-of-requires-2
-length-of-requires-2 c κs = search needs
+norm-of-requires-2 : tie.Need-norm-of-requires-2
+norm-of-requires-2 c κs = search needs
 
-length-of-requires-3 : tie.Need-length-of-requires-3
-length-of-requires-3 c κs = search needs
+norm-of-requires-3 : tie.Need-norm-of-requires-3
+norm-of-requires-3 c κs = search needs
 
--- l, m, n are the lengths of the corners
-module _ (t : Triangle) (l m n : Float) (L : l ≡ length binary32 (t .a)) (M : m ≡ length binary32 (t .b)) (N : n ≡ length binary32 (t .c)) where
+-- l, m, n are the norms of the corners
+module _ (t : Triangle) (l m n : Float) (L : l ≡ norm binary32 (t .a)) (M : m ≡ norm binary32 (t .b)) (N : n ≡ norm binary32 (t .c)) where
   here : (eq l zero || eq m zero || eq n zero) ≡ true → zero ≡ originAngle binary32 t
   unfolding originAngle
   here h = rw (rw (L, M, N) at h)
@@ -33,7 +33,7 @@ module _ (t : Triangle) (l m n : Float) (L : l ≡ length binary32 (t .a)) (M : 
 
 returns : tie.Need-returns
 unfolding ofBits
-returns c = here _ _ _ _ (c .before .before .before .length-of .ensures) (c .before .before .length-of2 .ensures) (c .before .length-of3 .ensures) (c .if1 .taken)
+returns c = here _ _ _ _ (c .before .before .before .norm-of .ensures) (c .before .before .norm-of2 .ensures) (c .before .norm-of3 .ensures) (c .if1 .taken)
 
 over-requires : tie.Need-over-requires
 over-requires c κs = search needs
@@ -51,16 +51,16 @@ returns-2 : tie.Need-returns-2
 unfolding ofBits
 returns-2 c =
     let test = c .before .before .before .before in
-    away _ _ _ _ (test .before .before .before .length-of .ensures) (test .before .before .length-of2 .ensures) (test .before .length-of3 .ensures)
+    away _ _ _ _ (test .before .before .before .norm-of .ensures) (test .before .before .norm-of2 .ensures) (test .before .norm-of3 .ensures)
     _ _ _ _ (c .before .before .before .over .ensures) (c .before .before .over2 .ensures) (c .before .over3 .ensures) (c .unit-angle .ensures) (test .if1 .left)
 
 pub origin-angle-spec : {M : Type 1} → statement M
 origin-angle-spec =
     tie.close
     (tie.spec
-    length-of-requires
-    length-of-requires-2
-    length-of-requires-3
+    norm-of-requires
+    norm-of-requires-2
+    norm-of-requires-3
     returns
     over-requires
     over-requires-2
