@@ -20,15 +20,15 @@ use Rattle.spec_tree.specs.Refusals.{treeRefusal}
 use Rattle.spec_build.specs.Build.{made, notMade, answerBy, builtTree, buildRefusal, BuildIs}
 use Rattle.spec_build.proofs.Build.{made-nodes, made-depth, made-accepted}
 use Rattle.spec_search.specs.Calls.{queryRefusal, answerWords, afterQuery, sureAnswer}
-use Rattle.spec_gauge.specs.Printed.{mostBytes, Asked, askedIn, treeLine, mostTriangles, mostPoints, mostPrinted, Fits}
+use Rattle.spec_gauge.specs.Printed.{mostBytes, Asked, askedIn, treeLine, mostGauged, mostPoints, mostPrinted, Fits}
 use Rattle.spec_gauge.proofs.Printed.{AllPassed}
 
 accepted-passes : (b : Bool) → b ≡ true → refusedIf (not b) 7 0 ≡ passes
 accepted-passes true e = refl
 accepted-passes false e = cc
 
-module _ (a : Asked) (passed : AllPassed a) (order links : List ℕ) (boxes : List Float) (few : triangleCount (a .triangles) ≤ mostTriangles)
-    (order-long : length order ≡ mostTriangles) (links-long : length links ≡ 5451) (boxes-long : length boxes ≡ 10902) where
+module _ (a : Asked) (passed : AllPassed a) (order links : List ℕ) (boxes : List Float) (few : triangleCount (a .triangles) ≤ mostGauged)
+    (order-long : length order ≡ mostGauged) (links-long : length links ≡ 5451) (boxes-long : length boxes ≡ 10902) where
   build-passes : buildRefusal (a .triangles) (a .settings) (length order) (length links) (length boxes) ≡ passes
   unfolding buildRefusal
   build-passes =

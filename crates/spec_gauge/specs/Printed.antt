@@ -95,8 +95,8 @@ printed s = cond (ltb mostBytes (length s)) (refusedLine 10 0) (byLayout s (laid
 
 -- ---- what fits
 -- no more triangles and no more points than these fit in so many bytes
-abbrev pub mostTriangles : ℕ
-mostTriangles = 909
+abbrev pub mostGauged : ℕ
+mostGauged = 909
 
 abbrev pub mostPoints : ℕ
 mostPoints = 2730
@@ -107,6 +107,6 @@ mostPrinted = 229405
 
 -- the lists are no longer than what fits, and out has room
 pub record Fits (triangles points : List Float) (out : List ℕ) : Type 0 where
-  pub triangles-few : triangleCount triangles ≤ mostTriangles
+  pub triangles-few : triangleCount triangles ≤ mostGauged
   pub points-few : pointCount points ≤ mostPoints
   pub room : mostPrinted ≤ length out
