@@ -5,7 +5,7 @@ use native.Mathlib.Omega.{arith}
 use lib.Ieee.{binary32, ofBits}
 use borrow.Author.Needs.{needs}
 use Rattle.primitives.specs.Values.{asPoint}
-use Rattle.spec_lists.proofs.Reading.{triangle-inside}
+use Rattle.spec_lists.specs.Reading.{triangleCount}
 use Rattle.spec_angles.proofs.Windings.{Summed, sum-start, sum-more, sum-end}
 use Rattle.winding_numbers.proofs.winding_number.winding_number.Statement.{statement}
 use Rattle.winding_numbers.proofs.winding_number.winding_number.Tie as tie
@@ -24,7 +24,8 @@ unfolding ofBits
 loop-holds c = sum-start _ _ _ _
 
 triangle-at-requires : tie.Need-triangle-at-requires Inv-loop μ-loop
-triangle-at-requires c κs = triangle-inside _ _ (rw (c .before .before .triangle-count .ensures) at (c .loop-test .taken))
+unfolding triangleCount
+triangle-at-requires c κs = omega (arith, c .before .before .triangle-count .ensures)
 
 solid-angle-requires : tie.Need-solid-angle-requires Inv-loop μ-loop
 solid-angle-requires c κs = search needs
