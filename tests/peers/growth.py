@@ -15,7 +15,7 @@ for n in sizes:
     print(f"| {n:,} | " + " | ".join(cells) + " |")
 
 if len(sys.argv) > 1:
-    W, H, LEFT, TOP = 760, 460, 60, 20
+    W, H, LEFT, TOP = 840, 460, 60, 20
     WIDE, TALL = 520, 390
     low, high = 0.1, 10 ** math.ceil(math.log10(max(float(r[i]) for r in rows for _, i in WHAT)))
     x = lambda n: LEFT + WIDE * math.log(n / sizes[0]) / math.log(sizes[-1] / sizes[0])
@@ -37,6 +37,6 @@ if len(sys.argv) > 1:
             out.append(f'<polyline points="{points}" fill="none" stroke="{colour}" stroke-width="2"{dash}/>')
             at = TOP + 20 + 22 * (2 * k + j)
             out.append(f'<line x1="{LEFT + WIDE + 12}" y1="{at - 4}" x2="{LEFT + WIDE + 40}" y2="{at - 4}" stroke="{colour}" stroke-width="2"{dash}/>')
-            out.append(f'<text x="{LEFT + WIDE + 46}" y="{at}">{name.replace(" a point", "")}, {s}</text>')
+            out.append(f'<text x="{LEFT + WIDE + 46}" y="{at}">{name}, {s}</text>')
     out.append("</svg>")
     open(sys.argv[1], "w").write("\n".join(out) + "\n")
