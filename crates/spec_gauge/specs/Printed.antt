@@ -3,14 +3,15 @@ use Prim.Native.Nat.{ℕ, _+_, _*_, _/_, _≤_}
 use mathlib.Core.List.{List, [], _∷_, _++_}
 use mathlib.Core.Bool.{cond}
 use lib.Dec.{ltb}
-use lib.ListN.{length, getD}
+use lib.ListN.{length}
 use lib.Ieee.{Float, binary32, ofBits, toBits}
 use Rattle.spec_tables.specs.Tables.{many}
 use Rattle.spec_records.specs.Little.{littleAt}
 use Rattle.spec_records.specs.Entries.{floatsIn}
-use Rattle.spec_records.specs.Records.{Span, Layout, wrong, bodies, laidOut}
+use Rattle.spec_records.specs.Records.{Layout, wrong, bodies, laidOut}
 use Rattle.spec_records.specs.Layouts.{gaugeWants}
 use Rattle.spec_image.specs.Image.{settingsIn}
+use Rattle.spec_image.specs.Reading.{sizeOf}
 use Rattle.spec_printing.specs.Printed.{countsLine, foundLine, nothingLine, refusedLine}
 use Rattle.spec_lists.specs.Reading.{triangleCount, pointAt, pointCount}
 use Rattle.spec_lists.specs.Refusals.{Verdict, passes, refused, firstRefusal, Settings, trianglesRefusal, settingsRefusal, pointsRefusal, distanceRefusal}
@@ -82,13 +83,10 @@ printedRun a =
     (treeLine (a .triangles) (a .settings) ++ answerLines (a .triangles) (a .points) (a .distance))
 
 -- ---- the whole
-abbrev pub spanSize : List Span → ℕ → ℕ
-spanSize spans i = getD spans i (record { start = 0; size = 0 }) .size
-
 -- by the layout: the second body is the triangles', the third the points'
 abbrev pub byLayout : List ℕ → Layout → List ℕ
 byLayout s (wrong at) = refusedLine 10 at
-byLayout s (bodies spans) = printedRun (askedIn s (spanSize spans 1 / 36) (spanSize spans 2 / 12))
+byLayout s (bodies spans) = printedRun (askedIn s (sizeOf spans 1 / 36) (sizeOf spans 2 / 12))
 
 unfoldable pub printed : List ℕ → List ℕ
 printed s = cond (ltb mostBytes (length s)) (refusedLine 10 0) (byLayout s (laidOut gaugeWants s 0))
