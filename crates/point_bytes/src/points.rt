@@ -14,18 +14,19 @@ ghost use Rattle.primitives.specs.Values.{asPoint};
 ghost use Rattle.spec_lists.specs.Reading.{pointAt};
 ghost use Rattle.spec_lists.specs.Refusals.{firstBad};
 ghost use Rattle.lists.specs.Values.{asVerdict};
-ghost use Rattle.spec_asked.specs.PointBytes.{pointsIn, pointBytesRefusal};
+ghost use Rattle.spec_host.specs.Build.{numbersOf};
+ghost use Rattle.spec_asked.specs.PointBytes.{pointBytesRefusal};
 
 fn number_in(bytes: &[u8], i: usize) -> f32
     requires { ⌜ 4 * i + 4 ≤ length (now bytes) ⌝ }
-    ensures { λ r. ⌜ r ≡ getD (pointsIn (now (bytes .entry))) i nan ⌝ }
+    ensures { λ r. ⌜ r ≡ getD (numbersOf (now (bytes .entry))) i nan ⌝ }
 {
     from_bits(u32_at(bytes, 4 * i))
 }
 
 // The index of the first number that is no coordinate, or how many numbers there are.
 fn first_bad_in(bytes: &[u8]) -> usize
-    ensures { λ r. ⌜ r ≡ firstBad (pointsIn (now (bytes .entry))) ⌝ }
+    ensures { λ r. ⌜ r ≡ firstBad (numbersOf (now (bytes .entry))) ⌝ }
 {
     let count = bytes.len() / 4;
     let mut i = 0;
@@ -53,7 +54,7 @@ pub fn point_bytes_refusal(bytes: &[u8]) -> Verdict
 // Point number k.
 pub fn point_in(bytes: &[u8], k: usize) -> Vec3
     requires { ⌜ 12 * k + 12 ≤ length (now bytes) ⌝ }
-    ensures { λ r. ⌜ asPoint r ≡ pointAt (pointsIn (now (bytes .entry))) (3 * k) ⌝ }
+    ensures { λ r. ⌜ asPoint r ≡ pointAt (numbersOf (now (bytes .entry))) (3 * k) ⌝ }
 {
     let first = 3 * k;
     Vec3 {

@@ -16,7 +16,8 @@ ghost use Rattle.spec_lists.specs.Reading.{triangleCount};
 ghost use Rattle.spec_lists.specs.Passed.{GoodPoints};
 ghost use Rattle.lists.specs.Values.{asVerdict};
 ghost use Rattle.spec_search.specs.Calls.{Searchable};
-ghost use Rattle.spec_asked.specs.PointBytes.{pointsIn, answerBytes, afterBytes};
+ghost use Rattle.spec_host.specs.Build.{numbersOf};
+ghost use Rattle.spec_asked.specs.PointBytes.{answerBytes, afterBytes};
 ghost use Rattle.spec_asked.specs.Asked.{answerBy};
 ghost use Rattle.spec_asked.specs.Loading.{lateRefusal, Ready};
 ghost use Rattle.point_queries.specs.Values.{asQuery};
@@ -58,7 +59,7 @@ fn put_answers(
     answers: &mut [u8],
 )
     requires { ⌜ Searchable (now triangles) (now order) (now links) (now boxes) nodes ⌝ }
-    requires { ⌜ GoodPoints (pointsIn (now points)) ⌝ }
+    requires { ⌜ GoodPoints (numbersOf (now points)) ⌝ }
     requires { ⌜ 24 * (length (now points) / 12) ≤ length (now answers) ⌝ }
     ensures { λ _. ⌜ now (answers .exit) ≡ over 0 (answerBytes (answerBy (asQuery query) (now (triangles .entry)) (now (order .entry)) (now (links .entry)) (now (boxes .entry)) nodes distance) (now (points .entry))) (now (answers .entry)) ⌝ }
 {

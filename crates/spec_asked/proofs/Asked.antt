@@ -27,7 +27,8 @@ use Rattle.spec_tree.specs.Accepted.{accepted}
 use Rattle.spec_tree.specs.Refusals.{treeRefusal}
 use Rattle.spec_tree.proofs.Accepted.{accepted-listed, listing-most}
 use Rattle.spec_search.specs.Calls.{Searchable}
-use Rattle.spec_asked.specs.PointBytes.{pointsIn, pointBytesRefusal}
+use Rattle.spec_host.specs.Build.{numbersOf}
+use Rattle.spec_asked.specs.PointBytes.{pointBytesRefusal}
 use Rattle.spec_asked.specs.Asked.{layoutRefusal, contents, treeIn, checkedRefusal, askedRefusal, woundRefusal, checkVerdict, queryVerdict}
 use Rattle.spec_asked.specs.Loading.{countRefusal, earlyRefusal, lateRefusal, lateIn, Ready}
 use Rattle.spec_asked.proofs.PointBytes.{point-bytes-passed}
@@ -147,7 +148,7 @@ module _ (triangles : List Float) (points : List ℕ) where
       record { triangles-good = triangles-passed triangles (p .0); room-enough = omega arith }
 
   pub late-passed : (order links : List ℕ) (boxes : List Float) (nodes : ℕ) (distance : Float) → GoodTriangles triangles → lateRefusal triangles order links boxes nodes points distance ≡ passes
-      → Searchable triangles order links boxes nodes × GoodPoints (pointsIn points)
+      → Searchable triangles order links boxes nodes × GoodPoints (numbersOf points)
   unfolding lateRefusal treeRefusal
   late-passed order links boxes nodes distance good e =
       let p = all-pass _ e in
@@ -175,7 +176,7 @@ module _ (x : Image) (points : List ℕ) (distance : Float) (room : ℕ) (v : Ve
 
 -- ---- a check is a query at no points
 none-passes : pointBytesRefusal [] ≡ passes
-unfolding pointBytesRefusal pointsIn coordinateRefusal firstBad firstRefusal many
+unfolding pointBytesRefusal coordinateRefusal firstBad firstRefusal many
 none-passes = refl
 
 drop-passed : (a b c d : Verdict) → firstRefusal (a ∷ firstRefusal (b ∷ c ∷ passes ∷ d ∷ passes ∷ passes ∷ []) ∷ []) ≡ firstRefusal (a ∷ firstRefusal (b ∷ c ∷ d ∷ []) ∷ [])

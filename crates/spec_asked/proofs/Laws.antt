@@ -19,7 +19,8 @@ use Rattle.spec_search.specs.Calls.{queryRefusal}
 use Rattle.spec_angles.specs.Windings.{windingRefusal}
 use Rattle.spec_host.specs.Told.{told, Heard}
 use Rattle.spec_host.proofs.Told.{told-heard}
-use Rattle.spec_asked.specs.PointBytes.{pointsIn, pointBytesRefusal}
+use Rattle.spec_host.specs.Build.{numbersOf}
+use Rattle.spec_asked.specs.PointBytes.{pointBytesRefusal}
 use Rattle.spec_asked.specs.Asked.{contents, checkedRefusal, askedRefusal, woundRefusal, checkVerdict, queryVerdict, windingVerdict}
 use Rattle.spec_asked.proofs.PointBytes.{points-long, points-count}
 use Rattle.spec_asked.proofs.Asked.{contents-are, inner-decides}
@@ -55,11 +56,11 @@ module _ (image points : List ℕ) (ok : Bytes image) (fits : length points < 2 
   winding-heard = told-heard (windingVerdict image points room) (length points / 12) (record { verdict = winding-told image points ok fits room; counted = few })
 
 -- ---- on whole points a call refuses as the list call does on what the image holds
-points-as-lists : (points : List ℕ) → length points % 12 ≡ 0 → pointBytesRefusal points ≡ pointsRefusal (pointsIn points)
+points-as-lists : (points : List ℕ) → length points % 12 ≡ 0 → pointBytesRefusal points ≡ pointsRefusal (numbersOf points)
 unfolding pointBytesRefusal pointsRefusal
 points-as-lists points whole =
     let ragged : eqb (length points % 12) 0 ≡ true = eq-eqb (length points % 12) 0 whole in
-    let raggedToo : eqb (length (pointsIn points) % 3) 0 ≡ true = eq-eqb (length (pointsIn points) % 3) 0 (rw (points-long points) (omega arith)) in
+    let raggedToo : eqb (length (numbersOf points) % 3) 0 ≡ true = eq-eqb (length (numbersOf points) % 3) 0 (rw (points-long points) (omega arith)) in
     rw (ragged, raggedToo)
 
 drop-second : (a : Verdict) (rest : List Verdict) → firstRefusal (a ∷ passes ∷ rest) ≡ firstRefusal (a ∷ rest)
@@ -69,12 +70,12 @@ drop-second (refused n p) rest = refl
 
 -- a list query has no settings
 pub asks-as-lists : (x : Image) (points : List ℕ) (distance : Float) (room : ℕ) → settingsRefusal (x .settings) ≡ passes → length points % 12 ≡ 0
-    → askedRefusal x points distance room ≡ queryRefusal (x .triangles) (x .order) (x .links) (x .boxes) (x .nodes) (pointsIn points) distance (room / 4)
+    → askedRefusal x points distance room ≡ queryRefusal (x .triangles) (x .order) (x .links) (x .boxes) (x .nodes) (numbersOf points) distance (room / 4)
 unfolding askedRefusal queryRefusal
 asks-as-lists x points distance room fine whole =
     let rooms : room / 4 / 6 ≡ room / 24 = omega arith in
     rw (fine, rooms, points-count points, points-as-lists points whole) (drop-second (trianglesRefusal (x .triangles)) _)
 
-pub winds-as-lists : (triangles : List Float) (points : List ℕ) (room : ℕ) → length points % 12 ≡ 0 → woundRefusal triangles points room ≡ windingRefusal triangles (pointsIn points) (room / 4)
+pub winds-as-lists : (triangles : List Float) (points : List ℕ) (room : ℕ) → length points % 12 ≡ 0 → woundRefusal triangles points room ≡ windingRefusal triangles (numbersOf points) (room / 4)
 unfolding woundRefusal windingRefusal
 winds-as-lists triangles points room whole = rw (points-count points, points-as-lists points whole)

@@ -27,29 +27,28 @@ use Rattle.spec_lists.proofs.Passed.{coordinates-passed}
 use Rattle.spec_search.specs.Answers.{Answer, nothing, found, sixWords}
 use Rattle.spec_search.specs.Calls.{answerWords}
 use Rattle.spec_angles.specs.Windings.{windingAt}
-use Rattle.spec_asked.specs.PointBytes.{pointsIn, pointBytesRefusal, wordBytes, answerBytes, windings, windingBytes, afterBytes}
+use Rattle.spec_host.specs.Build.{numbersOf}
+use Rattle.spec_asked.specs.PointBytes.{pointBytesRefusal, wordBytes, answerBytes, windings, windingBytes, afterBytes}
 
 -- ---- what is read
 module _ (s : List ℕ) where
-  pub points-long : length (pointsIn s) ≡ length s / 4
-  unfolding pointsIn
+  pub points-long : length (numbersOf s) ≡ length s / 4
   points-long = length-singles _ (length s / 4)
 
-  pub points-count : pointCount (pointsIn s) ≡ length s / 12
+  pub points-count : pointCount (numbersOf s) ≡ length s / 12
   unfolding pointCount
   points-count = rw points-long (omega arith)
 
   -- number i stands at byte 4 i
-  pub number-is : (i : ℕ) → i < length s / 4 → getD (pointsIn s) i nan ≡ ofBits binary32 (littleAt 4 s (4 * i))
-  unfolding pointsIn
+  pub number-is : (i : ℕ) → i < length s / 4 → getD (numbersOf s) i nan ≡ ofBits binary32 (littleAt 4 s (4 * i))
   number-is i h = getD-many nan _ (length s / 4) i h ∙ ap (λ (at : ℕ). ofBits binary32 (littleAt 4 s at)) (zero-add (4 * i))
 
-  pub point-bytes-passed : pointBytesRefusal s ≡ passes → GoodPoints (pointsIn s)
+  pub point-bytes-passed : pointBytesRefusal s ≡ passes → GoodPoints (numbersOf s)
   unfolding pointBytesRefusal pointCount
   point-bytes-passed e =
       let p = all-pass _ e in
       let ragged = eqb-true (length s % 12) 0 (so (eqb (length s % 12) 0) 8 (length s) (p .0)) in
-      record { whole = rw points-long (omega arith); coordinates = coordinates-passed 8 (pointsIn s) (p .1 .0) }
+      record { whole = rw points-long (omega arith); coordinates = coordinates-passed 8 (numbersOf s) (p .1 .0) }
 
 -- ---- numbers as bytes, list by list
 pub many-add : {A : Type 0} (f : ℕ → List A) (m n : ℕ) → many f (m + n) ≡ many f m ++ many (λ i. f (m + i)) n
@@ -90,7 +89,7 @@ six-bytes a old e =
 
 module _ (answer : Point → Answer) (points old : List ℕ) where
   abbrev piece : ℕ → List ℕ
-  piece k = wordBytes (sixWords binary32 (answer (pointAt (pointsIn points) (3 * k))))
+  piece k = wordBytes (sixWords binary32 (answer (pointAt (numbersOf points) (3 * k))))
 
   -- k of n answers stand at the front of out
   abbrev pub Answered : (n : ℕ) (out : List ℕ) (k : ℕ) → Type 0
@@ -99,22 +98,22 @@ module _ (answer : Point → Answer) (points old : List ℕ) where
   pub answered-start : (n : ℕ) → Answered n old 0
   answered-start n = run-start piece 24 0 n old
 
-  pub answered-more : (n : ℕ) (out new : List ℕ) (k : ℕ) (a : Answer) → 24 * n ≤ length old → k < n → Answered n out k → a ≡ answer (pointAt (pointsIn points) (3 * k))
+  pub answered-more : (n : ℕ) (out new : List ℕ) (k : ℕ) (a : Answer) → 24 * n ≤ length old → k < n → Answered n out k → a ≡ answer (pointAt (numbersOf points) (3 * k))
       → new ≡ over (24 * k) (wordBytes (sixWords binary32 a)) out → Answered n new (k + 1)
   answered-more n out new k a room l r e h =
-      run-front piece 24 n old out new k (λ j. answer-long (answer (pointAt (pointsIn points) (3 * j)))) room l r (h ∙ ap (λ (b : Answer). over (24 * k) (wordBytes (sixWords binary32 b)) out) e)
+      run-front piece 24 n old out new k (λ j. answer-long (answer (pointAt (numbersOf points) (3 * j)))) room l r (h ∙ ap (λ (b : Answer). over (24 * k) (wordBytes (sixWords binary32 b)) out) e)
 
   pub answered-end : (n : ℕ) (out : List ℕ) (k : ℕ) → n ≡ length points / 12 → n ≤ k → Answered n out k → out ≡ over 0 (answerBytes answer points) old
   unfolding answerBytes answerWords
   answered-end n out k e l r =
       run-end piece 0 n old out k l r
       ∙ ap (λ (m : ℕ). over 0 (many piece m) old) (e ∙ sym (points-count points))
-      ∙ ap (λ (new : List ℕ). over 0 new old) (sym (word-many (λ j. sixWords binary32 (answer (pointAt (pointsIn points) (3 * j)))) (pointCount (pointsIn points))))
+      ∙ ap (λ (new : List ℕ). over 0 new old) (sym (word-many (λ j. sixWords binary32 (answer (pointAt (numbersOf points) (3 * j)))) (pointCount (numbersOf points))))
 
 -- ---- the loop over the points that writes winding numbers
 module _ (triangles : List Float) (points old : List ℕ) where
   abbrev turn : ℕ → List ℕ
-  turn k = little 4 (toBits binary32 (windingAt binary32 triangles (pointsIn points) k))
+  turn k = little 4 (toBits binary32 (windingAt binary32 triangles (numbersOf points) k))
 
   -- k of n winding numbers stand at the front of out
   abbrev pub Wound : (n : ℕ) (out : List ℕ) (k : ℕ) → Type 0
@@ -123,7 +122,7 @@ module _ (triangles : List Float) (points old : List ℕ) where
   pub wound-start : (n : ℕ) → Wound n old 0
   wound-start n = run-start turn 4 0 n old
 
-  pub wound-more : (n : ℕ) (out new : List ℕ) (k bits : ℕ) → 4 * n ≤ length old → k < n → Wound n out k → bits ≡ toBits binary32 (windingAt binary32 triangles (pointsIn points) k)
+  pub wound-more : (n : ℕ) (out new : List ℕ) (k bits : ℕ) → 4 * n ≤ length old → k < n → Wound n out k → bits ≡ toBits binary32 (windingAt binary32 triangles (numbersOf points) k)
       → new ≡ over (4 * k) (little 4 bits) out → Wound n new (k + 1)
   wound-more n out new k bits room l r e h =
       run-front turn 4 n old out new k (λ j. length-little 4 _) room l r (h ∙ ap (λ (b : ℕ). over (4 * k) (little 4 b) out) e)
@@ -134,7 +133,7 @@ module _ (triangles : List Float) (points old : List ℕ) where
       run-end turn 0 n old out k l r
       ∙ ap (λ (m : ℕ). over 0 (many turn m) old) (e ∙ sym (points-count points))
       ∙ ap (λ (new : List ℕ). over 0 new old)
-      (many-same turn _ (pointCount (pointsIn points)) (λ i h. ap (λ (x : Float). little 4 (toBits binary32 x)) (sym (getD-many nan (windingAt binary32 triangles (pointsIn points)) (pointCount (pointsIn points)) (0 + i) (rw zero-add h) ∙ ap (windingAt binary32 triangles (pointsIn points)) (zero-add i)))))
+      (many-same turn _ (pointCount (numbersOf points)) (λ i h. ap (λ (x : Float). little 4 (toBits binary32 x)) (sym (getD-many nan (windingAt binary32 triangles (numbersOf points)) (pointCount (numbersOf points)) (0 + i) (rw zero-add h) ∙ ap (windingAt binary32 triangles (numbersOf points)) (zero-add i)))))
 
 -- ---- the lent bytes afterwards
 pub as-it-was : (v : Verdict) (new old : List ℕ) → refuses v ≡ true → old ≡ afterBytes v new old

@@ -19,7 +19,8 @@ use Rattle.spec_tree.specs.Refusals.{treeRefusal}
 use Rattle.spec_host.specs.Told.{told, Placed, InPlace}
 use Rattle.spec_host.proofs.Told.{at-zero, no-test, then-test, placed, triangles-told, settings-told, room-told, distance-told}
 use Rattle.spec_image.specs.Image.{Image}
-use Rattle.spec_asked.specs.PointBytes.{pointsIn, pointBytesRefusal}
+use Rattle.spec_host.specs.Build.{numbersOf}
+use Rattle.spec_asked.specs.PointBytes.{pointBytesRefusal}
 use Rattle.spec_asked.specs.Asked.{layoutBy, layoutRefusal, treeIn, contents, askedRefusal, woundRefusal, queryVerdict, windingVerdict}
 use Rattle.spec_asked.proofs.PointBytes.{points-long}
 
@@ -75,10 +76,10 @@ unfolding pointBytesRefusal coordinateRefusal
 point-bytes-told s h =
     then-test (refusedIf (not (eqb (length s % 12) 0)) 8 (length s)) _
     (placed (not (eqb (length s % 12) 0)) 8 (length s) (λ _. record { some = omega arith; most = omega arith; near = h }))
-    (λ _. then-test (coordinateRefusal 8 (pointsIn s)) [] (placed (ltb (firstBad (pointsIn s)) (length (pointsIn s))) 8 (firstBad (pointsIn s)) bad) (λ _. no-test))
+    (λ _. then-test (coordinateRefusal 8 (numbersOf s)) [] (placed (ltb (firstBad (numbersOf s)) (length (numbersOf s))) 8 (firstBad (numbersOf s)) bad) (λ _. no-test))
   where
-    bad : ltb (firstBad (pointsIn s)) (length (pointsIn s)) ≡ true → Placed 8 (firstBad (pointsIn s))
-    bad e = record { some = omega arith; most = omega arith; near = omega (arith, points-long s, ltb-true (firstBad (pointsIn s)) (length (pointsIn s)) e) }
+    bad : ltb (firstBad (numbersOf s)) (length (numbersOf s)) ≡ true → Placed 8 (firstBad (numbersOf s))
+    bad e = record { some = omega arith; most = omega arith; near = omega (arith, points-long s, ltb-true (firstBad (numbersOf s)) (length (numbersOf s)) e) }
 
 tree-told : (x : Image) → InPlace (treeIn x)
 unfolding treeRefusal

@@ -4,7 +4,7 @@ use mathlib.Core.Path.{refl, ap, _∙_}
 use Prim.Native.Nat.{_-_}
 use native.Mathlib.Omega.{arith}
 use Rattle.spec_lists.proofs.Reading.{point-finite}
-use Rattle.spec_asked.specs.PointBytes.{pointsIn}
+use Rattle.spec_host.specs.Build.{numbersOf}
 use Rattle.spec_asked.specs.Asked.{answerBy}
 use Rattle.spec_asked.proofs.PointBytes.{points-long, Answered, answered-start, answered-more, answered-end}
 use Rattle.point_queries.specs.Values.{asQuery}
@@ -28,7 +28,7 @@ point-in-requires c κs = omega (arith, c .loop-test .taken)
 answer-at-requires : tie.Need-answer-at-requires Inv-loop μ-loop
 answer-at-requires c κs =
     let start = c .before .before .before .before .before .before .before .before .before in
-    (start .pre .0, rw (c .point-in .ensures) (point-finite (pointsIn (start .args .points .now)) (start .pre .1 .0 .coordinates) _ (rw (points-long (start .args .points .now)) (omega (arith, c .before .loop-test .taken)))))
+    (start .pre .0, rw (c .point-in .ensures) (point-finite (numbersOf (start .args .points .now)) (start .pre .1 .0 .coordinates) _ (rw (points-long (start .args .points .now)) (omega (arith, c .before .loop-test .taken)))))
 
 mul-put-answer-bytes : tie.Need-mul-put-answer-bytes Inv-loop μ-loop
 mul-put-answer-bytes c = omega (arith, c .before .before .before .loop-test .taken)
