@@ -1,13 +1,51 @@
 // Exports for tests/timing, tests/compare and tests/peers; no part of the engine.
+ghost use mathlib.Core.Path.{_≡_};
+ghost use lib.ListN.{length};
+ghost use lib.Ieee.{binary32};
+ghost use Rattle.lists.specs.Values as Lists;
+ghost use Rattle.primitives.specs.Values as Shapes;
+ghost use Rattle.aabb_build.specs.Values as Builds;
+ghost use Rattle.spec_tree.specs.Refusals as Trees;
+ghost use Rattle.spec_angles.specs.Windings as Windings;
+ghost use Rattle.spec_search.specs.Sure as Sure;
 ghost use Rattle.spec_search.specs.Calls as Calls;
+ghost use Rattle.timing.specs.Told as Told;
 use aabb_build::build::Built;
 use aabb_tree::check::is_accepted;
 use closest::answer::Query;
 use closest::sure::search;
 use lists::points::point_at;
+use lists::refusal::Verdict;
 use lists::triangles::triangle_at;
 use lists::triangles::triangles_refusal;
 use primitives::vec3::Vec3;
+
+fn one_passed(verdict: Verdict) -> u32
+    ensures { λ r. ⌜ r ≡ Told.onePassed (Lists.asVerdict verdict) ⌝ }
+{
+    match verdict {
+        Verdict::Passed => 1,
+        Verdict::Refused { .. } => 0,
+    }
+}
+
+fn nodes_told(built: Built) -> usize
+    ensures { λ r. ⌜ r ≡ Told.nodesTold (Builds.asBuilt built) ⌝ }
+{
+    match built {
+        Built::Tree { nodes, depth: _ } => nodes,
+        Built::Refused { .. } => 0,
+    }
+}
+
+fn depth_told(built: Built) -> usize
+    ensures { λ r. ⌜ r ≡ Told.depthTold (Builds.asBuilt built) ⌝ }
+{
+    match built {
+        Built::Tree { nodes: _, depth } => depth,
+        Built::Refused { .. } => 0,
+    }
+}
 
 // How many nodes were built, 0 for a refusal.
 #[no_mangle]
@@ -19,7 +57,9 @@ pub extern "C" fn timing_build(
     order: &mut [u32],
     links: &mut [u32],
     boxes: &mut [f32],
-) -> usize {
+) -> usize
+    ensures { λ r. ⌜ Told.BuildTold Told.nodesTold binary32 (now (triangles .entry)) (record { strategy = strategy; leafMinimum = «leaf_minimum»; maximumDepth = «maximum_depth» }) (now (order .entry)) (now (links .entry)) (now (boxes .entry)) r (now (order .exit)) (now (links .exit)) (now (boxes .exit)) ⌝ }
+{
     let built = aabb_build::build::build(
         triangles,
         strategy,
@@ -29,10 +69,7 @@ pub extern "C" fn timing_build(
         links,
         boxes,
     );
-    match built {
-        Built::Tree { nodes, depth: _ } => nodes,
-        Built::Refused { .. } => 0,
-    }
+    nodes_told(built)
 }
 
 // The depth that the build tells, 0 for a refusal.
@@ -45,7 +82,9 @@ pub extern "C" fn timing_depth(
     order: &mut [u32],
     links: &mut [u32],
     boxes: &mut [f32],
-) -> usize {
+) -> usize
+    ensures { λ r. ⌜ Told.BuildTold Told.depthTold binary32 (now (triangles .entry)) (record { strategy = strategy; leafMinimum = «leaf_minimum»; maximumDepth = «maximum_depth» }) (now (order .entry)) (now (links .entry)) (now (boxes .entry)) r (now (order .exit)) (now (links .exit)) (now (boxes .exit)) ⌝ }
+{
     let built = aabb_build::build::build(
         triangles,
         strategy,
@@ -55,10 +94,7 @@ pub extern "C" fn timing_depth(
         links,
         boxes,
     );
-    match built {
-        Built::Tree { nodes: _, depth } => depth,
-        Built::Refused { .. } => 0,
-    }
+    depth_told(built)
 }
 
 // 1 where the query was answered.
@@ -72,7 +108,10 @@ pub extern "C" fn timing_sure(
     points: &[f32],
     distance: f32,
     answers: &mut [u32],
-) -> u32 {
+) -> u32
+    ensures passed { λ r. ⌜ r ≡ Told.onePassed (Calls.queryRefusal (now (triangles .entry)) (now (order .entry)) (now (links .entry)) (now (boxes .entry)) nodes (now (points .entry)) distance (length (now (answers .entry)))) ⌝ }
+    ensures answers { λ _. ⌜ now (answers .exit) ≡ Calls.afterQuery binary32 (Calls.sureAnswer binary32 (now (triangles .entry)) distance) (now (points .entry)) (Calls.queryRefusal (now (triangles .entry)) (now (order .entry)) (now (links .entry)) (now (boxes .entry)) nodes (now (points .entry)) distance (length (now (answers .entry)))) (now (answers .entry)) ⌝ }
+{
     let verdict = closest::queries::sure_query(
         triangles,
         order,
@@ -83,7 +122,7 @@ pub extern "C" fn timing_sure(
         distance,
         answers,
     );
-    !verdict.refuses() as u32
+    one_passed(verdict)
 }
 
 #[no_mangle]
@@ -96,7 +135,10 @@ pub extern "C" fn timing_source(
     points: &[f32],
     distance: f32,
     answers: &mut [u32],
-) -> u32 {
+) -> u32
+    ensures passed { λ r. ⌜ r ≡ Told.onePassed (Calls.queryRefusal (now (triangles .entry)) (now (order .entry)) (now (links .entry)) (now (boxes .entry)) nodes (now (points .entry)) distance (length (now (answers .entry)))) ⌝ }
+    ensures answers { λ _. ⌜ now (answers .exit) ≡ Calls.afterQuery binary32 (Calls.sourceAnswer binary32 (now (triangles .entry)) (now (order .entry)) (now (links .entry)) (now (boxes .entry)) nodes distance) (now (points .entry)) (Calls.queryRefusal (now (triangles .entry)) (now (order .entry)) (now (links .entry)) (now (boxes .entry)) nodes (now (points .entry)) distance (length (now (answers .entry)))) (now (answers .entry)) ⌝ }
+{
     let verdict = closest::queries::source_query(
         triangles,
         order,
@@ -107,7 +149,7 @@ pub extern "C" fn timing_source(
         distance,
         answers,
     );
-    !verdict.refuses() as u32
+    one_passed(verdict)
 }
 
 #[no_mangle]
@@ -117,9 +159,11 @@ pub extern "C" fn timing_check(
     links: &[u32],
     boxes: &[f32],
     nodes: usize,
-) -> u32 {
+) -> u32
+    ensures { λ r. ⌜ r ≡ Told.onePassed (Trees.checkRefusal (now (triangles .entry)) (now (order .entry)) (now (links .entry)) (now (boxes .entry)) nodes) ⌝ }
+{
     let verdict = aabb_tree::refusals::check(triangles, order, links, boxes, nodes);
-    !verdict.refuses() as u32
+    one_passed(verdict)
 }
 
 fn measured_at(
@@ -132,6 +176,7 @@ fn measured_at(
     distance: f32,
 ) -> usize
     requires { ⌜ Calls.Searchable (now triangles) (now order) (now links) (now boxes) nodes ⌝ }
+    ensures { λ r. ⌜ r ≡ Sure.sureWalk binary32 (now (triangles .entry)) (now (order .entry)) (now (links .entry)) (now (boxes .entry)) nodes (Shapes.asPoint p) (Sure.limitOf binary32 distance) .measured ⌝ }
 {
     let query = Query {
         point: p,
@@ -151,7 +196,9 @@ pub extern "C" fn timing_measured(
     nodes: usize,
     points: &[f32],
     distance: f32,
-) -> usize {
+) -> usize
+    ensures { λ r. ⌜ r ≡ Told.measuredFirst binary32 (now (triangles .entry)) (now (order .entry)) (now (links .entry)) (now (boxes .entry)) nodes (now (points .entry)) distance ⌝ }
+{
     let verdict = triangles_refusal(triangles);
     if verdict.refuses() {
         return 0;
@@ -167,20 +214,26 @@ pub extern "C" fn timing_measured(
 
 // 1 where the winding numbers were written.
 #[no_mangle]
-pub extern "C" fn timing_winding(triangles: &[f32], points: &[f32], windings: &mut [f32]) -> u32 {
+pub extern "C" fn timing_winding(triangles: &[f32], points: &[f32], windings: &mut [f32]) -> u32
+    ensures passed { λ r. ⌜ r ≡ Told.onePassed (Windings.windingRefusal (now (triangles .entry)) (now (points .entry)) (length (now (windings .entry)))) ⌝ }
+    ensures windings { λ _. ⌜ now (windings .exit) ≡ Windings.afterWinding binary32 (now (triangles .entry)) (now (points .entry)) (now (windings .entry)) ⌝ }
+{
     let verdict = winding_numbers::winding_number::winding(triangles, points, windings);
-    !verdict.refuses() as u32
+    one_passed(verdict)
 }
 
 // The solid angle of one triangle from one point; no number where there are more or fewer.
 #[no_mangle]
-pub extern "C" fn timing_solid(triangle: &[f32], point: &[f32]) -> f32 {
-    if triangle.len() == 9 {
-        if point.len() == 3 {
-            let t = triangle_at(triangle, 0);
-            let p = point_at(point, 0);
-            return winding_numbers::solid_angle::solid_angle(t, p);
-        }
+pub extern "C" fn timing_solid(triangle: &[f32], point: &[f32]) -> f32
+    ensures { λ r. ⌜ r ≡ Told.angleOfOne binary32 (now (triangle .entry)) (now (point .entry)) ⌝ }
+{
+    if triangle.len() != 9 {
+        return 0.0 / 0.0;
     }
-    0.0 / 0.0
+    if point.len() != 3 {
+        return 0.0 / 0.0;
+    }
+    let t = triangle_at(triangle, 0);
+    let p = point_at(point, 0);
+    winding_numbers::solid_angle::solid_angle(t, p)
 }

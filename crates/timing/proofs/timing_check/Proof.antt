@@ -1,0 +1,18 @@
+-- `timing::timing_check` tells whether the check passed. Assumes nothing.
+use mathlib.Core.Path.{_≡_, ap, _∙_}
+use Rattle.timing.specs.Told.{onePassed}
+use borrow.Author.Needs.{needs}
+use Rattle.timing.proofs.timing_check.Statement.{statement}
+use Rattle.timing.proofs.timing_check.Tie as tie
+
+check-requires : tie.Need-check-requires
+check-requires c κs = search needs
+
+one-passed-requires : tie.Need-one-passed-requires
+one-passed-requires c κs = search needs
+
+returns : tie.Need-returns
+returns c = c .one-passed .ensures ∙ ap onePassed (c .before .check .ensures)
+
+pub timing-check-spec : {M : Type 1} → statement M
+timing-check-spec = tie.close (tie.spec check-requires one-passed-requires returns)

@@ -1,0 +1,21 @@
+-- `timing::timing_winding` writes the winding numbers, and tells whether there are any. Assumes nothing.
+use mathlib.Core.Path.{_≡_, ap, _∙_}
+use Rattle.timing.specs.Told.{onePassed}
+use borrow.Author.Needs.{needs}
+use Rattle.timing.proofs.timing_winding.Statement.{statement}
+use Rattle.timing.proofs.timing_winding.Tie as tie
+
+winding-requires : tie.Need-winding-requires
+winding-requires c κs = search needs
+
+one-passed-requires : tie.Need-one-passed-requires
+one-passed-requires c κs = search needs
+
+same-length : tie.Need-same-length
+same-length c = search needs
+
+returns : tie.Need-returns
+returns c = (c .one-passed .ensures ∙ ap onePassed (c .before .before .before .winding .ensures .0), search needs)
+
+pub timing-winding-spec : {M : Type 1} → statement M
+timing-winding-spec = tie.close (tie.spec winding-requires one-passed-requires same-length returns)
