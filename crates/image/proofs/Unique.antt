@@ -1,9 +1,8 @@
 -- What reading and writing an image answer is fixed by what it stands for. Assumes nothing.
 use mathlib.Core.Path.{_≡_, refl, sym, ap, _∙_}
-use Rattle.spec_lists.specs.Refusals as Refusals
 use Rattle.spec_image.specs.Reading as Reading
 use Rattle.spec_image.specs.Writing as Writing
-use Rattle.lists.specs.declared.settings.Settings.{Settings}
+use Rattle.lists.proofs.Unique.{backSettings}
 use Rattle.image.specs.declared.read.ImageRead.{ImageRead}
 use Rattle.image.specs.declared.read.ImageRead.the-variants.{Refused, Read}
 use Rattle.image.specs.declared.write.ImageWritten.{ImageWritten}
@@ -11,9 +10,6 @@ use Rattle.image.specs.declared.write.ImageWritten.the-variants as Writt
 use Rattle.image.specs.Values.{answerOf, asWritten}
 
 -- ---- read
-abbrev backSettings : Refusals.Settings → Settings
-backSettings s = record { strategy = s .strategy; «leaf_minimum» = s .leafMinimum; «maximum_depth» = s .maximumDepth }
-
 abbrev backRead : Reading.ImageRead → ImageRead
 backRead (Reading.refused number place) = Refused number place
 backRead (Reading.holds settings triangles nodes) = Read (backSettings settings) triangles nodes

@@ -13,8 +13,8 @@ verdict-unique (Refused n p) Passed e = cc
 verdict-unique (Refused n p) (Refused m q) e = cc
 
 -- the settings that these stand for
-abbrev back : Refusals.Settings → Settings
-back s = record { strategy = s .strategy; «leaf_minimum» = s .leafMinimum; «maximum_depth» = s .maximumDepth }
+abbrev pub backSettings : Refusals.Settings → Settings
+backSettings s = record { strategy = s .strategy; «leaf_minimum» = s .leafMinimum; «maximum_depth» = s .maximumDepth }
 
 pub settings-unique : (a b : Settings) → asSettings a ≡ asSettings b → a ≡ b
-settings-unique a b e = ap back e
+settings-unique a b e = ap backSettings e

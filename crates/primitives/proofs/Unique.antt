@@ -14,13 +14,13 @@ use Rattle.primitives.specs.declared.triangle3.Part.{Part}
 use Rattle.primitives.specs.declared.triangle3.Part.the-variants.{Face, CornerA, CornerB, CornerC, EdgeAB, EdgeAC, EdgeBC}
 use Rattle.primitives.specs.Values.{asPoint, asBox, asPlane, asTriangle, asDots, asPart, asMeasured}
 
-abbrev backPoint : Point → Vec3
+abbrev pub backPoint : Point → Vec3
 backPoint p = record { x = p .x; y = p .y; z = p .z }
 
 pub point-unique : (a b : Vec3) → asPoint a ≡ asPoint b → a ≡ b
 point-unique a b e = ap backPoint e
 
-abbrev backBox : Box → Box3
+abbrev pub backBox : Box → Box3
 backBox b = record { min = backPoint (b .min); max = backPoint (b .max) }
 
 pub box-unique : (a b : Box3) → asBox a ≡ asBox b → a ≡ b

@@ -1,9 +1,6 @@
 -- A leaf found, the leaves counted and an entry found are fixed by what they stand for. Assumes nothing.
 use mathlib.Core.Path.{_≡_, refl, sym, ap, _∙_}
-use Rattle.primitives.specs.declared.vec3.Vec3.{Vec3}
-use Rattle.primitives.specs.declared.box3.Box3.{Box3}
-use Rattle.spec_shapes.specs.Points.{Point}
-use Rattle.spec_shapes.specs.Boxes.{Box}
+use Rattle.primitives.proofs.Unique.{backBox}
 use Rattle.spec_tree.specs.Leaves as Leaves
 use Rattle.traverse.specs.declared.leaf.EntryFound.{EntryFound}
 use Rattle.traverse.specs.declared.leaf.EntryFound.the-variants as Entry
@@ -14,12 +11,6 @@ use Rattle.traverse.specs.declared.traverse.LeavesCounted.the-variants a
 use Rattle.traverse.specs.Values.{asLeafFound, asLeavesCounted, asEntryFound}
 
 -- ---- a leaf
-abbrev backPoint : Point → Vec3
-backPoint p = record { x = p .x; y = p .y; z = p .z }
-
-abbrev backBox : Box → Box3
-backBox b = record { min = backPoint (b .min); max = backPoint (b .max) }
-
 abbrev backLeaf : Leaves.LeafFound → LeafFound
 backLeaf Leaves.nothing = Found.Nothing
 backLeaf (Leaves.found l) = Found.Leaf (l .node) (l .first) (l .last) (backBox (l .box))
