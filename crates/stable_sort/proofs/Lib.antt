@@ -4,3 +4,6 @@ mod Inserting
 mod Standing
 mod Merging
 mod Halving
+mod Dividing
+mod SetApart
+mod BothSides
