@@ -4,10 +4,9 @@
 #     make picture     the example's picture, target/host/stock.svg
 #     make test        tests/host/run
 #
-# It needs rt, and a C compiler for x86-64 Linux.
+# It needs rt, and a C compiler. On Arm all of it runs under the toolchain's emulator (tools/link, tools/run).
 
 LIBRARY = target/staticlib/libhost.a
-CFLAGS = -std=c99 -pedantic -Wall -Wextra -O2 -Iinclude
 
 all: $(LIBRARY) target/host/header target/host/stock
 
@@ -16,15 +15,15 @@ $(LIBRARY): crates.txt $(shell find crates -name '*.rt' -o -name '*.antt')
 
 target/host/header: tests/host/header.c include/gauge.h $(LIBRARY)
 	@mkdir -p target/host
-	$(CC) $(CFLAGS) tests/host/header.c $(LIBRARY) -o $@
-	$@
+	tools/link $@ -O2 tests/host/header.c
+	tools/run $@
 
 target/host/stock: examples/stock.c include/gauge.h $(LIBRARY)
 	@mkdir -p target/host
-	$(CC) $(CFLAGS) examples/stock.c $(LIBRARY) -lm -o $@
+	tools/link $@ -O2 examples/stock.c
 
 picture: target/host/stock
-	target/host/stock examples/flange.txt target/host/stock.svg
+	tools/run target/host/stock examples/flange.txt target/host/stock.svg
 
 test:
 	tests/host/run
