@@ -1,9 +1,3 @@
-mod Ordering
-mod Parts
-mod Inserting
-mod Standing
-mod Merging
-mod Halving
 mod Dividing
 mod SetApart
 mod BothSides
