@@ -10,7 +10,7 @@ mkdir -p $copy/crates/angles_run/src
 cp -r crates crates.txt $copy/
 mkdir -p $copy/target
 for kept in rlib stamp; do [ -d target/$kept ] && cp -r target/$kept $copy/target/; done
-echo 'angles_run: winding_numbers lists primitives floats' >> $copy/crates.txt
+echo 'angles_run: winding_numbers solid_angle arc_tangent square_root lists primitives floats' >> $copy/crates.txt
 cat > $copy/crates/angles_run/src/lib.rt <<'RT'
 // Roots, angles and winding numbers for a Rust program to call.
 ghost use mathlib.Core.Path.{_≡_};
@@ -18,12 +18,12 @@ use lists::refusal::Verdict;
 
 #[no_mangle]
 pub extern "C" fn angles_root(x: f32) -> f32 {
-    winding_numbers::root::root_or_nan(x)
+    square_root::root_or_nan(x)
 }
 
 #[no_mangle]
 pub extern "C" fn angles_arc_tangent(n: f32, d: f32) -> f32 {
-    winding_numbers::arc_tangent::angle_or_nan(n, d)
+    arc_tangent::angle_or_nan(n, d)
 }
 
 // Of the first triangle from the first point.
@@ -31,7 +31,7 @@ pub extern "C" fn angles_arc_tangent(n: f32, d: f32) -> f32 {
 pub extern "C" fn angles_solid(triangle: &[f32], point: &[f32]) -> f32 {
     if triangle.len() == 9 {
         if point.len() == 3 {
-            return winding_numbers::solid_angle::solid_angle(lists::triangles::triangle_at(triangle, 0), lists::points::point_at(point, 0));
+            return solid_angle::solid_angle(lists::triangles::triangle_at(triangle, 0), lists::points::point_at(point, 0));
         }
     }
     0.0 / 0.0

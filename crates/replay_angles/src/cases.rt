@@ -6,10 +6,10 @@ use crate::words::place;
 use crate::words::point_of;
 use crate::words::size_at;
 use crate::words::word_at;
+use arc_tangent::angle_or_nan;
 use primitives::triangle3::Triangle3;
-use winding_numbers::arc_tangent::angle_or_nan;
-use winding_numbers::root::root_or_nan;
-use winding_numbers::solid_angle::solid_angle;
+use solid_angle::solid_angle;
+use square_root::root_or_nan;
 use winding_numbers::winding_number::winding;
 
 // How many cases were seen and how many differed.

@@ -235,5 +235,5 @@ pub extern "C" fn timing_solid(triangle: &[f32], point: &[f32]) -> f32
     }
     let t = triangle_at(triangle, 0);
     let p = point_at(point, 0);
-    winding_numbers::solid_angle::solid_angle(t, p)
+    solid_angle::solid_angle(t, p)
 }

@@ -7,7 +7,6 @@ ghost use Rattle.primitives.specs.Values as Shapes;
 ghost use Rattle.lists.specs.Values as Values;
 ghost use Rattle.spec_lists.specs.Reading as Reading;
 ghost use Rattle.spec_angles.specs.Windings as Windings;
-use crate::solid_angle::solid_angle;
 use lists::points::point_at;
 use lists::points::point_count;
 use lists::points::points_refusal;
@@ -17,6 +16,7 @@ use lists::triangles::triangle_at;
 use lists::triangles::triangle_count;
 use lists::triangles::triangles_refusal;
 use primitives::vec3::Vec3;
+use solid_angle::solid_angle;
 
 // The sum of the triangles' solid angles, in the list's order, over 4 * PI.
 pub fn winding_number(triangles: &[f32], q: Vec3) -> f32

@@ -1,0 +1,19 @@
+-- `solid_angle::solid_angle` meets its contract: the triangle seen from the point, then its angle.
+-- Assumes nothing.
+use Rattle.spec_angles.specs.Winding.{solidAngle}
+use borrow.Author.Needs.{needs}
+use Rattle.solid_angle.proofs.solid_angle.Statement.{statement}
+use Rattle.solid_angle.proofs.solid_angle.Tie as tie
+
+seen-from-requires : tie.Need-seen-from-requires
+seen-from-requires c κs = search needs
+
+origin-angle-requires : tie.Need-origin-angle-requires
+origin-angle-requires c κs = search needs
+
+returns : tie.Need-returns
+unfolding solidAngle
+returns c = rw (c .origin-angle .ensures, c .before .seen-from .ensures)
+
+pub solid-angle-spec : {M : Type 1} → statement M
+solid-angle-spec = tie.close (tie.spec seen-from-requires origin-angle-requires returns)
