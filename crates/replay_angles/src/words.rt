@@ -1,22 +1,18 @@
 // The list as words, u32 little-endian: a word past the end reads as 0.
 ghost use mathlib.Core.Path.{_≡_};
-ghost use Prim.Native.Nat.{_<_, _≤_};
 ghost use lib.ListN.{length};
+ghost use Rattle.primitives.specs.Values.{asPoint};
+ghost use Rattle.replay_angles.specs.Words as Words;
+use little_endian::u32_at;
 use primitives::vec3::Vec3;
 
-fn wide(b: u8) -> u32
-    ensures { λ r. ⌜ r < 256 ⌝ }
+pub fn word_at(block: &[u8], index: usize) -> u32
+    ensures { λ r. ⌜ r ≡ Words.wordAt (now (block .entry)) index ⌝ }
 {
-    b as u32
-}
-
-pub fn word_at(block: &[u8], index: usize) -> u32 {
     if index < 16384 {
         let at = 4 * index;
         if at + 4 <= block.len() {
-            let low = wide(block[at]) + 256 * wide(block[at + 1]);
-            let high = wide(block[at + 2]) + 256 * wide(block[at + 3]);
-            return low + 65536 * high;
+            return u32_at(block, at);
         }
     }
     0
@@ -24,19 +20,21 @@ pub fn word_at(block: &[u8], index: usize) -> u32 {
 
 // A count, at most 16384.
 pub fn size_at(block: &[u8], index: usize) -> usize
-    ensures { λ r. ⌜ r ≤ 16384 ⌝ }
+    ensures { λ r. ⌜ r ≡ Words.sizeAt (now (block .entry)) index ⌝ }
 {
     let size = word_at(block, index);
     if size < 16384 { size as usize } else { 16384 }
 }
 
-pub fn number_at(block: &[u8], index: usize) -> f32 {
+pub fn number_at(block: &[u8], index: usize) -> f32
+    ensures { λ r. ⌜ r ≡ Words.numberAt (now (block .entry)) index ⌝ }
+{
     floats::from_bits(word_at(block, index))
 }
 
 // at + size * i, or the end where that is past it.
 pub fn place(at: usize, size: usize, i: usize) -> usize
-    ensures { λ r. ⌜ r ≤ 16384 ⌝ }
+    ensures { λ r. ⌜ r ≡ Words.place at size i ⌝ }
 {
     if (at < 16384) & (size < 16384) & (i < 16384) {
         let found = at + size * i;
@@ -47,7 +45,9 @@ pub fn place(at: usize, size: usize, i: usize) -> usize
     16384
 }
 
-pub fn point_of(block: &[u8], at: usize) -> Vec3 {
+pub fn point_of(block: &[u8], at: usize) -> Vec3
+    ensures { λ r. ⌜ asPoint r ≡ Words.pointAt (now (block .entry)) at ⌝ }
+{
     Vec3 {
         x: number_at(block, place(at, 1, 0)),
         y: number_at(block, place(at, 1, 1)),
@@ -56,7 +56,9 @@ pub fn point_of(block: &[u8], at: usize) -> Vec3 {
 }
 
 // How many words the mesh at `at` takes: two counts, nine a triangle, and four a point.
-pub fn mesh_words(block: &[u8], at: usize) -> usize {
+pub fn mesh_words(block: &[u8], at: usize) -> usize
+    ensures { λ r. ⌜ r ≡ Words.meshWords (now (block .entry)) at ⌝ }
+{
     let triangles = size_at(block, at);
     let points = size_at(block, place(at, 1, 1));
     place(place(2, 9, triangles), 4, points)

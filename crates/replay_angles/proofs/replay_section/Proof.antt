@@ -20,8 +20,11 @@ words-of-requires c κs = search needs
 place-requires : tie.Need-place-requires Inv-loop μ-loop
 place-requires c κs = search needs
 
-replay-case-requires : tie.Need-replay-case-requires Inv-loop μ-loop
-replay-case-requires c κs = search needs
+case-at-requires : tie.Need-case-at-requires Inv-loop μ-loop
+case-at-requires c κs = search needs
+
+counted-requires : tie.Need-counted-requires Inv-loop μ-loop
+counted-requires c κs = search needs
 
 add-i : tie.Need-add-i Inv-loop μ-loop
 add-i c = search needs
@@ -44,7 +47,8 @@ replay-section-spec =
     loop-holds
     words-of-requires
     place-requires
-    replay-case-requires
+    case-at-requires
+    counted-requires
     add-i
     loop-less
     loop-again

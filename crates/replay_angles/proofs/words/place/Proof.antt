@@ -1,4 +1,4 @@
--- `replay_angles::words::place` is safe and ends: the product of two numbers below 2 ^ 14 is below 2 ^ 28.
+-- `replay_angles::words::place` meets its contract: the product of two numbers below 2 ^ 14 is below 2 ^ 28.
 -- Assumes nothing.
 use mathlib.Core.Path.{_≡_}
 use mathlib.Core.Bool.{true, _&&_}
@@ -8,7 +8,8 @@ use native.Mathlib.Omega.{arith}
 use lib.Dec.{ltb, ltb→lt}
 use lib.Ieee.Fits.{and-l, and-r}
 use Rattle.spec_numbers.proofs.Tests.{passed}
-use borrow.Author.Needs.{needs}
+use borrow.Author.Tests.{lt-ltb, le-ltb}
+use Rattle.replay_angles.specs.Words.{place}
 use Rattle.replay_angles.proofs.words.place.Statement.{statement}
 use Rattle.replay_angles.proofs.words.place.Tie as tie
 
@@ -27,13 +28,16 @@ add-found : tie.Need-add-found
 add-found c = omega (arith, small (c .before .args .at) (c .before .args .size) (c .before .args .i) (c .if1 .taken))
 
 returns : tie.Need-returns
-returns c = search needs
+unfolding place
+returns c = rw (c .before .if1 .taken, lt-ltb _ _ (c .if2 .taken))
 
 returns-2 : tie.Need-returns-2
-returns-2 c = search needs
+unfolding place
+returns-2 c = rw (c .before .if1 .taken, le-ltb _ _ (c .if2 .left))
 
 returns-3 : tie.Need-returns-3
-returns-3 c = search needs
+unfolding place
+returns-3 c = rw (c .if1 .left)
 
 pub place-spec : {M : Type 1} → statement M
 place-spec = tie.close (tie.spec mul-found add-found returns returns-2 returns-3)

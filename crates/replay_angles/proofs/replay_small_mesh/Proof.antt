@@ -1,12 +1,12 @@
--- `replay_angles::cases::replay_small_mesh` is safe and ends: each part is within its array.
+-- `replay_angles::replay_small_mesh` is safe and ends: each part is within its array.
 -- Assumes nothing.
 use mathlib.Core.Path.{sym}
 use Prim.Native.Nat.{_*_}
 use native.Mathlib.Omega.{arith}
 use lib.Seq.{length-take-le}
 use borrow.Author.Needs.{needs}
-use Rattle.replay_angles.proofs.cases.replay_small_mesh.Statement.{statement}
-use Rattle.replay_angles.proofs.cases.replay_small_mesh.Tie as tie
+use Rattle.replay_angles.proofs.replay_small_mesh.Statement.{statement}
+use Rattle.replay_angles.proofs.replay_small_mesh.Tie as tie
 
 place-requires : tie.Need-place-requires
 place-requires c κs = search needs

@@ -1,9 +1,9 @@
--- `replay_angles::cases::replay_windings` is safe and ends: the turn is at most the number of points.
+-- `replay_angles::replay_windings` is safe and ends: the turn is at most the number of points.
 -- Assumes nothing.
 use Prim.Native.Nat.{_≤_, _-_}
 use borrow.Author.Needs.{needs}
-use Rattle.replay_angles.proofs.cases.replay_windings.Statement.{statement}
-use Rattle.replay_angles.proofs.cases.replay_windings.Tie as tie
+use Rattle.replay_angles.proofs.replay_windings.Statement.{statement}
+use Rattle.replay_angles.proofs.replay_windings.Tie as tie
 
 abbrev Inv-loop : tie.InvT-loop
 Inv-loop block at triangles points ours most now₀ k₀ now k = k ≤ points
