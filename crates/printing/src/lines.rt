@@ -1,6 +1,6 @@
 // Lines: words and numbers with one space between, and a line feed.
-use crate::numbers::put_decimal;
-use crate::numbers::put_hex;
+use printed_numbers::put_decimal;
+use printed_numbers::put_hex;
 ghost use mathlib.Core.Path.{_≡_};
 ghost use mathlib.Core.List.{[], _∷_};
 ghost use Prim.Native.Nat.{_+_, _≤_};

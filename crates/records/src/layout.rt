@@ -1,8 +1,8 @@
 // The records of an image and of `gauge`'s input, one behind the other, and nothing behind the last.
-use crate::body::Body;
-use crate::body::has_body;
-use crate::body::has_settings;
-use crate::body::whole_body;
+use record_bodies::Body;
+use record_bodies::has_body;
+use record_bodies::has_settings;
+use record_bodies::whole_body;
 ghost use mathlib.Core.Path.{_≡_};
 ghost use Rattle.spec_records.specs.Records.{laidOut};
 ghost use Rattle.spec_records.specs.Layouts.{version1, imageWants, gaugeWants};
