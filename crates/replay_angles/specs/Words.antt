@@ -1,10 +1,11 @@
 -- The list as words of four bytes, and the counts, numbers and points that they stand for. A word past the end is 0, and no place is past 16384. Definitions only.
 use mathlib.Core.Bool.{cond, _&&_}
-use mathlib.Core.List.{List}
+use mathlib.Core.List.{List, [], _∷_}
 use Prim.Native.Nat.{ℕ, _+_, _*_}
 use lib.Dec.{ltb, leb}
 use lib.ListN.{length}
 use lib.Ieee.{Float, binary32, ofBits}
+use Rattle.spec_tables.specs.Tables.{many}
 use Rattle.spec_records.specs.Little.{littleAt}
 use Rattle.spec_shapes.specs.Points.{Point}
 
@@ -28,3 +29,7 @@ pointAt s at = record { x = numberAt s (place at 1 0); y = numberAt s (place at 
 -- how many words a mesh takes: two counts, nine a triangle, and four a point
 unfoldable pub meshWords : List ℕ → ℕ → ℕ
 meshWords s at = place (place 2 9 (sizeAt s at)) 4 (sizeAt s (place at 1 1))
+
+-- the numbers from `at` on: more than a mesh has
+unfoldable pub numbersFrom : List ℕ → ℕ → List Float
+numbersFrom s at = many (λ i. numberAt s (place at 1 i) ∷ []) 720

@@ -66,6 +66,7 @@ pub fn mesh_words(block: &[u8], at: usize) -> usize
 
 // The numbers from `at` on: more than a mesh has.
 pub fn numbers_from(block: &[u8], at: usize) -> [f32; 720]
+    ensures { λ r. ⌜ r ≡ Words.numbersFrom (now (block .entry)) at ⌝ }
     ensures { λ r. ⌜ length r ≡ 720 ⌝ }
 {
     let mut numbers = [0.0f32; 720];

@@ -1,20 +1,36 @@
--- `replay_angles::words::numbers_from` is safe and ends: the turn is at most 720.
+-- `replay_angles::words::numbers_from` meets its contract. The invariant: the first i numbers stand in the array. The measure is how many are left.
 -- Assumes nothing.
-use Prim.Native.Nat.{_≤_, _-_}
-use mathlib.Core.Path.{_≡_}
-use lib.ListN.{length}
+use Prim.Native.Nat.{ℕ, _≤_, _-_}
+use mathlib.Core.Path.{_≡_, refl, sym, _∙_, ap}
+use mathlib.Core.List.{List, [], _∷_}
+use native.Mathlib.Omega.{arith}
+use lib.Ieee.{Float}
+use lib.ListN.{length, take}
+use lib.Seq.{take-all}
+use Rattle.spec_tables.specs.Tables.{many}
+use Rattle.spec_tables.proofs.Pieces.{take-over, length-singles}
+use Rattle.spec_tables.proofs.Runs.{Run, run-start, run-end}
+use Rattle.spec_tables.proofs.Stores.{run-store-front}
+use Rattle.replay_angles.specs.Words.{numberAt, place, numbersFrom}
 use borrow.Author.Needs.{needs}
 use Rattle.replay_angles.proofs.words.numbers_from.Statement.{statement}
 use Rattle.replay_angles.proofs.words.numbers_from.Tie as tie
 
+-- a list of 720 that was filled from the front is what it was filled with
+filled : (g : ℕ → Float) (old out : List Float) (i : ℕ) → length old ≡ 720 → 720 ≤ i → Run (λ j. g j ∷ []) 0 720 old out i → out ≡ many (λ j. g j ∷ []) 720
+filled g old out i h l r =
+    sym (take-all 720 out (omega (arith, r .long)))
+    ∙ ap (take 720) (run-end (λ j. g j ∷ []) 0 720 old out i l r)
+    ∙ take-over 720 (many (λ j. g j ∷ []) 720) old (length-singles g 720)
+
 abbrev Inv-loop : tie.InvT-loop
-Inv-loop block at numbers₀ i₀ numbers i = (i ≤ 720) × (length numbers ≡ 720)
+Inv-loop block at numbers₀ i₀ numbers i = Run (λ j. numberAt block (place at 1 j) ∷ []) 0 720 numbers₀ numbers i
 
 abbrev μ-loop : tie.MeasureT-loop
 μ-loop block at numbers₀ i₀ numbers i = 720 - i
 
 loop-holds : tie.Need-loop-holds Inv-loop μ-loop
-loop-holds c = search needs
+loop-holds c = run-start _ 1 0 720 _
 
 place-requires : tie.Need-place-requires Inv-loop μ-loop
 place-requires c κs = search needs
@@ -26,7 +42,7 @@ mul-numbers : tie.Need-mul-numbers Inv-loop μ-loop
 mul-numbers c = search needs
 
 array-write-numbers : tie.Need-array-write-numbers Inv-loop μ-loop
-array-write-numbers c = search needs
+array-write-numbers c = omega arith
 
 add-i : tie.Need-add-i Inv-loop μ-loop
 add-i c = search needs
@@ -35,10 +51,11 @@ loop-less : tie.Need-loop-less Inv-loop μ-loop
 loop-less c = search needs
 
 loop-again : tie.Need-loop-again Inv-loop μ-loop
-loop-again c = search needs
+loop-again c = run-store-front _ 720 _ _ _ _ (omega arith) (c .before .before .loop-test .taken) (c .before .before .before .loop .inv) (rw (c .before .place .ensures) at (c .number-at .ensures))
 
 returns : tie.Need-returns Inv-loop μ-loop
-returns c = search needs
+unfolding numbersFrom
+returns c = (filled _ _ _ _ refl (c .loop-test .left) (c .before .loop .inv), c .before .loop .inv .long)
 
 pub numbers-from-spec : {M : Type 1} → statement M
 numbers-from-spec =
