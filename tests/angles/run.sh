@@ -10,7 +10,7 @@ mkdir -p $copy/crates/angles_run/src
 cp -r crates crates.txt $copy/
 mkdir -p $copy/target
 for kept in rlib stamp; do [ -d target/$kept ] && cp -r target/$kept $copy/target/; done
-echo 'angles_run: winding_numbers solid_angle arc_tangent square_root lists primitives floats' >> $copy/crates.txt
+echo 'angles_run: winding_numbers solid_angle arc_tangent square_root lists vec3 triangle3 floats' >> $copy/crates.txt
 cat > $copy/crates/angles_run/src/lib.rt <<'RT'
 // Roots, angles and winding numbers for a Rust program to call.
 ghost use mathlib.Core.Path.{_≡_};

@@ -3,12 +3,12 @@ ghost use mathlib.Core.Path.{_≡_};
 ghost use mathlib.Core.List.{[], _∷_};
 ghost use Prim.Native.Nat.{_+_, _*_, _^_, _≤_, _<_, max};
 ghost use lib.ListN.{length};
-ghost use Rattle.primitives.specs.Values as Shapes;
+ghost use Rattle.box3.specs.Values as Shapes;
 ghost use Rattle.spec_tables.specs.Tables.{over};
 ghost use Rattle.spec_tree.specs.Trees as Trees;
 ghost use Rattle.spec_tree.specs.Splits.{boxIn};
 ghost use Rattle.spec_build.specs.Growing.{LeafAsked, BranchAsked, BranchPut, Written};
-use primitives::box3::Box3;
+use box3::Box3;
 use splits::table::union_of;
 
 // What was grown: where its root stands, its levels, and the box over it.

@@ -4,7 +4,7 @@ ghost use mathlib.Core.List.{[], _∷_};
 ghost use Prim.Native.Nat.{_*_, _≤_};
 ghost use lib.ListN.{length};
 ghost use lib.Ieee.{binary32};
-ghost use Rattle.primitives.specs.Values as Shapes;
+ghost use Rattle.vec3.specs.Values as Shapes;
 ghost use Rattle.spec_tables.specs.Tables.{over, many};
 ghost use Rattle.spec_lists.specs.Limits.{mostTriangles};
 ghost use Rattle.spec_lists.specs.Reading as Reading;
@@ -15,8 +15,8 @@ ghost use Rattle.spec_build.specs.Growing.{CentresAsked, CentresPut, Centred};
 use crate::nodes::put_box;
 use lists::limits::MOST_TRIANGLES;
 use lists::triangles::box_at;
-use primitives::vec3::Axis;
 use splits::table::centre_on;
+use vec3::Axis;
 
 // The boxes of the first `count` triangles, six numbers each.
 pub fn put_bounds(triangles: &[f32], count: usize, bounds: &mut [f32])

@@ -1,7 +1,7 @@
 // The tries: a part is sorted by its centres on an axis and handed to the rule, on one axis after the other.
 ghost use mathlib.Core.Path.{_≡_};
 ghost use lib.Ieee.{binary32};
-ghost use Rattle.primitives.specs.Values as Shapes;
+ghost use Rattle.box3.specs.Values as Shapes;
 ghost use Rattle.spec_tree.specs.Sort.{byKey, sorted};
 ghost use Rattle.spec_tree.specs.Splits as Splits;
 ghost use Rattle.splits.specs.Values as Rules;
@@ -9,14 +9,14 @@ ghost use Rattle.spec_build.specs.Tries as Tries;
 ghost use Rattle.spec_build.specs.Growing.{keysOn, SortAsked, RuleAsked, Triable};
 use crate::axes::axes_by_size;
 use crate::tables::first_key;
+use box3::Box3;
 use lists::limits::MOST_TRIANGLES;
-use primitives::box3::Box3;
-use primitives::vec3::Axis;
 use splits::area::area_split;
 use splits::median::median_split;
 use splits::split::Split;
 use splits::table::union_of;
 use stable_sort::sort_by_key;
+use vec3::Axis;
 
 // The part, sorted stably by the centres on the axis.
 fn sort_on(centres: &[f32], axis: Axis, part: &mut [u32], scratch: &mut [u32])

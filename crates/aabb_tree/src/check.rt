@@ -3,7 +3,7 @@ ghost use mathlib.Core.Path.{_≡_};
 ghost use Prim.Native.Nat.{_+_, _*_, _≤_};
 ghost use lib.Dec.{eqb};
 ghost use lib.ListN.{length};
-ghost use Rattle.primitives.specs.Values as Shapes;
+ghost use Rattle.box3.specs.Values as Shapes;
 ghost use Rattle.spec_lists.specs.Limits as Limits;
 ghost use Rattle.spec_lists.specs.Reading as Reading;
 ghost use Rattle.spec_tree.specs.Accepted as Accepted;
@@ -18,11 +18,11 @@ use crate::nodes::left_at;
 use crate::nodes::node_box;
 use crate::nodes::right_at;
 use crate::permutation::is_permutation;
+use box3::Box3;
 use floats::same;
 use lists::limits;
 use lists::triangles::triangle_count;
-use primitives::box3::Box3;
-use primitives::vec3::Vec3;
+use vec3::Vec3;
 
 // What a subtree is found to be: wrong, or a listing with this first node, whose triangles begin at this entry of the order list, under this box.
 pub enum Finding {

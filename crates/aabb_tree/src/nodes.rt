@@ -3,10 +3,10 @@ ghost use mathlib.Core.Path.{_≡_};
 ghost use Prim.Native.Nat.{_+_, _*_, _≤_};
 ghost use lib.Dec.{eqb};
 ghost use lib.ListN.{length};
-ghost use Rattle.primitives.specs.Values as Shapes;
+ghost use Rattle.box3.specs.Values as Shapes;
 ghost use Rattle.spec_tree.specs.Trees as Trees;
-use primitives::box3::Box3;
-use primitives::vec3::Vec3;
+use box3::Box3;
+use vec3::Vec3;
 
 // An entry of a list as a number to count with.
 pub fn wide(entry: u32) -> usize

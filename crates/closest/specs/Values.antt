@@ -3,7 +3,7 @@ use mathlib.Core.List.{List}
 use Prim.Native.Nat.{ℕ}
 use lib.ListN.{getD}
 use lib.Ieee.{Float, nan}
-use Rattle.primitives.specs.Values.{asPoint}
+use Rattle.vec3.specs.Values.{asPoint}
 use Rattle.spec_shapes.specs.Points.{Point}
 use Rattle.spec_search.specs.Answers as Answers
 use Rattle.spec_search.specs.Kept.{kept}

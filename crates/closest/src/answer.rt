@@ -1,5 +1,5 @@
 // What is asked of a search, and what it answers.
-use primitives::vec3::Vec3;
+use vec3::Vec3;
 
 // The point, and the limit squared.
 pub struct Query {

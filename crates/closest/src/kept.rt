@@ -1,14 +1,14 @@
 // What a search keeps, lent from call to call: a point with its squared distance, and its triangle's
 // number. At an infinite squared distance it stands for nothing.
 ghost use mathlib.Core.Path.{_≡_};
-ghost use Rattle.primitives.specs.Values as Shapes;
+ghost use Rattle.vec3.specs.Values as Shapes;
 ghost use Rattle.spec_search.specs.Kept as Kept;
 ghost use Rattle.spec_search.specs.Sure as Sure;
 ghost use Rattle.spec_search.specs.Source as Source;
 ghost use Rattle.closest.specs.Values as Values;
 use crate::answer::Answer;
 use crate::answer::Hit;
-use primitives::vec3::Vec3;
+use vec3::Vec3;
 
 // The point of four numbers.
 pub fn point_of(four: &[f32; 4]) -> Vec3

@@ -4,7 +4,7 @@ ghost use mathlib.Core.Path.{_≡_};
 ghost use Prim.Native.Nat.{_+_, _-_, _*_, _^_, _≤_, _<_};
 ghost use lib.ListN.{length};
 ghost use lib.Ieee.{binary32};
-ghost use Rattle.primitives.specs.Values as Shapes;
+ghost use Rattle.vec3.specs.Values as Shapes;
 ghost use Rattle.spec_shapes.specs.Points as Points;
 ghost use Rattle.spec_lists.specs.Reading as Reading;
 ghost use Rattle.spec_tables.specs.Tables as Tables;
@@ -18,7 +18,7 @@ use crate::kept::offer;
 use crate::kept::point_of;
 use aabb_tree::nodes::wide;
 use lists::triangles::triangle_at;
-use primitives::vec3::Vec3;
+use vec3::Vec3;
 
 // A triangle's point, with how far it is from p.
 fn hit_at(point: Vec3, p: Vec3, t: u32) -> Hit

@@ -3,7 +3,7 @@ ghost use mathlib.Core.Path.{_≡_};
 ghost use Prim.Native.Nat.{_*_, _≤_};
 ghost use lib.ListN.{length};
 ghost use lib.Ieee.{binary32};
-ghost use Rattle.primitives.specs.Values as Shapes;
+ghost use Rattle.vec3.specs.Values as Shapes;
 ghost use Rattle.spec_numbers.specs.Axes as Axes;
 ghost use Rattle.spec_shapes.specs.Points as Points;
 ghost use Rattle.spec_lists.specs.Reading as Reading;
@@ -24,7 +24,7 @@ use lists::points::points_refusal;
 use lists::refusal::Verdict;
 use lists::refusal::room_refusal;
 use lists::triangles::triangles_refusal;
-use primitives::vec3::Vec3;
+use vec3::Vec3;
 
 // The first of the tests 1 to 4, 6, 7, 8 and 9 that refuses.
 fn query_refusal(

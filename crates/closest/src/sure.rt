@@ -4,7 +4,7 @@ ghost use mathlib.Core.Path.{_≡_};
 ghost use lib.Ieee.{binary32};
 ghost use Prim.Native.Nat.{_+_, _*_, _≤_};
 ghost use lib.ListN.{length};
-ghost use Rattle.primitives.specs.Values as Shapes;
+ghost use Rattle.vec3.specs.Values as Shapes;
 ghost use Rattle.spec_search.specs.Walk as Walk;
 ghost use Rattle.spec_search.specs.Kept as Kept;
 ghost use Rattle.spec_search.specs.Sure as Sure;
@@ -20,7 +20,7 @@ use crate::leaf::measure_leaf;
 use crate::links::links_of;
 use aabb_tree::nodes::node_box;
 use lists::limits;
-use primitives::vec3::Vec3;
+use vec3::Vec3;
 
 // A box at this squared distance is passed over: it does not count, or is above the best so far.
 fn is_passed(limit: f32, squared: f32, best: &[f32; 4], number: u32) -> bool

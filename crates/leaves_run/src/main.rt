@@ -1,14 +1,14 @@
 // Prints every leaf of stored trees. The trees are the Rust's, and so are the leaves in the file `stdout` beside src/:
 // tests/oracle/leaves.rs made both, with the Rust's own `traverse`.
 ghost use Rattle.spec_tree.specs.Leaves as Leaves;
-use primitives::box3::Box3;
-use primitives::vec3::Vec3;
+use box3::Box3;
 use traverse::leaf::EntryFound;
 use traverse::leaf::leaf_entry;
 use traverse::traverse::LeafFound;
 use traverse::traverse::LeavesCounted;
 use traverse::traverse::leaf_from;
 use traverse::traverse::leaves;
+use vec3::Vec3;
 
 // The first two words of a case.
 struct Head {

@@ -2,7 +2,7 @@
 ghost use mathlib.Core.Path.{_≡_};
 ghost use Prim.Native.Nat.{_+_, _≤_, _<_};
 ghost use lib.ListN.{length};
-ghost use Rattle.primitives.specs.Values as Shapes;
+ghost use Rattle.vec3.specs.Values as Shapes;
 ghost use Rattle.spec_lists.specs.Reading as Reading;
 ghost use Rattle.spec_lists.specs.Refusals as Refusals;
 ghost use Rattle.lists.specs.Values as Values;
@@ -12,7 +12,7 @@ use crate::limits;
 use crate::refusal::Verdict;
 use crate::refusal::refused_if;
 use floats::plus_zero;
-use primitives::vec3::Vec3;
+use vec3::Vec3;
 
 // A number of a list is read as itself plus zero.
 fn number_at(numbers: &[f32], i: usize) -> f32

@@ -2,7 +2,7 @@
 ghost use mathlib.Core.Path.{_≡_};
 ghost use Prim.Native.Nat.{_+_, _*_, _≤_};
 ghost use lib.ListN.{length};
-ghost use Rattle.primitives.specs.Values as Shapes;
+ghost use Rattle.triangle3.specs.Values as Shapes;
 ghost use Rattle.spec_lists.specs.Reading as Reading;
 ghost use Rattle.spec_lists.specs.Refusals as Refusals;
 ghost use Rattle.lists.specs.Values as Values;
@@ -11,8 +11,8 @@ use crate::limits;
 use crate::points::point_at;
 use crate::refusal::Verdict;
 use crate::refusal::refused_if;
-use primitives::box3::Box3;
-use primitives::triangle3::Triangle3;
+use box3::Box3;
+use triangle3::Triangle3;
 
 pub fn triangle_count(triangles: &[f32]) -> usize
     ensures { λ r. ⌜ r ≡ Reading.triangleCount (now (triangles .entry)) ⌝ }

@@ -2,9 +2,9 @@
 use closest::answer::Answer;
 use closest::queries::source_at;
 use closest::queries::sure_at;
-use primitives::vec3::Vec3;
+use vec3::Vec3;
 ghost use mathlib.Core.Path.{_≡_};
-ghost use Rattle.primitives.specs.Values.{asPoint};
+ghost use Rattle.vec3.specs.Values.{asPoint};
 ghost use Rattle.spec_numbers.specs.Axes.{Finite};
 ghost use Rattle.spec_shapes.specs.Points as Points;
 ghost use Rattle.spec_search.specs.Calls.{Searchable};

@@ -1,6 +1,6 @@
 // One case of each kind, ours beside theirs.
 ghost use mathlib.Core.Path.{_≡_};
-ghost use Rattle.primitives.specs.Values.{asTriangle};
+ghost use Rattle.triangle3.specs.Values.{asTriangle};
 ghost use Rattle.replay_angles.specs.Cases as Cases;
 ghost use Rattle.replay_angles.specs.Values.{asCompared};
 use crate::words::number_at;
@@ -8,9 +8,9 @@ use crate::words::place;
 use crate::words::point_of;
 use crate::words::word_at;
 use arc_tangent::angle_or_nan;
-use primitives::triangle3::Triangle3;
 use solid_angle::solid_angle;
 use square_root::root_or_nan;
+use triangle3::Triangle3;
 
 // Theirs is the word that the list has, and `right` says that ours is near enough.
 pub struct Case {

@@ -1,10 +1,10 @@
 // The list as words, u32 little-endian: a word past the end reads as 0.
 ghost use mathlib.Core.Path.{_≡_};
 ghost use lib.ListN.{length};
-ghost use Rattle.primitives.specs.Values.{asPoint};
+ghost use Rattle.vec3.specs.Values.{asPoint};
 ghost use Rattle.replay_angles.specs.Words as Words;
 use little_endian::u32_at;
-use primitives::vec3::Vec3;
+use vec3::Vec3;
 
 pub fn word_at(block: &[u8], index: usize) -> u32
     ensures { λ r. ⌜ r ≡ Words.wordAt (now (block .entry)) index ⌝ }

@@ -2,11 +2,11 @@
 // the list on standard input): prints how many cases there are and how many words differ, and the
 // first ten that do. A case is 62 words: two triangles, a point, then the answers.
 ghost use Prim.Native.Nat.{_<_};
-use primitives::box3::Box3;
-use primitives::plane3::Plane3;
-use primitives::triangle3::Triangle3;
-use primitives::vec3::Axis;
-use primitives::vec3::Vec3;
+use box3::Box3;
+use plane3::Plane3;
+use triangle3::Triangle3;
+use vec3::Axis;
+use vec3::Vec3;
 
 // How many cases were seen and how many words differed.
 struct Tally {
@@ -105,7 +105,7 @@ impl Tally {
 
     fn plane(self, words: &[u32; 62], at: usize, axis: Axis, b: Box3, p: Vec3) -> Tally {
         let plane = Plane3 {
-            normal: primitives::plane3::unit_of(axis),
+            normal: plane3::unit_of(axis),
             distance: p.on(axis),
         };
         self.word(words, at, plane.intersects_box3(b) as u32)

@@ -1,12 +1,12 @@
 // The solid angle of a triangle from a point.
 ghost use mathlib.Core.Path.{_≡_};
 ghost use lib.Ieee.{binary32};
-ghost use Rattle.primitives.specs.Values as Values;
+ghost use Rattle.triangle3.specs.Values as Values;
 ghost use Rattle.spec_angles.specs.Winding as Winding;
 use arc_tangent::angle_or_nan;
-use primitives::triangle3::Triangle3;
-use primitives::vec3::Vec3;
 use square_root::root_or_nan;
+use triangle3::Triangle3;
+use vec3::Vec3;
 
 // The length of a vector.
 fn norm_of(a: Vec3) -> f32

@@ -4,7 +4,7 @@ use mathlib.Core.List.{List, map}
 use Prim.Native.Nat.{ℕ}
 use lib.ListN.{length, length-map}
 use lib.Ieee.{nan}
-use Rattle.primitives.specs.declared.vec3.Vec3.{Vec3}
+use Rattle.vec3.specs.declared.Vec3.{Vec3}
 use Rattle.splits.specs.declared.buckets.Bucket.{Bucket}
 
 -- an array of structs has its length by what each element stands for

@@ -1,6 +1,6 @@
 -- The program's values as the records that the definitions speak of. Definitions only.
 use mathlib.Core.List.{List, map}
-use Rattle.primitives.specs.Values.{asBox}
+use Rattle.box3.specs.Values.{asBox}
 use Rattle.spec_tree.specs.Splits as Splits
 use Rattle.spec_tree.specs.Buckets as Buckets
 use Rattle.spec_tree.specs.Area as Area

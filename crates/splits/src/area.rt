@@ -3,7 +3,7 @@ ghost use mathlib.Core.Path.{_≡_};
 ghost use Prim.Native.Nat.{_^_, _<_};
 ghost use lib.ListN.{length};
 ghost use lib.Ieee.{binary32};
-ghost use Rattle.primitives.specs.Values as Shapes;
+ghost use Rattle.box3.specs.Values as Shapes;
 ghost use Rattle.spec_tree.specs.Splits as Splits;
 ghost use Rattle.spec_tree.specs.Area as Area;
 ghost use Rattle.splits.specs.Values as Values;
@@ -15,8 +15,8 @@ use crate::costs::Cheapest;
 use crate::costs::cheapest_of;
 use crate::costs::costs_of;
 use crate::split::Split;
-use primitives::box3::Box3;
-use primitives::vec3::Axis;
+use box3::Box3;
+use vec3::Axis;
 
 // Before the first object that lies in a bucket later than k.
 fn first_later(bounds: &[f32], part: &[u32], axis: Axis, within: Span, k: usize) -> Split

@@ -3,15 +3,15 @@ ghost use mathlib.Core.Path.{_≡_};
 ghost use Prim.Native.Nat.{_^_, _<_};
 ghost use lib.ListN.{length};
 ghost use lib.Ieee.{binary32};
-ghost use Rattle.primitives.specs.Values as Shapes;
+ghost use Rattle.vec3.specs.Values as Shapes;
 ghost use Rattle.spec_tree.specs.Splits as Splits;
 ghost use Rattle.spec_tree.specs.Area as Area;
 ghost use Rattle.splits.specs.Values as Values;
 use crate::buckets::Buckets;
 use crate::table::box_at;
 use crate::table::centre_on;
-use primitives::box3::offset_on;
-use primitives::vec3::Axis;
+use box3::offset_on;
+use vec3::Axis;
 
 // 12 times the offset, cut to a whole number, at most 11: a NaN and what is below zero are 0.
 fn bucket_for(offset: f32) -> usize

@@ -2,10 +2,10 @@
 ghost use mathlib.Core.Path.{_≡_};
 ghost use Prim.Native.Nat.{_+_, _^_, _<_};
 ghost use lib.Ieee.{binary32};
-ghost use Rattle.primitives.specs.Values as Shapes;
+ghost use Rattle.box3.specs.Values as Shapes;
 ghost use Rattle.spec_tree.specs.Buckets as Spec;
 ghost use Rattle.splits.specs.Values as Values;
-use primitives::box3::Box3;
+use box3::Box3;
 
 pub struct Bucket {
     pub count: u32,

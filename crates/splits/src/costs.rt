@@ -2,13 +2,13 @@
 ghost use mathlib.Core.Path.{_≡_};
 ghost use Prim.Native.Nat.{_<_};
 ghost use lib.Ieee.{binary32};
-ghost use Rattle.primitives.specs.Values as Shapes;
+ghost use Rattle.box3.specs.Values as Shapes;
 ghost use Rattle.spec_tree.specs.Buckets as Spec;
 ghost use Rattle.spec_tree.specs.Area as Area;
 ghost use Rattle.splits.specs.Values as Values;
 use crate::buckets::Bucket;
 use crate::buckets::Buckets;
-use primitives::box3::Box3;
+use box3::Box3;
 
 // The first smallest of the costs seen so far, and whether each was a number.
 pub struct Cheapest {

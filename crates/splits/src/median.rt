@@ -3,7 +3,7 @@ ghost use mathlib.Core.Path.{_≡_};
 ghost use Prim.Native.Nat.{_≤_, _<_};
 ghost use lib.ListN.{length};
 ghost use lib.Ieee.{binary32};
-ghost use Rattle.primitives.specs.Values as Shapes;
+ghost use Rattle.plane3.specs.Values as Shapes;
 ghost use Rattle.spec_tree.specs.Splits as Splits;
 ghost use Rattle.spec_tree.specs.Median as Median;
 ghost use Rattle.splits.specs.Values as Values;
@@ -11,10 +11,10 @@ use crate::split::Split;
 use crate::table::box_at;
 use crate::table::centre_on;
 use crate::table::union_of;
-use primitives::box3::Box3;
-use primitives::plane3::Plane3;
-use primitives::plane3::unit_of;
-use primitives::vec3::Axis;
+use box3::Box3;
+use plane3::Plane3;
+use plane3::unit_of;
+use vec3::Axis;
 
 // The plane across the axis, at the mean of the centres of two triangles' boxes.
 fn plane_between(bounds: &[f32], axis: Axis, above: u32, below: u32) -> Plane3

@@ -6,11 +6,11 @@ ghost use lib.ListN.{length};
 ghost use lib.Ieee.{binary32};
 ghost use Rattle.spec_shapes.specs.Points as Points;
 ghost use Rattle.spec_shapes.specs.Boxes as Boxes;
-ghost use Rattle.primitives.specs.Values as Shapes;
+ghost use Rattle.box3.specs.Values as Shapes;
 ghost use Rattle.spec_tree.specs.Splits as Splits;
-use primitives::box3::Box3;
-use primitives::vec3::Axis;
-use primitives::vec3::Vec3;
+use box3::Box3;
+use vec3::Axis;
+use vec3::Vec3;
 
 fn point_at(bounds: &[f32], at: usize) -> Vec3
     requires { ⌜ at + 3 ≤ length (now bounds) ⌝ }

@@ -3,7 +3,7 @@ ghost use mathlib.Core.Path.{_≡_};
 ghost use lib.ListN.{length};
 ghost use lib.Ieee.{binary32};
 ghost use Rattle.lists.specs.Values as Lists;
-ghost use Rattle.primitives.specs.Values as Shapes;
+ghost use Rattle.vec3.specs.Values as Shapes;
 ghost use Rattle.aabb_build.specs.Values as Builds;
 ghost use Rattle.spec_tree.specs.Refusals as Trees;
 ghost use Rattle.spec_angles.specs.Windings as Windings;
@@ -18,7 +18,7 @@ use lists::points::point_at;
 use lists::refusal::Verdict;
 use lists::triangles::triangle_at;
 use lists::triangles::triangles_refusal;
-use primitives::vec3::Vec3;
+use vec3::Vec3;
 
 fn one_passed(verdict: Verdict) -> u32
     ensures { λ r. ⌜ r ≡ Told.onePassed (Lists.asVerdict verdict) ⌝ }

@@ -1,6 +1,6 @@
 -- A leaf found, the leaves counted and an entry found are fixed by what they stand for. Assumes nothing.
 use mathlib.Core.Path.{_≡_, refl, sym, ap, _∙_}
-use Rattle.primitives.proofs.Unique.{backBox}
+use Rattle.box3.proofs.Unique.{backBox}
 use Rattle.spec_tree.specs.Leaves as Leaves
 use Rattle.traverse.specs.declared.leaf.EntryFound.{EntryFound}
 use Rattle.traverse.specs.declared.leaf.EntryFound.the-variants as Entry

@@ -1,5 +1,5 @@
 -- The program's values as the definitions' own. Definitions only.
-use Rattle.primitives.specs.Values.{asBox}
+use Rattle.box3.specs.Values.{asBox}
 use Rattle.spec_tree.specs.Leaves as Leaves
 use Rattle.traverse.specs.declared.leaf.EntryFound.{EntryFound}
 use Rattle.traverse.specs.declared.leaf.EntryFound.the-variants as Entry

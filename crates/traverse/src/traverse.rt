@@ -10,8 +10,8 @@ use aabb_tree::nodes::left_at;
 use aabb_tree::nodes::node_box;
 use aabb_tree::nodes::right_at;
 use aabb_tree::refusals::check;
+use box3::Box3;
 use lists::refusal::Verdict;
-use primitives::box3::Box3;
 
 // A leaf's triangles are the order list's entries from `first` to `last`, the end not included.
 pub enum LeafFound {

@@ -3,7 +3,7 @@ ghost use mathlib.Core.Path.{_≡_};
 ghost use Prim.Native.Nat.{_≤_};
 ghost use lib.ListN.{length};
 ghost use lib.Ieee.{binary32};
-ghost use Rattle.primitives.specs.Values as Shapes;
+ghost use Rattle.vec3.specs.Values as Shapes;
 ghost use Rattle.lists.specs.Values as Values;
 ghost use Rattle.spec_lists.specs.Reading as Reading;
 ghost use Rattle.spec_angles.specs.Windings as Windings;
@@ -15,8 +15,8 @@ use lists::refusal::room_refusal;
 use lists::triangles::triangle_at;
 use lists::triangles::triangle_count;
 use lists::triangles::triangles_refusal;
-use primitives::vec3::Vec3;
 use solid_angle::solid_angle;
+use vec3::Vec3;
 
 // The sum of the triangles' solid angles, in the list's order, over 4 * PI.
 pub fn winding_number(triangles: &[f32], q: Vec3) -> f32

@@ -5,7 +5,7 @@ use mathlib.Core.Path.{refl}
 use native.Mathlib.Omega.{arith}
 use lib.ListN.{length-drop, length-take}
 use lib.Ieee.{binary32}
-use Rattle.primitives.specs.Values.{asAxis}
+use Rattle.vec3.specs.Values.{asAxis}
 use Rattle.spec_tree.proofs.SplitTable.{place-below}
 use Rattle.spec_build.proofs.Tabling.{centres-put}
 use borrow.Author.Needs.{needs}

@@ -4,7 +4,7 @@ use Prim.Native.Nat.{ℕ, _-_}
 use mathlib.Core.List.{[], _∷_}
 use native.Mathlib.Omega.{arith}
 use lib.Ieee.{binary32}
-use Rattle.primitives.specs.Values.{asAxis}
+use Rattle.vec3.specs.Values.{asAxis}
 use Rattle.spec_tables.proofs.Runs.{Run, run-start, run-end}
 use Rattle.spec_tree.specs.Splits.{boxIn}
 use Rattle.spec_build.specs.Tries.{centreOn}

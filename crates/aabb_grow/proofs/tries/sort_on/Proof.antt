@@ -2,7 +2,7 @@
 -- Assumes nothing.
 use Prim.Native.Nat.{_+_, _-_}
 use native.Mathlib.Omega.{arith}
-use Rattle.primitives.specs.Values.{asAxis}
+use Rattle.vec3.specs.Values.{asAxis}
 use Rattle.spec_tree.proofs.SplitTable.{place-below}
 use Rattle.aabb_grow.proofs.Sorting.{sort-asks, sort-gives}
 use borrow.Author.Needs.{needs}

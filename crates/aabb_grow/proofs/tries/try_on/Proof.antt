@@ -1,7 +1,7 @@
 -- `aabb_grow::try_on` meets its contract: the part is sorted, and the rule is asked of it.
 -- Assumes nothing.
 use lib.Ieee.{binary32}
-use Rattle.primitives.specs.Values.{asAxis, asBox}
+use Rattle.box3.specs.Values.{asAxis, asBox}
 use Rattle.spec_build.proofs.Trying.{try-sort-asks, try-sorted, try-rule-asks, try-gives}
 use borrow.Author.Needs.{needs}
 use Rattle.aabb_grow.proofs.tries.try_on.Statement.{statement}

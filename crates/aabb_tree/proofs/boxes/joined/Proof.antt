@@ -4,7 +4,7 @@ use mathlib.Core.Path.{_≡_, ap, _∙_}
 use Prim.Native.Nat.{_-_}
 use native.Mathlib.Omega.{arith}
 use lib.ListN.{length, drop}
-use Rattle.primitives.specs.Values.{asBox}
+use Rattle.box3.specs.Values.{asBox}
 use Rattle.spec_shapes.specs.Boxes.{union}
 use Rattle.spec_lists.specs.Reading.{boxAt}
 use Rattle.spec_lists.proofs.Reading.{triangle-inside}

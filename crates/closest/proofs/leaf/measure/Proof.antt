@@ -2,7 +2,7 @@
 use mathlib.Core.Path.{_≡_, ap, _∙_}
 use lib.Ieee.{binary32}
 use Prim.Native.Nat.{ℕ}
-use Rattle.primitives.specs.Values.{asPoint, asTriangle}
+use Rattle.triangle3.specs.Values.{asPoint, asTriangle}
 use Rattle.spec_shapes.specs.Points.{Point, squaredDistance}
 use Rattle.spec_shapes.specs.Triangles.{Triangle, closestPoint, heldFrom, heldPoint, measured}
 use Rattle.spec_lists.specs.Reading.{triangleAt}

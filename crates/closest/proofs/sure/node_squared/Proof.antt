@@ -2,7 +2,7 @@
 -- Assumes nothing.
 use mathlib.Core.Path.{ap, _∙_}
 use lib.Ieee.{binary32}
-use Rattle.primitives.specs.Values.{asPoint}
+use Rattle.vec3.specs.Values.{asPoint}
 use Rattle.spec_shapes.specs.Boxes.{Box, heldSquared}
 use Rattle.spec_search.specs.Sure.{nodeSquared}
 use borrow.Author.Needs.{needs}

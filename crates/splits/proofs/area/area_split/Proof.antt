@@ -2,7 +2,7 @@
 -- Assumes nothing.
 use lib.ListN.{length-map}
 use lib.Ieee.{binary32}
-use Rattle.primitives.specs.Values.{asAxis}
+use Rattle.vec3.specs.Values.{asAxis}
 use Rattle.spec_tree.specs.Splits.{boxesOf}
 use Rattle.spec_tree.specs.Area.{areaSplit}
 use Rattle.spec_tree.proofs.SplitBuckets.{filled-small}

@@ -8,7 +8,7 @@ use borrow.Author.Tests.{lt-ltb, le-ltb}
 use lib.Dec.{ltb}
 use lib.ListN.{length, drop}
 use lib.Ieee.{binary32}
-use Rattle.primitives.specs.Values.{asAxis}
+use Rattle.vec3.specs.Values.{asAxis}
 use Rattle.spec_tree.specs.Splits.{boxIn, boxesOf}
 use Rattle.spec_tree.specs.Area.{bucketBetween, firstLater}
 use Rattle.spec_tree.proofs.SplitArea.{looking-finds, looking-goes-on, looking-ends}

@@ -9,7 +9,7 @@ use lib.ListN.{length, drop}
 use lib.Ieee.{binary32, ofBits, neg}
 use Rattle.spec_numbers.specs.Values as Values
 use Rattle.spec_numbers.specs.Hold.{smaller, larger}
-use Rattle.primitives.specs.Values.{asAxis}
+use Rattle.vec3.specs.Values.{asAxis}
 use Rattle.spec_tree.specs.Splits.{boxIn, boxesOf}
 use Rattle.spec_tree.proofs.SplitArea.{lowerEnd, upperEnd, lower-end, upper-end}
 use Rattle.spec_tree.proofs.SplitTurns.{fold-on-named, fold-ended-named}

@@ -5,7 +5,7 @@ use native.Mathlib.Omega.{arith}
 use borrow.Author.Needs.{needs}
 use lib.ListN.{length}
 use lib.Ieee.{binary32}
-use Rattle.primitives.specs.Values.{asAxis, asBox}
+use Rattle.box3.specs.Values.{asAxis, asBox}
 use Rattle.spec_tree.specs.Splits.{boxIn}
 use Rattle.spec_tree.specs.Area.{bucketBetween}
 use Rattle.spec_tree.proofs.SplitBuckets.{Filling, filling-starts, filling-small, filling-goes-on, filling-ends}

@@ -6,7 +6,7 @@ use native.Mathlib.Omega.{arith}
 use borrow.Author.Needs.{needs}
 use lib.ListN.{length, getD, length-set}
 use lib.Ieee.{binary32, nan}
-use Rattle.primitives.specs.Values.{asBox}
+use Rattle.box3.specs.Values.{asBox}
 use Rattle.spec_tree.specs.Buckets.{bucketCount}
 use Rattle.spec_tree.specs.Area.{costAt, costs}
 use Rattle.spec_tree.proofs.SplitBuckets.{Merging, merging-starts, merging-fits, merging-goes-on, merging-ends}

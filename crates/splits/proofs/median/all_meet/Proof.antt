@@ -7,7 +7,7 @@ use borrow.Author.Needs.{needs}
 use lib.ListN.{length, drop}
 use lib.Ieee.{binary32}
 use Rattle.spec_shapes.specs.Planes.{meetsBox}
-use Rattle.primitives.specs.Values.{asPlane}
+use Rattle.plane3.specs.Values.{asPlane}
 use Rattle.spec_tree.specs.Splits.{boxIn, boxesOf}
 use Rattle.spec_tree.specs.Median.{allMeet}
 use Rattle.spec_tree.proofs.SplitMedian.{not-true, not-false, meeting-stops, meeting-goes-on, meeting-ends}

@@ -8,7 +8,7 @@ use borrow.Author.Needs.{needs}
 use lib.ListN.{length, drop}
 use lib.Ieee.{binary32}
 use Rattle.spec_shapes.specs.Boxes.{Box, union}
-use Rattle.primitives.specs.Values.{asBox}
+use Rattle.box3.specs.Values.{asBox}
 use Rattle.spec_tree.specs.Splits.{boxIn, boxesOf, unionOf}
 use Rattle.spec_tree.proofs.SplitTable.{union-from-first}
 use Rattle.spec_tree.proofs.SplitTurns.{fold-on-named, fold-ended-named}

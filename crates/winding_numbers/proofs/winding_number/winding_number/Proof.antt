@@ -4,7 +4,7 @@ use Prim.Native.Nat.{_-_}
 use native.Mathlib.Omega.{arith}
 use lib.Ieee.{binary32, ofBits}
 use borrow.Author.Needs.{needs}
-use Rattle.primitives.specs.Values.{asPoint}
+use Rattle.vec3.specs.Values.{asPoint}
 use Rattle.spec_lists.specs.Reading.{triangleCount}
 use Rattle.spec_angles.proofs.Windings.{Summed, sum-start, sum-more, sum-end}
 use Rattle.winding_numbers.proofs.winding_number.winding_number.Statement.{statement}
