@@ -1,9 +1,4 @@
-// Where to cut a part of the order list into two. Each rule's contract is an equation with a
-// definition of `spec_tree` over the boxes of the part's triangles, in its order.
-pub mod area;
-pub mod bucketing;
-pub mod buckets;
-pub mod costs;
-pub mod median;
+// What both split rules stand on: the table of the triangles' boxes, and what a rule answers. Each
+// contract is an equation with a definition of `spec_tree`.
 pub mod split;
 pub mod table;

@@ -1,0 +1,53 @@
+-- `area_rule::area_split` meets its contract: what each call ensures, put in. The buckets' counts are small, since the part is short.
+-- Assumes nothing.
+use lib.ListN.{length-map}
+use lib.Ieee.{binary32}
+use Rattle.vec3.specs.Values.{asAxis}
+use Rattle.spec_tree.specs.Splits.{boxesOf}
+use Rattle.spec_tree.specs.Area.{areaSplit}
+use Rattle.spec_tree.proofs.SplitBuckets.{filled-small}
+use Rattle.spec_tree.proofs.SplitArea.{bucket-on-axis}
+use borrow.Author.Needs.{needs}
+use Rattle.area_rule.proofs.area.area_split.Statement.{statement}
+use Rattle.area_rule.proofs.area.area_split.Tie as tie
+
+centre-span-requires : tie.Need-centre-span-requires
+centre-span-requires c κs = search needs
+
+fill-requires : tie.Need-fill-requires
+fill-requires c κs = search needs
+
+costs-of-requires : tie.Need-costs-of-requires
+costs-of-requires c κs =
+    let args = c .before .before .before .before .args in
+    rw (c .fill .ensures) (filled-small binary32 _ (boxesOf (args .bounds .now) (args .part .now)) (rw length-map (c .before .before .before .before .pre .0)))
+
+cheapest-of-requires : tie.Need-cheapest-of-requires
+cheapest-of-requires c κs = search needs
+
+cut-by-requires : tie.Need-cut-by-requires
+cut-by-requires c κs = search needs
+
+returns : tie.Need-returns
+unfolding areaSplit
+returns c =
+    let args = c .before .before .before .before .before .before .before .args in
+    let within = c .before .before .before .before .centre-span in
+    rw (
+      c .cut-by .ensures,
+      c .before .cheapest-of .ensures,
+      c .before .before .costs-of .ensures,
+      c .before .before .before .fill .ensures,
+      bucket-on-axis binary32 (asAxis (args .axis)) _ (within .result .lo) (within .result .hi) (within .ensures),
+    )
+
+pub area-split-spec : {M : Type 1} → statement M
+area-split-spec =
+    tie.close
+    (tie.spec
+    centre-span-requires
+    fill-requires
+    costs-of-requires
+    cheapest-of-requires
+    cut-by-requires
+    returns)
