@@ -6,9 +6,9 @@ ghost use Rattle.box3.specs.Values as Shapes;
 ghost use Rattle.spec_lists.specs.Reading as Reading;
 ghost use Rattle.spec_tree.specs.Trees as Trees;
 ghost use Rattle.spec_tree.specs.Order as Order;
-use crate::nodes::wide;
 use box3::Box3;
 use lists::triangles::box_at;
+use tree_lists::nodes::wide;
 
 // The first triangle's box joined with those of the rest, from the left.
 pub fn joined(triangles: &[f32], part: &[u32]) -> Box3

@@ -11,17 +11,17 @@ ghost use Rattle.spec_tree.specs.Trees as Trees;
 ghost use Rattle.aabb_tree.specs.Values as Values;
 ghost use Rattle.aabb_tree.specs.Asked as Asked;
 use crate::boxes::joined;
-use crate::nodes::is_left_before;
-use crate::nodes::is_right_before;
-use crate::nodes::kind_at;
-use crate::nodes::left_at;
-use crate::nodes::node_box;
-use crate::nodes::right_at;
-use crate::permutation::is_permutation;
 use box3::Box3;
 use floats::same;
 use lists::limits;
 use lists::triangles::triangle_count;
+use tree_lists::nodes::is_left_before;
+use tree_lists::nodes::is_right_before;
+use tree_lists::nodes::kind_at;
+use tree_lists::nodes::left_at;
+use tree_lists::nodes::node_box;
+use tree_lists::nodes::right_at;
+use tree_lists::permutation::is_permutation;
 use vec3::Vec3;
 
 // What a subtree is found to be: wrong, or a listing with this first node, whose triangles begin at this entry of the order list, under this box.

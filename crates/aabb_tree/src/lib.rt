@@ -1,7 +1,4 @@
 // The tree of boxes over a triangle list. Each contract is an equation with a definition of `spec_tree`.
 pub mod boxes;
 pub mod check;
-pub mod depth;
-pub mod nodes;
-pub mod permutation;
 pub mod refusals;

@@ -16,8 +16,8 @@ use crate::answer::Hit;
 use crate::kept::meet;
 use crate::kept::offer;
 use crate::kept::point_of;
-use aabb_tree::nodes::wide;
 use lists::triangles::triangle_at;
+use tree_lists::nodes::wide;
 use vec3::Vec3;
 
 // A triangle's point, with how far it is from p.

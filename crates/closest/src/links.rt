@@ -2,9 +2,9 @@
 ghost use Prim.Native.Nat.{_+_, _*_, _≤_};
 ghost use lib.ListN.{length};
 ghost use Rattle.spec_search.specs.Safe as Safe;
-use aabb_tree::nodes::kind_at;
-use aabb_tree::nodes::left_at;
-use aabb_tree::nodes::right_at;
+use tree_lists::nodes::kind_at;
+use tree_lists::nodes::left_at;
+use tree_lists::nodes::right_at;
 
 // A node's three numbers.
 pub struct Links {

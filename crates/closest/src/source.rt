@@ -16,8 +16,8 @@ use crate::kept::answer_of;
 use crate::kept::point_of;
 use crate::leaf::measure_leaf;
 use crate::links::links_of;
-use aabb_tree::nodes::node_box;
 use lists::limits;
+use tree_lists::nodes::node_box;
 
 // Whether a child enters: its box holds the point, or is nearer than the limit.
 fn does_enter(boxes: &[f32], node: usize, asked: &[f32; 4]) -> bool

@@ -18,8 +18,8 @@ use crate::kept::does_count;
 use crate::kept::point_of;
 use crate::leaf::measure_leaf;
 use crate::links::links_of;
-use aabb_tree::nodes::node_box;
 use lists::limits;
+use tree_lists::nodes::node_box;
 use vec3::Vec3;
 
 // A box at this squared distance is passed over: it does not count, or is above the best so far.

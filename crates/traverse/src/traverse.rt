@@ -5,13 +5,13 @@ ghost use Prim.Native.Nat.{_+_, _*_, _≤_};
 ghost use lib.ListN.{length};
 ghost use Rattle.spec_tree.specs.Leaves as Leaves;
 ghost use Rattle.traverse.specs.Values as Values;
-use aabb_tree::nodes::kind_at;
-use aabb_tree::nodes::left_at;
-use aabb_tree::nodes::node_box;
-use aabb_tree::nodes::right_at;
 use aabb_tree::refusals::check;
 use box3::Box3;
 use lists::refusal::Verdict;
+use tree_lists::nodes::kind_at;
+use tree_lists::nodes::left_at;
+use tree_lists::nodes::node_box;
+use tree_lists::nodes::right_at;
 
 // A leaf's triangles are the order list's entries from `first` to `last`, the end not included.
 pub enum LeafFound {

@@ -18,11 +18,11 @@ use Rattle.aabb_tree.proofs.check.check_node.Kinds as check-node-kinds
 use Rattle.aabb_tree.proofs.check.+check_left+check_node.Lts-check_node as check-node-lts
 use Rattle.aabb_tree.proofs.check.check_leaf.Reads as check-leaf-reads
 use Rattle.aabb_tree.proofs.check.left_found.Reads as left-found-reads
-use Rattle.aabb_tree.proofs.nodes.is_left_before.Reads as is-left-before-reads
-use Rattle.aabb_tree.proofs.nodes.is_right_before.Reads as is-right-before-reads
-use Rattle.aabb_tree.proofs.nodes.kind_at.Reads as kind-at-reads
-use Rattle.aabb_tree.proofs.nodes.left_at.Reads as left-at-reads
-use Rattle.aabb_tree.proofs.nodes.right_at.Reads as right-at-reads
+use Rattle.tree_lists.proofs.nodes.is_left_before.Reads as is-left-before-reads
+use Rattle.tree_lists.proofs.nodes.is_right_before.Reads as is-right-before-reads
+use Rattle.tree_lists.proofs.nodes.kind_at.Reads as kind-at-reads
+use Rattle.tree_lists.proofs.nodes.left_at.Reads as left-at-reads
+use Rattle.tree_lists.proofs.nodes.right_at.Reads as right-at-reads
 use Rattle.aabb_tree.proofs.check.+check_left+check_node.{statement}
 use Rattle.aabb_tree.proofs.check.+check_left+check_node.Tie.{close}
 

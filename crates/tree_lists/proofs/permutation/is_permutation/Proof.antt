@@ -1,12 +1,12 @@
--- `aabb_tree::is_permutation` meets its contract: a list of another length is refused, and a fresh array of marks serves for the rest.
+-- `tree_lists::is_permutation` meets its contract: a list of another length is refused, and a fresh array of marks serves for the rest.
 -- Assumes nothing.
 use lib.ListN.{length}
 use borrow.Author.Tests.{ne-eqb}
 use Rattle.spec_tree.specs.Order.{permutes}
 use Rattle.spec_tree.proofs.Marks.{all-unmarked}
 use borrow.Author.Needs.{needs}
-use Rattle.aabb_tree.proofs.permutation.is_permutation.Statement.{statement}
-use Rattle.aabb_tree.proofs.permutation.is_permutation.Tie as tie
+use Rattle.tree_lists.proofs.permutation.is_permutation.Statement.{statement}
+use Rattle.tree_lists.proofs.permutation.is_permutation.Tie as tie
 
 returns : tie.Need-returns
 unfolding permutes

@@ -5,15 +5,15 @@ use Rattle.spec_tree.proofs.Depth.{depth-most, depth-none, depth-leaf, depth-br
 use Prim.Native.Nat.{ℕ, _-_, _<_}
 use borrow.Fn.Kinds.{In}
 use borrow.Fn.PlainCycle.{Measures, is, falls, and}
-use Rattle.aabb_tree.proofs.depth.depth_at.Reads as depth-at
-use Rattle.aabb_tree.proofs.depth.depth_at.Kinds as depth-at-kinds
-use Rattle.aabb_tree.proofs.depth.+depth_at.Lts-depth_at as depth-at-lts
-use Rattle.aabb_tree.proofs.depth.deeper.Reads as deeper-reads
-use Rattle.aabb_tree.proofs.nodes.kind_at.Reads as kind-at-reads
-use Rattle.aabb_tree.proofs.nodes.left_at.Reads as left-at-reads
-use Rattle.aabb_tree.proofs.nodes.right_at.Reads as right-at-reads
-use Rattle.aabb_tree.proofs.depth.+depth_at.{statement}
-use Rattle.aabb_tree.proofs.depth.+depth_at.Tie.{close}
+use Rattle.tree_lists.proofs.depth.depth_at.Reads as depth-at
+use Rattle.tree_lists.proofs.depth.depth_at.Kinds as depth-at-kinds
+use Rattle.tree_lists.proofs.depth.+depth_at.Lts-depth_at as depth-at-lts
+use Rattle.tree_lists.proofs.depth.deeper.Reads as deeper-reads
+use Rattle.tree_lists.proofs.nodes.kind_at.Reads as kind-at-reads
+use Rattle.tree_lists.proofs.nodes.left_at.Reads as left-at-reads
+use Rattle.tree_lists.proofs.nodes.right_at.Reads as right-at-reads
+use Rattle.tree_lists.proofs.depth.+depth_at.{statement}
+use Rattle.tree_lists.proofs.depth.+depth_at.Tie.{close}
 
 abbrev μ-depth-at : Measures 1 depth-at-kinds.ps ℕ
 μ-depth-at κs a = a .1 .0

@@ -1,4 +1,4 @@
--- `aabb_tree::marks_all` meets its contract: the first i entries are below n and distinct, and those that occur among them are marked.
+-- `tree_lists::marks_all` meets its contract: the first i entries are below n and distinct, and those that occur among them are marked.
 -- Assumes nothing.
 use mathlib.Core.Path.{_≡_, refl, sym}
 use Prim.Native.Nat.{_-_}
@@ -6,8 +6,8 @@ use native.Mathlib.Omega.{arith}
 use lib.ListN.{length, length-set}
 use Rattle.spec_tree.proofs.Marks.{Marked, marked-none, marked-more, marked-large, marked-twice, marked-all}
 use borrow.Author.Needs.{needs}
-use Rattle.aabb_tree.proofs.permutation.marks_all.Statement.{statement}
-use Rattle.aabb_tree.proofs.permutation.marks_all.Tie as tie
+use Rattle.tree_lists.proofs.permutation.marks_all.Statement.{statement}
+use Rattle.tree_lists.proofs.permutation.marks_all.Tie as tie
 
 abbrev Inv-loop : tie.InvT-loop
 Inv-loop n order seen₀ i₀ seen i = Marked n order seen i × (length seen ≡ length seen₀)

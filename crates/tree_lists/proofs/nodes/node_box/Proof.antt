@@ -1,8 +1,8 @@
--- `aabb_tree::node_box` meets its contract: each corner is what `point_from` ensures.
+-- `tree_lists::node_box` meets its contract: each corner is what `point_from` ensures.
 -- Assumes nothing.
 use borrow.Author.Needs.{needs}
-use Rattle.aabb_tree.proofs.nodes.node_box.Statement.{statement}
-use Rattle.aabb_tree.proofs.nodes.node_box.Tie as tie
+use Rattle.tree_lists.proofs.nodes.node_box.Statement.{statement}
+use Rattle.tree_lists.proofs.nodes.node_box.Tie as tie
 
 mul-point-from : tie.Need-mul-point-from
 mul-point-from c = search needs
