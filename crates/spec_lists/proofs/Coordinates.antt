@@ -2,7 +2,7 @@
 use mathlib.Core.Path.{_≡_}
 use mathlib.Core.Bool.{Bool, true, false, not, cond}
 use mathlib.Core.List.{List, [], _∷_}
-use Prim.Native.Nat.{ℕ, zero, suc, _+_, _≤_, _<_, zero-le}
+use Prim.Native.Nat.{ℕ, zero, suc, _+_, _≤_, _<_}
 use native.Mathlib.Nat.{lt-trans}
 use native.Mathlib.Decide.{decLt}
 use native.Mathlib.Numerals.{add-one}
@@ -39,15 +39,6 @@ coordinate-plus-zero (fin s zero e) h = tt
 coordinate-plus-zero (fin s (suc m) e) h = h
 
 -- ---- the first bad number of a list
-pub first-bad-at-most : (xs : List Float) → firstBad xs ≤ length xs
-unfolding firstBad
-first-bad-at-most [] = zero-le
-first-bad-at-most (x ∷ xs) = go (isCoordinate x) (first-bad-at-most xs)
-  where
-    go : (b : Bool) → firstBad xs ≤ length xs → cond b (suc (firstBad xs)) 0 ≤ suc (length xs)
-    go true h = omega arith
-    go false h = zero-le
-
 pub good-before : (xs : List Float) (i : ℕ) → i < firstBad xs → T (isCoordinate (getD xs i nan))
 unfolding firstBad
 good-before [] i h = absurd (omega arith)

@@ -5,15 +5,13 @@ use mathlib.Core.List.{List}
 use Prim.Native.Nat.{ℕ, _/_, _%_, _≤_}
 use native.Mathlib.Omega.{arith}
 use borrow.Author.Tests.{ltb-true, ltb-false, eqb-true, eqb-false, lt-ltb, le-ltb, le-leb, eq-eqb, ne-eqb}
-use lib.Dec.{T, leb, ltb, eqb, leb→le}
+use lib.Dec.{leb, ltb, eqb, leb→le}
 use lib.ListN.{length}
 use lib.Ieee.{Float, le}
 use lib.Ieee.Bits.{is-true}
 use lib.Ieee.Fits.{and-l, and-r}
-use lib.Ieee.Scale.{finite}
 use Rattle.spec_numbers.specs.Values.{zero}
 use Rattle.spec_numbers.proofs.Tests.{passed}
-use Rattle.spec_numbers.proofs.Order.{finite-between}
 use Rattle.spec_lists.specs.Limits.{mostTriangles, longestDistance, deepest, mostLeafMinimum}
 use Rattle.spec_lists.specs.Reading.{triangleCount, pointCount}
 use Rattle.spec_lists.specs.Refusals.{passes, refused, firstBad, raggedRefusal, noneRefusal, tooManyRefusal, coordinateRefusal, trianglesRefusal, Settings, areSettings, settingsRefusal, roomRefusal, pointsRefusal, distanceRefusal, within, isDistance}
@@ -136,6 +134,3 @@ module _ (d : Float) where
   pub distance-passes : GoodDistance d → distanceRefusal d ≡ passes
   unfolding distanceRefusal isDistance
   distance-passes g = rw (is-true (le zero d) (g .low), is-true (le d longestDistance) (g .high))
-
-  pub distance-finite : GoodDistance d → T (finite d)
-  distance-finite g = finite-between zero d longestDistance tt tt (g .low) (g .high)

@@ -1,39 +1,16 @@
--- The order of floats: `le` is a total order on what is no NaN, up to `eq`, with `lt` for its strict part, and both are false at a NaN. Infinities are included.
--- Assumes nothing.
-use mathlib.Core.Path.{_≡_, refl}
+-- The order of floats: `le` is a total order on what is no NaN, up to `eq`, with `lt` for its strict part; infinities are included. Assumes nothing.
 use mathlib.Core.Logic.{_⊎_, inl, inr}
-use mathlib.Core.Bool.{Bool, true, false, not}
+use mathlib.Core.Bool.{true, false, not}
 use native.Mathlib.Nat.{le-refl, not-le-of-lt}
 use lib.Dec.{T, T-not, not-T}
-use lib.Ieee.{Float, nan, inf, fin, isNan, lt, le, eq}
+use lib.Ieee.{Float, inf, fin, isNan, lt, le, eq}
 use lib.Ieee.Fits.{down-pos}
 use lib.Ieee.Scale.{finite}
 use Rattle.spec_numbers.specs.Values.{Number}
 use Rattle.spec_numbers.proofs.Tests.{or-l, or-elim}
 use Rattle.spec_numbers.proofs.Fraction.{value, at-most-transitive, less-or-at-most, compared}
 
--- ---- at a NaN
-pub nan-not-less : (y : Float) → lt nan y ≡ false
-unfolding lt
-nan-not-less y = refl
-
-pub not-less-nan : (x : Float) → lt x nan ≡ false
-unfolding lt
-not-less-nan nan = refl
-not-less-nan (inf s) = refl
-not-less-nan (fin s m e) = refl
-
-pub nan-not-le : (y : Float) → le nan y ≡ false
-unfolding le
-nan-not-le y = refl
-
-pub not-le-nan : (x : Float) → le x nan ≡ false
-unfolding le
-not-le-nan nan = refl
-not-le-nan (inf s) = refl
-not-le-nan (fin s m e) = refl
-
--- what compares is a number
+-- ---- what compares is a number
 pub number-left : (x y : Float) → T (le x y) → Number x
 unfolding le isNan
 number-left (inf s) y h = tt
@@ -110,15 +87,6 @@ lt-or-le (fin s m e) (fin t n d) h k = elim (less-or-at-most (value (fin s m e))
   | inl l ↦ inl (compared (fin s m e) (fin t n d) tt tt .less→lt l)
   | inr l ↦ inr (compared (fin t n d) (fin s m e) tt tt .at-most→le l)
 ]
-
-pub lt-is-not-le : (x y : Float) → Number x → Number y → lt x y ≡ not (le y x)
-lt-is-not-le x y h k = go (lt x y) (le y x) (lt-or-le x y h k) (lt→not-le x y)
-  where
-    go : (a b : Bool) → T a ⊎ T b → (T a → T b → ⊥) → a ≡ not b
-    go true true o n = absurd (n tt tt)
-    go true false o n = refl
-    go false true o n = refl
-    go false false o n = elim o [ inl p ↦ absurd p | inr p ↦ absurd p ]
 
 pub not-lt→le : (x y : Float) → Number x → Number y → T (not (lt x y)) → T (le y x)
 not-lt→le x y h k n = elim (lt-or-le x y h k) [ inl l ↦ absurd (T-not (lt x y) n l) | inr l ↦ l ]

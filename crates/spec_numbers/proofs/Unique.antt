@@ -1,5 +1,4 @@
--- Two floats that fit one format, are equal in value and have one sign are the same data. So the order is antisymmetric up to the sign of zero.
--- Assumes nothing.
+-- Two floats that fit one format, are equal in value and have one sign are the same data. Assumes nothing.
 use mathlib.Core.Path.{_≡_, refl, sym, ap, _∙_, subst}
 use mathlib.Core.Bool.{Bool, true, false, not, _&&_, _||_, Bool·beq}
 use Prim.Native.Nat.{ℕ, zero, suc, _+_, _*_, _%_, _^_, _≤_, _<_}
@@ -8,11 +7,10 @@ use native.Mathlib.Omega.{arith}
 use lib.IntN.{ℤ, pos, negsuc}
 use lib.Dec.{T, T-not, leb, ltb, eqb, eqb→eq, ltb→lt, leb→le}
 use lib.Pow.{pow-add, pow-pos}
-use lib.Ieee.{Float, inf, fin, Format, prec, emax, low, up, down, level, le, eq, fits}
+use lib.Ieee.{Float, inf, fin, Format, prec, emax, low, up, down, level, eq, fits}
 use lib.Ieee.Fits.{and-i, and-l, and-r, eq→eqb, down-pos, up-pos}
 use Rattle.spec_numbers.specs.Values.{zero as +0, negative}
 use Rattle.spec_numbers.proofs.Tests.{or-r}
-use Rattle.spec_numbers.proofs.Order.{antisymmetric}
 
 -- ---- an odd number times a power of two shows both
 odd-power : (m n a b : ℕ) → m % 2 ≡ 1 → n % 2 ≡ 1 → m * 2 ^ a ≡ n * 2 ^ b → (m ≡ n) × (a ≡ b)
@@ -96,9 +94,6 @@ unique f (inf s) (inf t) h k e r = ap inf r
 unique f (fin s m e) (fin t n d) h k v r =
     subst (λ (u : Bool). T (fits f (fin u n d)) → fin s m e ≡ fin u n d) r
     (λ k'. unique-finite f s m e n d h k' (eqb→eq (m * up e * down d) (n * up d * down e) (and-l (eqb (m * up e * down d) (n * up d * down e)) (Bool·beq s t || eqb (m * up e * down d) 0) v))) k
-
-pub antisymmetric-as-data : (f : Format) (x y : Float) → T (fits f x) → T (fits f y) → T (le x y) → T (le y x) → negative x ≡ negative y → x ≡ y
-antisymmetric-as-data f x y h k l r = unique f x y h k (antisymmetric x y l r)
 
 -- unlike signs are only those of zeros
 agree : (s : Bool) (a : ℕ) (t : Bool) (b : ℕ) → T (level s a t b) → (a ≡ 0 → ⊥) → s ≡ t

@@ -84,9 +84,6 @@ module _ (f : Format) (t : Triangle) (F : FiniteCorners t) (p : Point) where
   pub held-point-no-minus-zero : (i : Axis) → T (eq (on i (heldPoint f t p)) zero) → on i (heldPoint f t p) ≡ zero
   held-point-no-minus-zero i = rw (held-is, plus-zero-on kept i) (plus-zero-no-minus-zero (on i kept))
 
-  pub held-distance-number : Finite (at p) → Number (squaredDistance f (heldPoint f t p) p)
-  held-distance-number P = squared-number f _ p held-point-finite P
-
   -- no box that holds the triangle's box is farther than the held point
   pub box-is-nearer : Finite (at p) → (b : Box) → Proper b → Contains b (boxOf t) → T (le (heldSquared f b p) (squaredDistance f (heldPoint f t p) p))
   box-is-nearer P b B k = held-in-nearest b B p P f (heldPoint f t p) (contains-inside _ _ _ k held-point-inside)
