@@ -1,6 +1,5 @@
--- Any tree over n triangles, none of its leaves empty and not too deep, is accepted once it is written into lists. A tree that is grown from all n triangles is such a tree. Assumes nothing.
+-- A tree over n triangles, none of its leaves empty and not too deep, is what lists hold once it is written into them. A tree that is grown from all n triangles is such a tree. Assumes nothing.
 use mathlib.Core.Path.{_≡_, refl}
-use mathlib.Core.Bool.{true}
 use mathlib.Core.List.{List, [], _∷_, Permᴰ·refl}
 use Prim.Native.Nat.{ℕ, zero, suc, _+_, _-_, _*_, _≤_, _<_}
 use native.Mathlib.Omega.{arith}
@@ -12,12 +11,11 @@ use Rattle.spec_lists.specs.Limits.{deepest}
 use Rattle.spec_shapes.specs.Boxes.{Box}
 use Rattle.spec_tree.specs.Trees.{Tree, numbers, nodeCount, levels, Filled, linksFrom, boxesOf}
 use Rattle.spec_tree.specs.Order.{upTo, Permutes}
-use Rattle.spec_tree.specs.Accepted.{Listing, accepted}
+use Rattle.spec_tree.specs.Accepted.{Listing}
 use Rattle.spec_tree.specs.Sort.{Each}
 use Rattle.spec_build.specs.Grown.{Tried, grown, Trying}
 use Rattle.spec_tree.proofs.Trees.{links-length, boxes-length, count-most}
 use Rattle.spec_tree.proofs.Order.{permutes-length}
-use Rattle.spec_tree.proofs.Accepted.{listed-accepted}
 use Rattle.spec_tree.proofs.SortEach.{each-append}
 use Rattle.spec_build.proofs.Grown.{grown-permutes, grown-levels, grown-filled}
 
@@ -53,9 +51,6 @@ module _ {n : ℕ} {t : Tree} (h : Whole n t) where
           boxes-are = front-over (6 * nodeCount t) (boxesOf boxAt t) boxes (boxes-length boxAt t);
           shallow = h .shallow;
         }
-
-    pub whole-accepted : accepted boxAt n (take n (over 0 (numbers t) order)) (over 0 (linksFrom 0 0 t) links) (over 0 (boxesOf boxAt t) boxes) (nodeCount t) ≡ true
-    whole-accepted = listed-accepted boxAt n _ _ _ _ t whole-listing
 
 -- ---- a tree that is grown from all of them
 pub each-up-to : (P : ℕ → Type 0) (n : ℕ) → ((k : ℕ) → k < n → P k) → Each P (upTo n)

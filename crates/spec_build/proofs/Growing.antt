@@ -177,9 +177,6 @@ module _ (f : Format) (bounds centres : List Float) (strategy leafMinimum : ℕ)
           -- ---- the left side has grown
           module _ (leftPart mid : List ℕ) (bmid : List Float) (leftRoot leftLevels : ℕ) (leftBox : Box)
               (gl : GrownIs f bounds strategy leafMinimum (left - 1) (take k part′) leftPart entry links mid boxes bmid node leftRoot leftLevels leftBox) where
-            left-tree : Tree
-            left-tree = tree (left - 1) (take k part′)
-
             left-part-long : length leftPart ≡ k
             left-part-long = ap length (gl .order-is) ∙ left-fits .count ∙ left-long
 

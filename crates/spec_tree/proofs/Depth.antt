@@ -1,4 +1,4 @@
--- The depth that is read off the links of an accepted tree is the number of its levels, and what a look down the links meets. Assumes nothing.
+-- The depth that is read off the links of an accepted tree is the number of its levels, and a look down the links meets only nodes that are there. Assumes nothing.
 use mathlib.Core.Path.{_≡_, ap, _∙_}
 use mathlib.Core.Bool.{Bool, true, false}
 use mathlib.Core.Logic.{_⊎_, inl, inr}

@@ -20,7 +20,7 @@ use Rattle.spec_tree.specs.Order.{upTo, permutes, occurs, allBelow, dist
 use Rattle.spec_tree.specs.Accepted.{Listing, accepted}
 use Rattle.spec_tree.specs.Hangs.{Sound}
 use Rattle.spec_tree.specs.Refusals.{treeRefusal, checkRefusal}
-use Rattle.spec_tree.specs.Leaves.{leaves, Leaf, leavesFrom, partOf, oneIf, partsWith, leafNodes, leafAt, leafCount, LeafFound, nothing, found, notSought, kth, leafFrom, NodesThere, soughtIf, leafAnswer, EntryFound, noEntry, notAsked, entryAt, entryAnswer, counted, notCounted, countedIf, countAnswer}
+use Rattle.spec_tree.specs.Leaves.{leaves, Leaf, leavesFrom, partOf, oneIf, partsWith, leafNodes, leafAt, leafCount, LeafFound, nothing, found, notSought, kth, leafFrom, NodesThere, leafAnswer, EntryFound, noEntry, notAsked, entryAt, entryAnswer, counted, notCounted, countedIf, countAnswer}
 use Rattle.spec_tree.proofs.Standing.{Stands, stands-first, stands-second, stands-part}
 use Rattle.spec_tree.proofs.Nodes.{NodeLinks, links-read, box-read}
 use Rattle.spec_tree.proofs.Trees.{root-last}
@@ -28,7 +28,7 @@ use Rattle.spec_tree.proofs.Listed.{Listed, Halves, halves}
 use Rattle.spec_tree.proofs.Order.{occurs-append, permuted-occurs, permutes-test, permutes-length}
 use Rattle.spec_tree.proofs.Accepted.{accepted-listed, listing-stands}
 use Rattle.spec_tree.proofs.Hangs.{listing-sound}
-use Rattle.spec_tree.proofs.Seeking.{other-node, leaf-nodes-then, kth-none, kth-some, found-range}
+use Rattle.spec_tree.proofs.Seeking.{other-node, leaf-nodes-then, kth-none, kth-some}
 
 map-append : {A B : Type 0} (g : A → B) (xs ys : List A) → map g (xs ++ ys) ≡ map g xs ++ map g ys
 map-append g [] ys = refl
@@ -294,15 +294,6 @@ module _ (triangles : List Float) (order links : List ℕ) (boxes : List Float) 
   pub count-made : (n : ℕ) → checkRefusal triangles order links boxes nodes ≡ passes → n ≡ leafCount links nodes → counted n ≡ countAnswer triangles order links boxes nodes
   unfolding countAnswer
   count-made n p q = rw p (ap counted q)
-
-  -- a leaf that is answered has some of the order list
-  pub answered-range : (k : ℕ) (l : Leaf) → leafAnswer triangles order links boxes nodes k ≡ found l → (l .first < l .last) × (l .last ≤ length order)
-  unfolding leafAnswer
-  answered-range k l = at (checkRefusal triangles order links boxes nodes) refl
-    where
-      at : (v : Verdict) → checkRefusal triangles order links boxes nodes ≡ v → soughtIf v (leafFrom links boxes nodes 0 k) ≡ found l → (l .first < l .last) × (l .last ≤ length order)
-      at passes p q = found-range links boxes nodes 0 k l q (triangleCount triangles) order (passed-sound triangles order links boxes nodes p)
-      at (refused number place) p q = absurd (let z : _≡_ {A = ℕ} 0 1 = cc in omega arith)
 
   pub entry-refused : (k i number place : ℕ) → leafAnswer triangles order links boxes nodes k ≡ notSought number place → notAsked number place ≡ entryAnswer triangles order links boxes nodes k i
   unfolding entryAnswer

@@ -23,4 +23,3 @@ pub mod SplitMedian
 pub mod SplitBuckets
 pub mod SplitArea
 pub mod SplitInside
-pub mod SplitSorted

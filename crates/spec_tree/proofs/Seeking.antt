@@ -1,6 +1,5 @@
--- How the leaves are met node by node: what a look for the k-th leaf and a count go on with, what is found, and what comes behind it. Assumes nothing.
+-- How the leaves are met node by node: what a look for the k-th leaf and a count go on with, and that the leaves behind a found one are those from the next node on. Assumes nothing.
 use mathlib.Core.Path.{_≡_, refl, sym, ap, _∙_}
-use mathlib.Core.Logic.{_⊎_, inl, inr}
 use mathlib.Core.Bool.{Bool, true, false}
 use mathlib.Core.List.{List, [], _∷_, _++_, map}
 use Prim.Native.Nat.{ℕ, zero, suc, _+_, _-_, _≤_, _<_}
@@ -11,8 +10,7 @@ use borrow.Author.Tests.{eqb-true, eqb-false, ne-eqb}
 use lib.Dec.{eqb}
 use lib.ListN.{length, getD}
 use lib.Ieee.{Float}
-use Rattle.spec_tree.specs.Trees.{kindAt, leftAt, rightAt}
-use Rattle.spec_tree.specs.Hangs.{LeafRange, ChildrenBefore, Sound}
+use Rattle.spec_tree.specs.Trees.{kindAt}
 use Rattle.spec_tree.specs.Leaves.{Leaf, withLeaf, leafNodes, leafAt, leafCount, nothing, found, kth, leafFrom}
 
 -- ---- the nodes that are leaves
@@ -109,8 +107,6 @@ module _ (links : List ℕ) (boxes : List Float) where
   -- the k-th leaf of so many nodes from this one on: it is one of them, and the leaves behind it are those from the next node on
   pub record FoundAt (node count k : ℕ) (l : Leaf) : Type 0 where
     pub within : l .node < node + count
-    pub kind-is : kindAt links (l .node) ≡ 1
-    pub read-is : leafAt links boxes (l .node) ≡ l
     pub next : (j : ℕ) → kth (among (l .node + 1) (node + count - (l .node + 1))) j ≡ kth (among node count) (k + j + 1)
 
   module _ (node count : ℕ) (l : Leaf) where
@@ -121,8 +117,6 @@ module _ (links : List ℕ) (boxes : List Float) where
         let at : node ≡ l .node = ap (λ (m : Leaf). m .node) same in
         record {
           within = omega arith;
-          kind-is = rw at at p;
-          read-is = rw at at same;
           next = λ j.
               let rest : node + suc count - (l .node + 1) ≡ count = omega arith in
               let next-node : l .node + 1 ≡ suc node = omega arith in
@@ -134,8 +128,6 @@ module _ (links : List ℕ) (boxes : List Float) where
     found-behind k k′ same f =
         record {
           within = omega (arith, f .within);
-          kind-is = f .kind-is;
-          read-is = f .read-is;
           next = λ j. let rest : node + suc count - (l .node + 1) ≡ suc node + count - (l .node + 1) = omega arith in rw rest (f .next j ∙ same j);
         }
 
@@ -168,21 +160,7 @@ module _ (links : List ℕ) (boxes : List Float) (nodes from k : ℕ) (l : Leaf)
       at (yes h) = h
       at (no h) = absurd (let q : nothing ≡ found l = sym (seek-ends links boxes nodes from k (omega arith)) ∙ p in let z : _≡_ {A = ℕ} 0 1 = cc in omega arith)
 
-  pub found-there : l .node < nodes
-  found-there = omega (arith, unfolded .within, before-end)
-
   -- the leaves behind it are those from the next node on
   pub found-next : (j : ℕ) → leafFrom links boxes nodes (l .node + 1) j ≡ leafFrom links boxes nodes from (k + j + 1)
   unfolding leafFrom
   found-next j = let end : from + (nodes - from) ≡ nodes = omega (arith, before-end) in rw end at (unfolded .next j)
-
-  -- its part is some of the order list of sound lists
-  pub found-range : (n : ℕ) (order : List ℕ) → Sound n order links boxes nodes → (l .first < l .last) × (l .last ≤ length order)
-  found-range n order s = at (s .node-is (l .node) found-there)
-    where
-      at : LeafRange order links (l .node) ⊎ ChildrenBefore links (l .node) → (l .first < l .last) × (l .last ≤ length order)
-      at (inl r) = let is = unfolded .read-is in
-          let begins : leftAt links (l .node) ≡ l .first = ap (λ (m : Leaf). m .first) is in
-          let ends : rightAt links (l .node) ≡ l .last = ap (λ (m : Leaf). m .last) is in
-          (omega (arith, r .nonempty), omega (arith, r .within))
-      at (inr b) = absurd (omega (arith, unfolded .kind-is, b .is-branch))

@@ -2,14 +2,14 @@
 -- The first box then lies at the lower end of the centres' bounds, so in bucket 0, and no bucket is earlier than that. Assumes nothing.
 use mathlib.Core.Path.{_≡_, refl, sym, ap, _∙_}
 use mathlib.Core.Bool.{Bool, true, false, cond, _&&_}
-use mathlib.Core.List.{List, [], _∷_, map, foldl}
+use mathlib.Core.List.{List, [], _∷_, foldl}
 use Prim.Native.Nat.{ℕ, suc, min, _+_, _/_, _<_, _≤_}
 use native.Mathlib.Omega.{arith}
 use borrow.Author.Tests.{le-ltb}
 use lib.Dec.{T, T-not, not-T, ltb}
 use lib.Ieee.Bits.{is-false}
 use lib.IntN.{pos}
-use lib.ListN.{length, getD}
+use lib.ListN.{length}
 use lib.Ieee.{Float, Format, nan, inf, fin, lt, le, fits, add, sub, div, neg, ofInt}
 use lib.Ieee.Fits.{div-fits}
 use lib.Ieee.Scale.{finite}
@@ -172,12 +172,3 @@ module _ (f : Format) (axis : Axis) where
   unfolding areaSplit
   area-inside parent [] k h e = absurd (cut-of-none (bucketOf f axis (centreBounds f [])) _ k e)
   area-inside parent (b ∷ bs) k h e = cut-inside (bucketOf f axis (centreBounds f (b ∷ bs))) _ k b bs (first-bucket b bs h) e
-
-  -- ---- that no centre is below the first, by index
-  pub none-below-by-index : (box : ℕ → Box) (x : Float) (part : List ℕ) → ((i : ℕ) → i < length part → lt (centreOf (box (getD part i 0))) x ≡ false) → NoneBelow f axis x (map box part)
-  none-below-by-index box x [] h = tt
-  none-below-by-index box x (t ∷ part) h = (h 0 (omega arith), none-below-by-index box x part (λ i k. h (suc i) (omega arith)))
-
-  pub first-is-least-by-index : (box : ℕ → Box) (part : List ℕ) → ((i : ℕ) → i < length part → lt (centreOf (box (getD part i 0))) (centreOf (box (getD part 0 0))) ≡ false) → FirstIsLeast f axis (map box part)
-  first-is-least-by-index box [] h = tt
-  first-is-least-by-index box (t ∷ part) h = none-below-by-index box (centreOf (box t)) part (λ i k. h (suc i) (omega arith))

@@ -59,12 +59,6 @@ module _ {A : Type 0} (d : A) where
   taken-stands l xs n p =
       subst (λ (m : List A). Stands d m 0 xs) (ap (λ (k : List A). k ++ drop n l) (sym p) ∙ take-append-drop n l) (stands-prefix xs (drop n l))
 
-  -- a list that stands there, stands within
-  pub stands-within : (l xs : List A) (s : ℕ) → 0 < length xs → Stands d l s xs → s + length xs ≤ length l
-  stands-within l (x ∷ []) s h k = let at : s < length l = k .0 in omega arith
-  stands-within l (x ∷ y ∷ xs) s h k =
-      let rest : suc s + length (y ∷ xs) ≤ length l = stands-within l (y ∷ xs) (suc s) (suc-le-suc zero-le) (k .2) in omega arith
-
 -- two parts that meet are one part
 pub part-join : {A : Type 0} (l : List A) (a b c : ℕ) → a ≤ b → b ≤ c → part l a (b - a) ++ part l b (c - b) ≡ part l a (c - a)
 part-join {A} l a b c h k =

@@ -1,7 +1,7 @@
 -- How many nodes, links and box numbers a tree has: at least one node, and at most 2n - 1 over n triangles. Assumes nothing.
 use mathlib.Core.Path.{_≡_, refl, ap, _∙_}
 use mathlib.Core.List.{List, _++_}
-use Prim.Native.Nat.{ℕ, _+_, _*_, _≤_, _<_}
+use Prim.Native.Nat.{ℕ, _+_, _*_, _≤_}
 use native.Mathlib.Omega.{arith}
 use lib.ListN.{length, length-append}
 use Rattle.spec_shapes.specs.Boxes.{Box}
@@ -28,9 +28,6 @@ unfolding nodeCount numbers
 count-most (leaf part) f = omega arith
 count-most (branch l r) f =
     omega (arith, count-most l (f .0), count-most r (f .1), length-append (numbers l) (numbers r))
-
-pub numbers-least : (t : Tree) → Filled t → 0 < length (numbers t)
-numbers-least t f = omega (arith, count-most t f, count-least t)
 
 three-parts : {A : Type 0} (xs ys zs : List A) → length (xs ++ ys ++ zs) ≡ length xs + length ys + length zs
 three-parts xs ys zs = length-append (xs ++ ys) zs ∙ ap (λ (n : ℕ). n + length zs) (length-append xs ys)
