@@ -2,7 +2,7 @@
 use mathlib.Core.Path.{_≡_, refl, sym, ap, _∙_}
 use mathlib.Core.Bool.{Bool, true, false, cond, not}
 use mathlib.Core.List.{List, [], _∷_}
-use Prim.Native.Nat.{ℕ, _+_, _*_, _-_, _/_, _%_, _^_, _≤_, _<_}
+use Prim.Native.Nat.{ℕ, _+_, _*_, _/_, _%_, _^_, _≤_, _<_}
 use native.Mathlib.Omega.{arith}
 use native.Mathlib.Nat.{mod-eq-of-lt, div-eq-of-lt, mul-add-div-right, mul-add-mod-self-right}
 use lib.Dec.{eqb, ltb}
@@ -11,7 +11,7 @@ use lib.ListN.{length}
 use borrow.Author.Tests.{eqb-true, ltb-true, ltb-false, le-leb, lt-leb}
 use Rattle.spec_lists.specs.Limits.{mostTriangles}
 use Rattle.spec_lists.specs.Reading.{triangleCount}
-use Rattle.spec_lists.specs.Refusals.{Verdict, passes, refused, firstRefusal, refusedIf, raggedRefusal, noneRefusal, tooManyRefusal, coordinateRefusal, trianglesRefusal, Settings, settingsRefusal, roomRefusal, pointsRefusal, distanceRefusal, firstBad, areSettings, isDistance}
+use Rattle.spec_lists.specs.Refusals.{Verdict, passes, refused, firstRefusal, refusedIf, raggedRefusal, noneRefusal, tooManyRefusal, coordinateRefusal, trianglesRefusal, Settings, settingsRefusal, roomRefusal, distanceRefusal, firstBad, areSettings, isDistance}
 use Rattle.spec_lists.proofs.Verdicts.{not-refused}
 use Rattle.spec_host.specs.Told.{told, toldRefusal, numberTold, placeTold, countTold, Placed, InPlace, Tellable, Heard}
 
@@ -104,16 +104,6 @@ settings-told s = at-zero (not (areSettings s)) 5 (omega arith) (omega arith)
 pub room-told : (given need : ℕ) → InPlace (roomRefusal given need)
 unfolding roomRefusal
 room-told given need = at-zero (ltb given need) 6 (omega arith) (omega arith)
-
-pub points-told : (xs : List Float) → length xs < 2 ^ 63 → InPlace (pointsRefusal xs)
-unfolding pointsRefusal coordinateRefusal
-points-told xs h =
-    then-test (refusedIf (not (eqb (length xs % 3) 0)) 8 (length xs)) _
-    (placed (not (eqb (length xs % 3) 0)) 8 (length xs) (λ _. record { some = omega arith; most = omega arith; near = h }))
-    (λ _. then-test (coordinateRefusal 8 xs) [] (placed (ltb (firstBad xs) (length xs)) 8 (firstBad xs) bad) (λ _. no-test))
-  where
-    bad : ltb (firstBad xs) (length xs) ≡ true → Placed 8 (firstBad xs)
-    bad e = record { some = omega arith; most = omega arith; near = omega (arith, ltb-true (firstBad xs) (length xs) e) }
 
 pub distance-told : (d : Float) → InPlace (distanceRefusal d)
 unfolding distanceRefusal

@@ -4,14 +4,13 @@ use mathlib.Core.List.{List}
 use Prim.Native.Nat.{ℕ, _+_, _*_, _≤_, _<_}
 use native.Mathlib.Omega.{arith}
 use lib.ListN.{take, getD}
-use lib.Seq.{getD-take, take-take}
+use lib.Seq.{getD-take}
 use lib.Ieee.{Float, nan, Format, toBits}
 use Rattle.spec_tables.proofs.Tables.{many-same}
 use Rattle.spec_records.specs.Little.{little}
 use Rattle.spec_records.specs.Entries.{floatSize, numberBytes, floatBytes}
 use Rattle.spec_records.specs.Layouts.{Shape}
 use Rattle.spec_image.specs.Image.{Image, nodeBytes, imageBytes}
-use Rattle.spec_image.specs.Stored.{used}
 
 same-getD : {A : Type 0} (d : A) (n k : ℕ) (l l′ : List A) → take n l ≡ take n l′ → k < n → getD l k d ≡ getD l′ k d
 same-getD {A} d n k l l′ e h = sym (getD-take n l k d h) ∙ ap (λ (x : List A). getD x k d) e ∙ getD-take n l′ k d h
@@ -34,6 +33,3 @@ pub image-used : (sh : Shape) (x : Image) (l : List ℕ) (b : List Float) → ta
 unfolding imageBytes
 image-used sh x l b e f =
     rw (many-same (nodeBytes sh l b) (nodeBytes sh (x .links) (x .boxes)) (x .nodes) (λ i h. node-same sh (x .nodes) i l (x .links) b (x .boxes) e f h))
-
-pub used-same : (sh : Shape) (x : Image) → imageBytes sh (used x) ≡ imageBytes sh x
-used-same sh x = image-used sh x _ _ (take-take (3 * x .nodes) (3 * x .nodes) (x .links) (omega arith)) (take-take (6 * x .nodes) (6 * x .nodes) (x .boxes) (omega arith))

@@ -10,10 +10,10 @@ use lib.Dec.{eqb}
 use Rattle.spec_tables.specs.Tables.{part}
 use Rattle.spec_tables.proofs.Pieces.{length-part}
 use Rattle.spec_records.specs.Little.{littleAt}
-use Rattle.spec_records.specs.Records.{bodies, done, one, exactly, whole, sizeAt, bodyAt, isRecord, isRight, laidOut}
-use Rattle.spec_records.specs.Layouts.{Shape, version1, settingsRight, imageWants, queryWants, gaugeWants, imageSpans, pointsStart, distanceStart, gaugeSpans}
+use Rattle.spec_records.specs.Records.{done, one, exactly, whole, sizeAt, bodyAt, isRecord, isRight}
+use Rattle.spec_records.specs.Layouts.{Shape, version1, settingsRight, imageWants, imageSpans, gaugeSpans}
 use Rattle.spec_records.proofs.Little.{number-part}
-use Rattle.spec_records.proofs.Records.{both, RightRecord, right-within, right-parts, test-decides, record-within, Reached, reach-start, reach-on, one-back, done-back}
+use Rattle.spec_records.proofs.Records.{both, RightRecord, right-within, right-parts, test-decides, record-within, Reached, reach-start, reach-on}
 
 module _ (kind : ℕ) (s : List ℕ) (at size : ℕ) (there : isRecord kind s at ≡ true) (sized : sizeAt s at ≡ size) where
   long : length (part s (at + 6) size) ≡ size
@@ -86,11 +86,3 @@ gauge-spans triangles points a b =
     rw (e, f)
 
 -- ---- gauge's input ends with the search distance
-pub gauge-long : (s : List ℕ) (t p : ℕ) → laidOut gaugeWants s 0 ≡ bodies (gaugeSpans t p) → distanceStart t p + 4 ≡ length s
-unfolding gaugeSpans
-gauge-long s t p e =
-    let a = one-back 1 (settingsRight version1) (λ _. one 2 (whole 36) queryWants) s 0 _ _ e in
-    let b = one-back 2 (whole 36) queryWants s 14 _ _ (a .onward) in
-    let c = one-back 5 (whole 12) (λ _. one 6 (exactly 4) (λ _. done)) s (20 + 36 * t) _ _ (b .onward) in
-    let d = one-back 6 (exactly 4) (λ _. done) s (pointsStart t + 12 * p) _ _ (c .onward) in
-    done-back s (distanceStart t p + 4) [] (d .onward)
