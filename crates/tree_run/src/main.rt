@@ -140,20 +140,24 @@ fn numbers() -> [u32; 65] {
     order
 }
 
+fn put_node(links: &mut [u32; 387], node: usize, kind: u32, left: u32, right: u32)
+    requires { ⌜ node < 129 ⌝ }
+{
+    let at = 3 * node;
+    links[at] = kind;
+    links[at + 1] = left;
+    links[at + 2] = right;
+}
+
 // A comb: each branch has all that stands before it at its left and a leaf of one triangle at its right, so n triangles make n levels.
 fn comb() -> [u32; 387] {
     let mut links = [0u32; 387];
-    links[0] = 1;
-    links[2] = 1;
+    put_node(&mut links, 0, 1, 0, 1);
     let mut t = 1u32;
     while t < 65 {
-        let at = 6 * (t as usize) - 3;
-        links[at] = 1;
-        links[at + 1] = t;
-        links[at + 2] = t + 1;
-        links[at + 3] = 2;
-        links[at + 4] = 2 * t - 2;
-        links[at + 5] = 2 * t - 1;
+        let branch = 2 * t;
+        put_node(&mut links, branch as usize - 1, 1, t, t + 1);
+        put_node(&mut links, branch as usize, 2, branch - 2, branch - 1);
         t += 1;
     }
     links
