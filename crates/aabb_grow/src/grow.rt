@@ -1,8 +1,7 @@
 // The recursion: a part of the order list becomes a leaf, or is cut in two and each side grows in its turn. The left subtree's nodes are written first, then the right one's, then the node itself.
 ghost use lib.Ieee.{binary32};
 ghost use Rattle.box3.specs.Values as Shapes;
-ghost use Rattle.spec_tree.specs.Splits.{boxIn};
-ghost use Rattle.spec_build.specs.Growing.{Growable, GrownIs, grownIn};
+ghost use Rattle.spec_build.specs.Growing.{Growable, GrownIs};
 use crate::nodes::Grown;
 use crate::nodes::put_branch;
 use crate::nodes::put_leaf;

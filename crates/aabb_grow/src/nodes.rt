@@ -1,7 +1,7 @@
 // Nodes in the lent lists: three links and six box numbers each.
 ghost use mathlib.Core.Path.{_≡_};
 ghost use mathlib.Core.List.{[], _∷_};
-ghost use Prim.Native.Nat.{_+_, _*_, _^_, _≤_, _<_, max};
+ghost use Prim.Native.Nat.{_+_, _*_, _≤_, _<_, max};
 ghost use lib.ListN.{length};
 ghost use Rattle.box3.specs.Values as Shapes;
 ghost use Rattle.spec_tables.specs.Tables.{over};

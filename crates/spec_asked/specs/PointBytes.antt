@@ -1,5 +1,5 @@
 -- Points as bytes, twelve a point, and what is answered at them as bytes. Definitions only.
-use Prim.Native.Nat.{ℕ, _/_, _%_}
+use Prim.Native.Nat.{ℕ, _%_}
 use mathlib.Core.Bool.{not}
 use mathlib.Core.List.{List, [], _∷_}
 use lib.Dec.{eqb}

@@ -5,7 +5,6 @@ use Prim.Native.Nat.{ℕ, _*_, _<_}
 use native.Mathlib.Omega.{arith}
 use lib.ListN.{length}
 use lib.Ieee.{Float, Format, lt}
-use Rattle.spec_tables.specs.Tables as Tables
 use Rattle.spec_numbers.specs.Axes.{Axis}
 use Rattle.spec_lists.specs.Limits.{mostTriangles}
 use Rattle.spec_shapes.specs.Points.{on}

@@ -2,7 +2,7 @@
 use mathlib.Core.Path.{_≡_, refl, sym, ap}
 use mathlib.Core.Bool.{Bool, true, false, not, true≢false, _&&_, _||_}
 use lib.Ieee.{Float, nan, inf, fin, lt, eq}
-use Rattle.spec_search.specs.Answers.{Hit, Answer, nothing, found}
+use Rattle.spec_search.specs.Answers.{Hit, nothing, found}
 use Rattle.spec_search.specs.Sure.{counts, better, offered, above, isPassed}
 use Rattle.spec_search.specs.Source.{smallest, strictly}
 use Rattle.spec_search.specs.Kept.{kept, keptIf, nearer}

@@ -5,7 +5,7 @@ use mathlib.Core.List.{List, List·Memᴰ, Memᴰ·append-left, Memᴰ·append-r
 use Prim.Native.Nat.{ℕ, suc, _-_, _≤_, _<_}
 use native.Mathlib.Omega.{arith}
 use borrow.Author.Tests.{eq-eqb, ne-eqb}
-use lib.Ieee.{Float, Format, lt, le}
+use lib.Ieee.{Float, Format, lt}
 use lib.Ieee.Bits.{is-false}
 use Rattle.spec_numbers.specs.Axes.{Finite}
 use Rattle.spec_numbers.proofs.Order.{le→not-lt}

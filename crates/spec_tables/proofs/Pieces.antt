@@ -1,6 +1,6 @@
 -- Elements one by one, parts one behind the other, and pieces of what is left: how lists that were written piece by piece are read again. Assumes nothing.
 use mathlib.Core.Path.{_≡_, refl, sym, ap, _∙_, subst}
-use mathlib.Core.Logic.{_⊎_, ⊎-elim}
+use mathlib.Core.Logic.{⊎-elim}
 use mathlib.Core.List.{List, [], _∷_, _++_}
 use Prim.Native.Nat.{ℕ, zero, suc, _+_, _*_, _≤_, _<_}
 use native.Mathlib.Nat.{mul-suc, mul-le-mul-left, le-of-suc-le-suc, eq-or-lt-of-le, one-mul}

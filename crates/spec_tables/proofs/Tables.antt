@@ -1,6 +1,6 @@
 -- The laws of `over`, `many`, `part`, `Left` and `Put`: adjacent writes are one write, pieces are found again where they were put. Assumes nothing.
 use mathlib.Core.Path.{_≡_, refl, sym, ap, _∙_, subst}
-use mathlib.Core.Logic.{_⊎_, ⊎-elim}
+use mathlib.Core.Logic.{⊎-elim}
 use mathlib.Core.List.{List, [], _∷_, _++_, append-assoc}
 use Prim.Native.Nat.{ℕ, zero, suc, _+_, _-_, _*_, _≤_, _<_}
 use native.Mathlib.Nat.{add-assoc, add-zero, mul-suc, mul-le-mul-left, eq-or-lt-of-le, le-of-suc-le-suc}

@@ -1,5 +1,5 @@
 -- `timing::measured_at` tells how many triangles the sure search measures. Assumes nothing.
-use mathlib.Core.Path.{_≡_, ap}
+use mathlib.Core.Path.{ap}
 use Rattle.spec_search.specs.Answers.{Answer}
 use Rattle.spec_search.specs.Walk.{Sought}
 use Rattle.spec_search.specs.Sure.{limitOf}

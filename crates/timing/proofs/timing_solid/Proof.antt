@@ -1,5 +1,5 @@
 -- `timing::timing_solid` tells the angle of one triangle from one point, and no number else. Assumes nothing.
-use mathlib.Core.Path.{_≡_, _∙_}
+use mathlib.Core.Path.{_∙_}
 use lib.Ieee.{ofBits, div}
 use borrow.Author.Needs.{needs}
 use borrow.Author.Tests.{eq-eqb, ne-eqb}

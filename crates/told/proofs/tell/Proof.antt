@@ -1,6 +1,5 @@
 -- `told::tell` meets its contract, case by case.
 -- Assumes nothing.
-use mathlib.Core.Path.{_∙_}
 use borrow.Author.Needs.{needs}
 use Rattle.told.proofs.tell.Statement.{statement}
 use Rattle.told.proofs.tell.Tie as tie

@@ -1,6 +1,6 @@
 -- `aabb_build::build_with` meets its contract: the tables are made, the order list is numbered, and the whole of it grows.
 -- Assumes nothing.
-use mathlib.Core.Path.{sym, _∙_}
+use mathlib.Core.Path.{sym}
 use native.Mathlib.Omega.{arith}
 use lib.Ieee.{binary32}
 use Rattle.spec_build.proofs.Building.{bounds-asks, order-asks, centres-asks, count-within, front-long, grow-asks, root-few, build-gives}

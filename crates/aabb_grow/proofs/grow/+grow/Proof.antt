@@ -4,7 +4,7 @@ use native.Mathlib.Omega.{arith}
 use borrow.Author.Needs.{needs}
 use lib.Ieee.{binary32}
 use Rattle.splits.specs.Values.{asSplit}
-use Rattle.spec_build.proofs.Growing.{leaf-asks, limit-gives, some-left, try-asks, uncut-asks, uncut-gives, cut-within, cut-ends, left-long, left-asks, now-long, cut-within-now, left-root-few, right-asks, branch-asks, order-long, branch-gives}
+use Rattle.spec_build.proofs.Growing.{leaf-asks, limit-gives, some-left, try-asks, uncut-asks, uncut-gives, cut-within, cut-ends, left-long, left-asks, cut-within-now, left-root-few, right-asks, branch-asks, order-long, branch-gives}
 use Prim.Native.Nat.{ℕ, _<_}
 use borrow.Fn.Kinds.{In}
 use borrow.Fn.PlainCycle.{Measures, is, falls, and}

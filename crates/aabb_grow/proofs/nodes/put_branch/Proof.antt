@@ -2,7 +2,6 @@
 -- Assumes nothing.
 use mathlib.Core.Path.{refl, ap, _∙_}
 use Prim.Native.Nat.{ℕ, _+_, _*_}
-use lib.Ieee.{Float}
 use Rattle.spec_tables.specs.Tables.{over}
 use Rattle.spec_shapes.specs.Boxes.{Box}
 use Rattle.spec_tree.specs.Trees.{sixOf}

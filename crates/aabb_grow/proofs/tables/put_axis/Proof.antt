@@ -3,7 +3,6 @@
 use Prim.Native.Nat.{_+_, _-_}
 use mathlib.Core.Path.{refl}
 use native.Mathlib.Omega.{arith}
-use lib.ListN.{length-drop, length-take}
 use lib.Ieee.{binary32}
 use Rattle.vec3.specs.Values.{asAxis}
 use Rattle.spec_tree.proofs.SplitTable.{place-below}

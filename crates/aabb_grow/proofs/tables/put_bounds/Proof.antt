@@ -1,11 +1,9 @@
 -- `aabb_grow::put_bounds` meets its contract: a turn writes one box behind those that stand there.
 -- Assumes nothing.
 use borrow.Author.Needs.{needs}
-use mathlib.Core.Path.{_≡_, refl, _∙_, ap}
-use mathlib.Core.List.{List}
-use Prim.Native.Nat.{ℕ, _-_, _*_}
+use mathlib.Core.Path.{refl, _∙_, ap}
+use Prim.Native.Nat.{_-_, _*_}
 use native.Mathlib.Omega.{arith}
-use lib.Ieee.{Float}
 use Rattle.spec_tables.specs.Tables.{over}
 use Rattle.spec_tables.proofs.Runs.{Run, run-start, run-front, run-end}
 use Rattle.spec_lists.specs.Reading.{boxAt}

@@ -1,6 +1,6 @@
 -- `aabb_grow::put_keys` meets its contract: a turn stores one centre behind those that stand there.
 -- Assumes nothing.
-use Prim.Native.Nat.{ℕ, _-_}
+use Prim.Native.Nat.{_-_}
 use mathlib.Core.List.{[], _∷_}
 use native.Mathlib.Omega.{arith}
 use lib.Ieee.{binary32}

@@ -2,7 +2,6 @@
 -- Assumes nothing.
 use mathlib.Core.Path.{ap, _∙_}
 use lib.Ieee.{binary32}
-use Rattle.box3.specs.Values.{asAxis, asBox, asPoint}
 use Rattle.splits.specs.Values.{asSplit}
 use Rattle.spec_shapes.specs.Points.{Point, at}
 use Rattle.spec_build.specs.Tries.{axesBySize}

@@ -1,6 +1,6 @@
 -- `floats::bits_of` meets its contract: what differs from itself is the NaN, which the definition gives this pattern too.
 -- Assumes nothing.
-use mathlib.Core.Path.{_≡_, ap, sym, _∙_}
+use mathlib.Core.Path.{ap, sym}
 use lib.Ieee.{binary32, toBits}
 use lib.Ieee.Compare.{differs-from-itself}
 use Rattle.spec_numbers.proofs.Tests.{passed, failed}

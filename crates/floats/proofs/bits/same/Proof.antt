@@ -1,6 +1,6 @@
 -- `floats::same` meets its contract: numbers of a format are the same where their patterns are.
 -- Assumes nothing.
-use mathlib.Core.Path.{ap, _∙_}
+use mathlib.Core.Path.{_∙_}
 use lib.Dec.{eqb}
 use lib.Ieee.{binary32}
 use borrow.Author.Needs.{needs}
