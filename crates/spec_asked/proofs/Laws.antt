@@ -20,9 +20,10 @@ use Rattle.spec_angles.specs.Windings.{windingRefusal}
 use Rattle.spec_host.specs.Told.{told, Heard}
 use Rattle.spec_host.proofs.Told.{told-heard}
 use Rattle.spec_host.specs.Build.{numbersOf}
+use Rattle.spec_host.proofs.Build.{numbers-long}
 use Rattle.spec_asked.specs.PointBytes.{pointBytesRefusal}
 use Rattle.spec_asked.specs.Asked.{contents, checkedRefusal, askedRefusal, woundRefusal, checkVerdict, queryVerdict, windingVerdict}
-use Rattle.spec_asked.proofs.PointBytes.{points-long, points-count}
+use Rattle.spec_asked.proofs.PointBytes.{points-count}
 use Rattle.spec_asked.proofs.Asked.{contents-are, inner-decides}
 use Rattle.spec_asked.proofs.Told.{query-told, winding-told}
 
@@ -60,7 +61,7 @@ points-as-lists : (points : List ℕ) → length points % 12 ≡ 0 → pointByte
 unfolding pointBytesRefusal pointsRefusal
 points-as-lists points whole =
     let ragged : eqb (length points % 12) 0 ≡ true = eq-eqb (length points % 12) 0 whole in
-    let raggedToo : eqb (length (numbersOf points) % 3) 0 ≡ true = eq-eqb (length (numbersOf points) % 3) 0 (rw (points-long points) (omega arith)) in
+    let raggedToo : eqb (length (numbersOf points) % 3) 0 ≡ true = eq-eqb (length (numbersOf points) % 3) 0 (rw (numbers-long points) (omega arith)) in
     rw (ragged, raggedToo)
 
 drop-second : (a : Verdict) (rest : List Verdict) → firstRefusal (a ∷ passes ∷ rest) ≡ firstRefusal (a ∷ rest)

@@ -1,6 +1,6 @@
 -- What is read of point bytes, what bytes that passed give, and what a loop over the points writes. Assumes nothing.
 use mathlib.Core.Path.{_≡_, refl, sym, ap, _∙_}
-use mathlib.Core.Bool.{true, false}
+use mathlib.Core.Bool.{true}
 use mathlib.Core.List.{List, _++_, append-assoc, append-nil}
 use Prim.Native.Nat.{ℕ, zero, suc, _+_, _*_, _/_, _%_, _≤_, _<_}
 use native.Mathlib.Nat.{zero-add, add-zero, add-suc}
@@ -12,7 +12,7 @@ use lib.Seq.{getD-append-add}
 use lib.Ieee.{Float, nan, binary32, ofBits, toBits}
 use Rattle.spec_tables.specs.Tables.{over, many}
 use Rattle.spec_tables.proofs.Tables.{many-same}
-use Rattle.spec_tables.proofs.Pieces.{length-singles, getD-many}
+use Rattle.spec_tables.proofs.Pieces.{getD-many}
 use Rattle.spec_tables.proofs.Runs.{Run, run-start, run-front, run-end}
 use Rattle.spec_records.specs.Little.{little, littleAt}
 use Rattle.spec_records.specs.Entries.{numberBytes}
@@ -28,16 +28,14 @@ use Rattle.spec_search.specs.Answers.{Answer, nothing, found, sixWords}
 use Rattle.spec_search.specs.Calls.{answerWords}
 use Rattle.spec_angles.specs.Windings.{windingAt}
 use Rattle.spec_host.specs.Build.{numbersOf}
+use Rattle.spec_host.proofs.Build.{numbers-long}
 use Rattle.spec_asked.specs.PointBytes.{pointBytesRefusal, wordBytes, answerBytes, windings, windingBytes, afterBytes}
 
 -- ---- what is read
 module _ (s : List ℕ) where
-  pub points-long : length (numbersOf s) ≡ length s / 4
-  points-long = length-singles _ (length s / 4)
-
   pub points-count : pointCount (numbersOf s) ≡ length s / 12
   unfolding pointCount
-  points-count = rw points-long (omega arith)
+  points-count = rw numbers-long (omega arith)
 
   -- number i stands at byte 4 i
   pub number-is : (i : ℕ) → i < length s / 4 → getD (numbersOf s) i nan ≡ ofBits binary32 (littleAt 4 s (4 * i))
@@ -48,7 +46,7 @@ module _ (s : List ℕ) where
   point-bytes-passed e =
       let p = all-pass _ e in
       let ragged = eqb-true (length s % 12) 0 (so (eqb (length s % 12) 0) 8 (length s) (p .0)) in
-      record { whole = rw points-long (omega arith); coordinates = coordinates-passed 8 (numbersOf s) (p .1 .0) }
+      record { whole = rw numbers-long (omega arith); coordinates = coordinates-passed 8 (numbersOf s) (p .1 .0) }
 
 -- ---- numbers as bytes, list by list
 pub many-add : {A : Type 0} (f : ℕ → List A) (m n : ℕ) → many f (m + n) ≡ many f m ++ many (λ i. f (m + i)) n

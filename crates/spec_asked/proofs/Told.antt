@@ -20,9 +20,9 @@ use Rattle.spec_host.specs.Told.{told, Placed, InPlace}
 use Rattle.spec_host.proofs.Told.{at-zero, no-test, then-test, placed, triangles-told, settings-told, room-told, distance-told}
 use Rattle.spec_image.specs.Image.{Image}
 use Rattle.spec_host.specs.Build.{numbersOf}
+use Rattle.spec_host.proofs.Build.{numbers-long}
 use Rattle.spec_asked.specs.PointBytes.{pointBytesRefusal}
 use Rattle.spec_asked.specs.Asked.{layoutBy, layoutRefusal, treeIn, contents, askedRefusal, woundRefusal, queryVerdict, windingVerdict}
-use Rattle.spec_asked.proofs.PointBytes.{points-long}
 
 -- ---- the place of a wrong record: no body is longer than four bytes can say
 size-below : (s : List ℕ) (at : ℕ) → Bytes s → sizeAt s at < 2 ^ 32
@@ -79,7 +79,7 @@ point-bytes-told s h =
     (λ _. then-test (coordinateRefusal 8 (numbersOf s)) [] (placed (ltb (firstBad (numbersOf s)) (length (numbersOf s))) 8 (firstBad (numbersOf s)) bad) (λ _. no-test))
   where
     bad : ltb (firstBad (numbersOf s)) (length (numbersOf s)) ≡ true → Placed 8 (firstBad (numbersOf s))
-    bad e = record { some = omega arith; most = omega arith; near = omega (arith, points-long s, ltb-true (firstBad (numbersOf s)) (length (numbersOf s)) e) }
+    bad e = record { some = omega arith; most = omega arith; near = omega (arith, numbers-long s, ltb-true (firstBad (numbersOf s)) (length (numbersOf s)) e) }
 
 tree-told : (x : Image) → InPlace (treeIn x)
 unfolding treeRefusal

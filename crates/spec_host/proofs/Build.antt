@@ -178,10 +178,10 @@ module _ (triangles : List Float) (s : Settings) (order links : List ℕ) (boxes
         rw (triangles-pass triangles (passed .triangles-good), settings-pass s (passed .settings-good)) room
 
 -- ---- from bytes
-module _ (s : List ℕ) (settings : Settings) (given : ℕ) where
-  numbers-long : length (numbersOf s) ≡ length s / 4
-  numbers-long = length-singles _ (length s / 4)
+pub numbers-long : (s : List ℕ) → length (numbersOf s) ≡ length s / 4
+numbers-long s = length-singles _ (length s / 4)
 
+module _ (s : List ℕ) (settings : Settings) (given : ℕ) where
   pub bytes-ragged : (length s % 36 ≡ 0 → ⊥) → bytesRefusal s settings given ≡ refused 1 0
   unfolding bytesRefusal raggedBytes firstRefusal
   bytes-ragged h = rw (ne-eqb (length s % 36) 0 h)

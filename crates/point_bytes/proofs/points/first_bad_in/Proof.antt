@@ -9,7 +9,7 @@ use lib.ListN.{drop}
 use Rattle.spec_lists.specs.Refusals.{isCoordinate, firstBad}
 use Rattle.spec_lists.proofs.Coordinates.{bad-here, good-here, none-left}
 use Rattle.spec_host.specs.Build.{numbersOf}
-use Rattle.spec_asked.proofs.PointBytes.{points-long}
+use Rattle.spec_host.proofs.Build.{numbers-long}
 use Rattle.point_bytes.proofs.points.first_bad_in.Statement.{statement}
 use Rattle.point_bytes.proofs.points.first_bad_in.Tie as tie
 
@@ -32,7 +32,7 @@ returns : tie.Need-returns Inv-loop μ-loop
 returns c =
     let loop = c .before .before .before .before .loop in
     let s = c .before .before .before .before .before .before .args .bytes .now in
-    let found = bad-here (numbersOf s) (loop .i) (rw (points-long s) (c .before .before .before .loop-test .taken)) (ap isCoordinate (sym (c .before .before .number-in .ensures)) ∙ sym (c .before .is-coordinate .ensures) ∙ not-true _ (c .if1 .taken)) in
+    let found = bad-here (numbersOf s) (loop .i) (rw (numbers-long s) (c .before .before .before .loop-test .taken)) (ap isCoordinate (sym (c .before .before .number-in .ensures)) ∙ sym (c .before .is-coordinate .ensures) ∙ not-true _ (c .if1 .taken)) in
     omega (arith, loop .inv)
 
 add-i : tie.Need-add-i Inv-loop μ-loop
@@ -45,14 +45,14 @@ loop-again : tie.Need-loop-again Inv-loop μ-loop
 loop-again c =
     let loop = c .before .before .before .before .loop in
     let s = c .before .before .before .before .before .before .args .bytes .now in
-    let next = good-here (numbersOf s) (loop .i) (rw (points-long s) (c .before .before .before .loop-test .taken)) (ap isCoordinate (sym (c .before .before .number-in .ensures)) ∙ sym (c .before .is-coordinate .ensures) ∙ not-false _ (c .if1 .left)) in
+    let next = good-here (numbersOf s) (loop .i) (rw (numbers-long s) (c .before .before .before .loop-test .taken)) (ap isCoordinate (sym (c .before .before .number-in .ensures)) ∙ sym (c .before .is-coordinate .ensures) ∙ not-false _ (c .if1 .left)) in
     omega (arith, loop .inv)
 
 returns-2 : tie.Need-returns-2 Inv-loop μ-loop
 returns-2 c =
     let loop = c .before .loop in
     let s = c .before .before .before .args .bytes .now in
-    let none = none-left (numbersOf s) (loop .i) (rw (points-long s) (c .loop-test .left)) in
+    let none = none-left (numbersOf s) (loop .i) (rw (numbers-long s) (c .loop-test .left)) in
     omega (arith, loop .inv)
 
 pub first-bad-in-spec : {M : Type 1} → statement M

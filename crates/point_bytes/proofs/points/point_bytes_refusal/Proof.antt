@@ -4,7 +4,7 @@ use mathlib.Core.Path.{_∙_}
 use Rattle.spec_lists.specs.Refusals.{coordinateRefusal}
 use Rattle.spec_lists.proofs.Verdicts.{stops, goes-on, ends}
 use Rattle.spec_asked.specs.PointBytes.{pointBytesRefusal}
-use Rattle.spec_asked.proofs.PointBytes.{points-long}
+use Rattle.spec_host.proofs.Build.{numbers-long}
 use borrow.Author.Needs.{needs}
 use Rattle.point_bytes.proofs.points.point_bytes_refusal.Statement.{statement}
 use Rattle.point_bytes.proofs.points.point_bytes_refusal.Tie as tie
@@ -29,7 +29,7 @@ returns-2 : tie.Need-returns-2
 unfolding pointBytesRefusal coordinateRefusal
 returns-2 c =
     goes-on _ _ _ _ _ (c .before .before .before .before .refused-if .ensures) (c .before .before .before .refuses .ensures) (c .before .before .if1 .left)
-    (ends _ _ (c .refused-if2 .ensures ∙ rw (← c .before .first-bad-in .ensures, points-long)))
+    (ends _ _ (c .refused-if2 .ensures ∙ rw (← c .before .first-bad-in .ensures, numbers-long)))
 
 pub point-bytes-refusal-spec : {M : Type 1} → statement M
 point-bytes-refusal-spec =

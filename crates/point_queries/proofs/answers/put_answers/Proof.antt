@@ -5,8 +5,9 @@ use Prim.Native.Nat.{_-_}
 use native.Mathlib.Omega.{arith}
 use Rattle.spec_lists.proofs.Reading.{point-finite}
 use Rattle.spec_host.specs.Build.{numbersOf}
+use Rattle.spec_host.proofs.Build.{numbers-long}
 use Rattle.spec_asked.specs.Asked.{answerBy}
-use Rattle.spec_asked.proofs.PointBytes.{points-long, Answered, answered-start, answered-more, answered-end}
+use Rattle.spec_asked.proofs.PointBytes.{Answered, answered-start, answered-more, answered-end}
 use Rattle.point_queries.specs.Values.{asQuery}
 use Rattle.point_queries.proofs.answers.put_answers.Statement.{statement}
 use Rattle.point_queries.proofs.answers.put_answers.Tie as tie
@@ -28,7 +29,7 @@ point-in-requires c κs = omega (arith, c .loop-test .taken)
 answer-at-requires : tie.Need-answer-at-requires Inv-loop μ-loop
 answer-at-requires c κs =
     let start = c .before .before .before .before .before .before .before .before .before in
-    (start .pre .0, rw (c .point-in .ensures) (point-finite (numbersOf (start .args .points .now)) (start .pre .1 .0 .coordinates) _ (rw (points-long (start .args .points .now)) (omega (arith, c .before .loop-test .taken)))))
+    (start .pre .0, rw (c .point-in .ensures) (point-finite (numbersOf (start .args .points .now)) (start .pre .1 .0 .coordinates) _ (rw (numbers-long (start .args .points .now)) (omega (arith, c .before .loop-test .taken)))))
 
 mul-put-answer-bytes : tie.Need-mul-put-answer-bytes Inv-loop μ-loop
 mul-put-answer-bytes c = omega (arith, c .before .before .before .loop-test .taken)
