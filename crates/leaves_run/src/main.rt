@@ -2,6 +2,10 @@
 // tests/oracle/leaves.rs made both, with the Rust's own `traverse`.
 ghost use Rattle.spec_tree.specs.Leaves as Leaves;
 use box3::Box3;
+use case_words::fill_floats;
+use case_words::fill_numbers;
+use case_words::more;
+use case_words::pattern_at;
 use traverse::leaf::EntryFound;
 use traverse::leaf::leaf_entry;
 use traverse::traverse::LeafFound;
@@ -9,50 +13,12 @@ use traverse::traverse::LeavesCounted;
 use traverse::traverse::leaf_from;
 use traverse::traverse::leaves;
 use vec3::Vec3;
+use vec3::Vec3;
 
 // The first two words of a case.
 struct Head {
     triangles: usize,
     nodes: usize,
-}
-
-fn more(n: usize, by: usize) -> usize {
-    if n < 1000000000 {
-        if by < 1000000000 {
-            return n + by;
-        }
-    }
-    n
-}
-
-// A word of the case, as a pattern: 0 past its end.
-fn pattern_at(bytes: &[u8], at: usize) -> u32 {
-    if at < 1000000000 {
-        if at + 4 <= bytes.len() {
-            return little_endian::u32_at(bytes, at);
-        }
-    }
-    0
-}
-
-fn fill_floats(bytes: &[u8], from: usize, out: &mut [f32]) {
-    let mut at = from;
-    let mut i = 0;
-    while i < out.len() {
-        out[i] = floats::from_bits(pattern_at(bytes, at));
-        at = more(at, 4);
-        i += 1;
-    }
-}
-
-fn fill_numbers(bytes: &[u8], from: usize, out: &mut [u32]) {
-    let mut at = from;
-    let mut i = 0;
-    while i < out.len() {
-        out[i] = pattern_at(bytes, at);
-        at = more(at, 4);
-        i += 1;
-    }
 }
 
 fn put_number(n: usize) {

@@ -2,6 +2,10 @@
 // (tests/oracle/trees.rs made the list on standard input): prints how many cases, trees and points
 // there are and how many words differ, and the first ten that do.
 use aabb_build::build::Built;
+use case_words::fill_floats;
+use case_words::fill_numbers;
+use case_words::more;
+use case_words::pattern_at;
 use lists::refusal::Verdict;
 
 // The first eight words of a case.
@@ -32,47 +36,8 @@ struct Tally {
     differ: usize,
 }
 
-fn more(n: usize, by: usize) -> usize {
-    if n < 1000000000 {
-        if by < 1000000000 {
-            return n + by;
-        }
-    }
-    n
-}
-
-// A word of the case, as a pattern: 0 past its end.
-fn pattern_at(bytes: &[u8], at: usize) -> u32 {
-    if at < 1000000000 {
-        if at + 4 <= bytes.len() {
-            return little_endian::u32_at(bytes, at);
-        }
-    }
-    0
-}
-
 fn number_at(bytes: &[u8], at: usize) -> usize {
     pattern_at(bytes, at) as usize
-}
-
-fn fill_floats(bytes: &[u8], from: usize, out: &mut [f32]) {
-    let mut at = from;
-    let mut i = 0;
-    while i < out.len() {
-        out[i] = floats::from_bits(pattern_at(bytes, at));
-        at = more(at, 4);
-        i += 1;
-    }
-}
-
-fn fill_numbers(bytes: &[u8], from: usize, out: &mut [u32]) {
-    let mut at = from;
-    let mut i = 0;
-    while i < out.len() {
-        out[i] = pattern_at(bytes, at);
-        at = more(at, 4);
-        i += 1;
-    }
 }
 
 fn head_of(bytes: &[u8]) -> Head {
@@ -286,7 +251,7 @@ fn with_boxes(
     let mut all = [0.0f32; 282];
     let boxes = &mut all[..6 * (head.nodes % 48)];
     fill_floats(bytes, places.boxes, boxes);
-    let sourced = source_answers(
+    answered(
         bytes,
         head,
         places,
@@ -296,21 +261,10 @@ fn with_boxes(
         links,
         boxes,
         tally,
-    );
-    sure_answers(
-        bytes,
-        head,
-        places,
-        triangles,
-        points,
-        order,
-        links,
-        boxes,
-        sourced,
     )
 }
 
-fn source_answers(
+fn answered(
     bytes: &[u8],
     head: Head,
     places: Places,
@@ -321,9 +275,10 @@ fn source_answers(
     boxes: &[f32],
     tally: Tally,
 ) -> Tally {
-    let mut all = [7u32; 120];
-    let answers = &mut all[..6 * (head.points % 21)];
-    let verdict = closest::queries::source_query(
+    let size = 6 * (head.points % 21);
+    let mut first = [7u32; 120];
+    let source = &mut first[..size];
+    let sourced = closest::queries::source_query(
         triangles,
         order,
         links,
@@ -331,27 +286,11 @@ fn source_answers(
         head.nodes,
         points,
         head.distance,
-        answers,
+        source,
     );
-    tally
-        .verdict(b"source", verdict)
-        .words(b"source", answers, bytes, places.source)
-}
-
-fn sure_answers(
-    bytes: &[u8],
-    head: Head,
-    places: Places,
-    triangles: &[f32],
-    points: &[f32],
-    order: &[u32],
-    links: &[u32],
-    boxes: &[f32],
-    tally: Tally,
-) -> Tally {
-    let mut all = [7u32; 120];
-    let answers = &mut all[..6 * (head.points % 21)];
-    let verdict = closest::queries::sure_query(
+    let mut second = [7u32; 120];
+    let sure = &mut second[..size];
+    let sured = closest::queries::sure_query(
         triangles,
         order,
         links,
@@ -359,11 +298,13 @@ fn sure_answers(
         head.nodes,
         points,
         head.distance,
-        answers,
+        sure,
     );
     tally
-        .verdict(b"sure", verdict)
-        .words(b"sure", answers, bytes, places.sure)
+        .verdict(b"source", sourced)
+        .words(b"source", source, bytes, places.source)
+        .verdict(b"sure", sured)
+        .words(b"sure", sure, bytes, places.sure)
 }
 
 fn with_links(

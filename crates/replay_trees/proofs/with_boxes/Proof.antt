@@ -18,11 +18,8 @@ slice-aggregate-boxes c = simp length-take (omega arith)
 fill-floats-requires : tie.Need-fill-floats-requires
 fill-floats-requires c κs = search needs
 
-source-answers-requires : tie.Need-source-answers-requires
-source-answers-requires c κs = search needs
-
-sure-answers-requires : tie.Need-sure-answers-requires
-sure-answers-requires c κs = search needs
+answered-requires : tie.Need-answered-requires
+answered-requires c κs = search needs
 
 returns : tie.Need-returns
 returns c = search needs
@@ -35,6 +32,5 @@ with-boxes-spec =
     array-borrow-prefix-all
     slice-aggregate-boxes
     fill-floats-requires
-    source-answers-requires
-    sure-answers-requires
+    answered-requires
     returns)

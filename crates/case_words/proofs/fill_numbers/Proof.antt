@@ -1,12 +1,12 @@
--- `leaves_run::fill_floats` is safe and ends: the list keeps its length.
+-- `case_words::fill_numbers` is safe and ends: the list keeps its length.
 -- Assumes nothing.
 use Prim.Native.Nat.{_≤_, _-_}
 use mathlib.Core.Path.{_≡_}
 use native.Mathlib.Omega.{arith}
 use lib.ListN.{length, length-set}
 use borrow.Author.Needs.{needs}
-use Rattle.leaves_run.proofs.fill_floats.Statement.{statement}
-use Rattle.leaves_run.proofs.fill_floats.Tie as tie
+use Rattle.case_words.proofs.fill_numbers.Statement.{statement}
+use Rattle.case_words.proofs.fill_numbers.Tie as tie
 
 abbrev Inv-loop : tie.InvT-loop
 Inv-loop bytes from out₀ at₀ i₀ out at i = (i ≤ length out) × (length out ≡ length out₀)
@@ -19,9 +19,6 @@ loop-holds c = search needs
 
 pattern-at-requires : tie.Need-pattern-at-requires Inv-loop μ-loop
 pattern-at-requires c κs = search needs
-
-from-bits-requires : tie.Need-from-bits-requires Inv-loop μ-loop
-from-bits-requires c κs = search needs
 
 mul-out : tie.Need-mul-out Inv-loop μ-loop
 mul-out c = search needs
@@ -47,15 +44,14 @@ same-length c = search needs
 returns : tie.Need-returns Inv-loop μ-loop
 returns c = search needs
 
-pub fill-floats-spec : {M : Type 1} → statement M
-fill-floats-spec =
+pub fill-numbers-spec : {M : Type 1} → statement M
+fill-numbers-spec =
     tie.close
     (tie.spec
     Inv-loop
     μ-loop
     loop-holds
     pattern-at-requires
-    from-bits-requires
     mul-out
     slice-write-out
     more-requires

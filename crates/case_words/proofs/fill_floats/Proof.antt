@@ -1,12 +1,12 @@
--- `replay_trees::fill_floats` is safe and ends: the list keeps its length.
+-- `case_words::fill_floats` is safe and ends: the list keeps its length.
 -- Assumes nothing.
 use Prim.Native.Nat.{_≤_, _-_}
 use mathlib.Core.Path.{_≡_}
 use native.Mathlib.Omega.{arith}
 use lib.ListN.{length, length-set}
 use borrow.Author.Needs.{needs}
-use Rattle.replay_trees.proofs.fill_floats.Statement.{statement}
-use Rattle.replay_trees.proofs.fill_floats.Tie as tie
+use Rattle.case_words.proofs.fill_floats.Statement.{statement}
+use Rattle.case_words.proofs.fill_floats.Tie as tie
 
 abbrev Inv-loop : tie.InvT-loop
 Inv-loop bytes from out₀ at₀ i₀ out at i = (i ≤ length out) × (length out ≡ length out₀)
