@@ -12,7 +12,7 @@ use lib.Ieee.Bits.{ofBits-fits}
 use lib.Ieee.Exact.{HasValue}
 use lib.Ieee.Positive.{value→cross}
 use Rattle.spec_angles.specs.Root.{IsRoot, WholeRoot, nearer, wholeRoot}
-use Rattle.spec_angles.specs.RootByBits.{NearestRoot, Split, Scaled, unitsOf}
+use Rattle.spec_angles.specs.RootByBits.{NearestRoot, InFours, Scaled, unitsOf}
 use Rattle.spec_angles.proofs.Powers.{square-reflects, pow-lt-reflects, pow-sum}
 use Rattle.spec_angles.proofs.WholeRoot.{whole-root, nearer-root, nearer-between}
 use Rattle.spec_angles.proofs.Bits.{units-subnormal, units-normal, units-of-pattern, bits-value, value-is-unsigned}
@@ -43,7 +43,7 @@ spare-of n p h =
 
 -- 23 or 24 places more leave an even power
 pub split-of : (n power z : ℕ) → Spare n z → 149 ≤ power → power < 403
-    → Split n power ((n * 2 ^ (z - 8 + 23 + (power - (z - 8) - 23) % 2)) % 2 ^ 64) ((power - (z - 8) - 23) / 2)
+    → InFours n power ((n * 2 ^ (z - 8 + 23 + (power - (z - 8) - 23) % 2)) % 2 ^ 64) ((power - (z - 8) - 23) / 2)
 split-of n power z s l h =
     let rest = power - (z - 8) - 23 in
     let shift = z - 8 + 23 + rest % 2 in
@@ -60,10 +60,10 @@ split-of n power z s l h =
     }
 
 -- the units of the bits b, by fours: of a normal number the exponent's field x stands for 2 ^ (x - 1) units, and 148 + x is (x - 1) + 149
-pub scaled-subnormal : (b d s : ℕ) → b < 2 ^ 23 → Split b 149 d s → Scaled (unitsOf b) d s
+pub scaled-subnormal : (b d s : ℕ) → b < 2 ^ 23 → InFours b 149 d s → Scaled (unitsOf b) d s
 scaled-subnormal b d s h p = rw (units-subnormal b h) p
 
-pub scaled-normal : (b d s : ℕ) → 2 ^ 23 ≤ b → Split (2 ^ 23 + b % 2 ^ 23) (148 + b / 2 ^ 23) d s → Scaled (unitsOf b) d s
+pub scaled-normal : (b d s : ℕ) → 2 ^ 23 ≤ b → InFours (2 ^ 23 + b % 2 ^ 23) (148 + b / 2 ^ 23) d s → Scaled (unitsOf b) d s
 scaled-normal b d s h p = record {
   least = p .least;
   most = p .most;

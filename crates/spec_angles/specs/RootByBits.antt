@@ -16,7 +16,7 @@ pub record NearestRoot (n r : ℕ) : Type 0 where
   pub near : Near n r
 
 -- significand * 2 ^ power is digits * 4 ^ scale, with 47 or 48 binary digits in front: there is only one such pair
-pub record Split (significand power digits scale : ℕ) : Type 0 where
+pub record InFours (significand power digits scale : ℕ) : Type 0 where
   pub least : 2 ^ 46 ≤ digits
   pub most : digits < 2 ^ 48
   pub few : scale < 200
@@ -24,4 +24,4 @@ pub record Split (significand power digits scale : ℕ) : Type 0 where
 
 -- the same for n units of 2 ^ -149, times 2 ^ 149: in units, the root of n is the root of n * 2 ^ 149
 abbrev pub Scaled : (n digits scale : ℕ) → Type 0
-Scaled n digits scale = Split n 149 digits scale
+Scaled n digits scale = InFours n 149 digits scale

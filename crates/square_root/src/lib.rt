@@ -4,7 +4,7 @@ ghost use Prim.Native.Nat.{_*_, _^_, _≤_, _<_};
 ghost use lib.Dec.{T};
 ghost use lib.Ieee.{binary32};
 ghost use Rattle.spec_angles.specs.Root as Root;
-ghost use Rattle.spec_angles.specs.RootByBits.{unitsOf, Scaled, Split};
+ghost use Rattle.spec_angles.specs.RootByBits.{unitsOf, Scaled, InFours};
 
 // The largest r whose square is at most n. The root lies from `r` on and below `r + step`, and each
 // turn halves that interval.
@@ -43,7 +43,7 @@ struct ByFours {
 // significand * 2 ^ power, so written.
 fn by_fours(significand: u32, power: u32) -> ByFours
     requires { ⌜ (0 < significand) × (significand < 2 ^ 24) × (149 ≤ power) × (power < 403) ⌝ }
-    ensures { λ r. ⌜ Split significand power (r .digits) (r .scale) ⌝ }
+    ensures { λ r. ⌜ InFours significand power (r .digits) (r .scale) ⌝ }
 {
     let spare = u32::leading_zeros(significand) - 8;
     let rest = power - spare - 23;
