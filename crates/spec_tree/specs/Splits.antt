@@ -4,23 +4,21 @@ use mathlib.Core.Bool.{false}
 use mathlib.Core.List.{List, [], _∷_, map, foldl}
 use Prim.Native.Nat.{ℕ, _+_, _*_, _<_, _≤_}
 use lib.ListN.{length, getD}
-use lib.Ieee.{Float, Format, nan, lt}
+use lib.Ieee.{Float, Format, lt}
 use Rattle.spec_numbers.specs.Axes.{Axis, X, Y, Z}
-use Rattle.spec_shapes.specs.Points.{Point, on}
+use Rattle.spec_shapes.specs.Points.{on}
 use Rattle.spec_shapes.specs.Boxes.{Box, empty, union, centre}
 use Rattle.spec_shapes.specs.Plain.{PlainBox}
+use Rattle.spec_tree.specs.Trees.{nodeBox}
 
 -- the part is cut before this object, or stays whole
 pub data Split : Type 0 where
   cutAt : ℕ → Split
   nowhere : Split
 
--- ---- a table of the triangles' boxes: six numbers each, the smallest x y z, then the largest
-abbrev pub pointIn : List Float → ℕ → Point
-pointIn bounds k = record { x = getD bounds k nan; y = getD bounds (k + 1) nan; z = getD bounds (k + 2) nan }
-
+-- ---- a table of the triangles' boxes, which stand in it as those of nodes do: six numbers each, the smallest x y z, then the largest
 unfoldable pub boxIn : List Float → ℕ → Box
-boxIn bounds t = record { min = pointIn bounds (6 * t); max = pointIn bounds (6 * t + 3) }
+boxIn bounds t = nodeBox bounds t
 
 abbrev pub boxesOf : List Float → List ℕ → List Box
 boxesOf bounds part = map (boxIn bounds) part

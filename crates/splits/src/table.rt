@@ -8,13 +8,14 @@ ghost use Rattle.spec_shapes.specs.Points as Points;
 ghost use Rattle.spec_shapes.specs.Boxes as Boxes;
 ghost use Rattle.box3.specs.Values as Shapes;
 ghost use Rattle.spec_tree.specs.Splits as Splits;
+ghost use Rattle.spec_tree.specs.Trees as Trees;
 use box3::Box3;
 use vec3::Axis;
 use vec3::Vec3;
 
 fn point_at(bounds: &[f32], at: usize) -> Vec3
     requires { ⌜ at + 3 ≤ length (now bounds) ⌝ }
-    ensures { λ r. ⌜ Shapes.asPoint r ≡ Splits.pointIn (now (bounds .entry)) at ⌝ }
+    ensures { λ r. ⌜ Shapes.asPoint r ≡ Trees.pointFrom (now (bounds .entry)) at ⌝ }
 {
     Vec3 {
         x: bounds[at],
