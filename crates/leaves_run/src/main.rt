@@ -13,7 +13,6 @@ use traverse::traverse::LeavesCounted;
 use traverse::traverse::leaf_from;
 use traverse::traverse::leaves;
 use vec3::Vec3;
-use vec3::Vec3;
 
 // The first two words of a case.
 struct Head {
