@@ -1,12 +1,12 @@
--- `gauge_run::put_answer_line` meets its contract: the first of the six numbers says which line it is.
+-- `answer_lines::put_answer_line` meets its contract: the first of the six numbers says which line it is.
 -- Assumes nothing.
 use denote.Ref.{now}
 use native.Mathlib.Omega.{arith}
 use Rattle.spec_tables.proofs.Tables.{put-same}
 use Rattle.spec_gauge.proofs.Lines.{nothing-words, found-words}
 use borrow.Author.Needs.{needs}
-use Rattle.gauge_run.proofs.lines.put_answer_line.Statement.{statement}
-use Rattle.gauge_run.proofs.lines.put_answer_line.Tie as tie
+use Rattle.answer_lines.proofs.lines.put_answer_line.Statement.{statement}
+use Rattle.answer_lines.proofs.lines.put_answer_line.Tie as tie
 
 mul-first : tie.Need-mul-first
 mul-first c = search needs

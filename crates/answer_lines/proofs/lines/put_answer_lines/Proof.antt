@@ -1,12 +1,12 @@
--- `gauge_run::put_answer_lines` meets its contract. The invariant: the first k lines stand one behind the other.
+-- `answer_lines::put_answer_lines` meets its contract. The invariant: the first k lines stand one behind the other.
 -- Assumes nothing.
 use denote.Ref.{now}
 use Prim.Native.Nat.{_-_}
 use native.Mathlib.Omega.{arith}
 use Rattle.spec_gauge.specs.Lines.{wordsLine}
 use Rattle.spec_gauge.proofs.Lines.{Lined, lined-start, lined-more, lined-end}
-use Rattle.gauge_run.proofs.lines.put_answer_lines.Statement.{statement}
-use Rattle.gauge_run.proofs.lines.put_answer_lines.Tie as tie
+use Rattle.answer_lines.proofs.lines.put_answer_lines.Statement.{statement}
+use Rattle.answer_lines.proofs.lines.put_answer_lines.Tie as tie
 
 abbrev Inv-loop : tie.InvT-loop
 Inv-loop answers count out₀ at next₀ k₀ out next k = Lined (wordsLine answers) at count out₀ out next k
