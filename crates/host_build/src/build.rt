@@ -1,5 +1,4 @@
 // The build, from the outside in: the bytes, the list, the image.
-ghost use mathlib.Core.Path.{_≡_};
 ghost use lib.ListN.{length};
 ghost use Rattle.spec_records.specs.Layouts.{version1};
 ghost use Rattle.spec_lists.specs.Refusals.{roomRefusal};
@@ -16,12 +15,10 @@ use lists::limits::MOST_TRIANGLES;
 use lists::refusal::Verdict;
 use lists::settings::Settings;
 use lists::triangles::triangle_count;
-use little_endian::read_f32s;
 use told::tell;
 use told::tell_refusal;
-
-// Of a triangle list that passes test 3.
-const MOST_BYTES: usize = 36 * MOST_TRIANGLES;
+use triangle_bytes::length_refusal;
+use triangle_bytes::read_triangles;
 
 // The image of a tree in lists, where there is room for it: test 6.
 fn put_built(
@@ -88,15 +85,13 @@ pub fn build_image(
 ) -> u64
     ensures { λ r. ⌜ ImagePut (bytesRefusal (now (triangles .entry)) (record { strategy = strategy; leafMinimum = «leaf_minimum»; maximumDepth = «maximum_depth» }) (length (now (image .entry)))) (builtImage (numbersOf (now (triangles .entry))) (record { strategy = strategy; leafMinimum = «leaf_minimum»; maximumDepth = «maximum_depth» })) (now (image .entry)) r (now (image .exit)) ⌝ }
 {
-    if triangles.len() % 36 != 0 {
-        return tell_refusal(1, 0);
+    let verdict = length_refusal(triangles);
+    if let Verdict::Refused { number, place } = verdict {
+        return tell_refusal(number, place);
     }
-    if triangles.len() > MOST_BYTES {
-        return tell_refusal(3, 0);
-    }
-    let numbers = triangles.len() / 4;
     let mut list = [0.0f32; 9 * MOST_TRIANGLES];
-    read_f32s(triangles, 0, numbers, &mut list, 0);
+    read_triangles(triangles, &mut list);
+    let numbers = triangles.len() / 4;
     let settings = Settings {
         strategy,
         leaf_minimum,

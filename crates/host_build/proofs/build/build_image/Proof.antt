@@ -1,36 +1,47 @@
 -- `host_build::build_image` meets its contract: bytes that hold no list, or the list that they hold.
 -- Assumes nothing.
-use mathlib.Core.Path.{refl, sym}
+use mathlib.Core.Path.{refl, sym, ap, _∙_}
 use native.Mathlib.Omega.{arith}
 use lib.Seq.{length-take-le}
-use Rattle.spec_host.proofs.Build.{put-nothing, put-as, bytes-ragged, bytes-many, bytes-whole, numbers-read}
+use Rattle.lists.specs.Values.{asVerdict}
+use Rattle.spec_host.proofs.Build.{put-nothing, put-as, bytes-whole, numbers-read}
+use Rattle.triangle_bytes.proofs.Length.{length-refused, length-told, length-passed}
 use borrow.Author.Needs.{needs}
 use Rattle.host_build.proofs.build.build_image.Statement.{statement}
 use Rattle.host_build.proofs.build.build_image.Tie as tie
 
+length-refusal-requires : tie.Need-length-refusal-requires
+length-refusal-requires c κs = search needs
+
+enum-known-verdict : tie.Need-enum-known-verdict
+enum-known-verdict c = search needs
+
 tell-refusal-requires : tie.Need-tell-refusal-requires
-tell-refusal-requires c κs = search needs
+tell-refusal-requires c κs = length-told _ (sym (c .before .before .before .length-refusal .ensures) ∙ ap asVerdict (c .before .verdict .given .1))
 
 returns : tie.Need-returns
-returns c = put-nothing (bytes-ragged _ _ _ (c .before .if1 .taken)) (c .tell-refusal .ensures)
+returns c = put-nothing (length-refused _ _ _ (sym (c .before .before .before .before .length-refusal .ensures) ∙ ap asVerdict (c .before .before .verdict .given .1))) (c .tell-refusal .ensures)
 
-tell-refusal-requires-2 : tie.Need-tell-refusal-requires-2
-tell-refusal-requires-2 c κs = search needs
+enum-told : tie.Need-enum-told
+enum-told c = search needs
 
-returns-2 : tie.Need-returns-2
-returns-2 c = put-nothing (bytes-many _ _ _ (c .before .before .if1 .left) (c .before .if2 .taken)) (c .tell-refusal2 .ensures)
+slice-aggregate-read-triangles : tie.Need-slice-aggregate-read-triangles
+slice-aggregate-read-triangles c = search needs
 
-slice-aggregate-read-f32s : tie.Need-slice-aggregate-read-f32s
-slice-aggregate-read-f32s c = search needs
-
-read-f32s-requires : tie.Need-read-f32s-requires
-read-f32s-requires c κs = search needs
+read-triangles-requires : tie.Need-read-triangles-requires
+read-triangles-requires c κs =
+    let few = length-passed _ (sym (c .before .before .before .length-refusal .ensures) ∙ ap asVerdict (c .before .enum-told .given .1)) in
+    omega arith
 
 array-share-prefix-list : tie.Need-array-share-prefix-list
-array-share-prefix-list c = search needs
+array-share-prefix-list c =
+    let few = length-passed _ (sym (c .before .before .before .before .before .length-refusal .ensures) ∙ ap asVerdict (c .before .before .before .enum-told .given .1)) in
+    omega (arith, c .list2 .given)
 
 slice-aggregate-build-list : tie.Need-slice-aggregate-build-list
-slice-aggregate-build-list c = sym (length-take-le _ _ (omega (arith, c .before .before .before .before .if2 .left, c .before .list2 .given)))
+slice-aggregate-build-list c =
+    let few = length-passed _ (sym (c .before .before .before .before .before .before .length-refusal .ensures) ∙ ap asVerdict (c .before .before .before .before .enum-told .given .1)) in
+    sym (length-take-le _ _ (omega (arith, c .before .list2 .given)))
 
 build-list-requires : tie.Need-build-list-requires
 build-list-requires c κs = search needs
@@ -38,21 +49,22 @@ build-list-requires c κs = search needs
 same-length : tie.Need-same-length
 same-length c = search needs
 
-returns-3 : tie.Need-returns-3
-returns-3 c = put-as (bytes-whole _ _ _ (c .before .before .before .before .before .before .before .before .before .if1 .left)) refl refl (rw (numbers-read _ _ _ (c .before .before .before .before .before .before .read-f32s .ensures)) at (c .before .before .build-list .ensures))
+returns-2 : tie.Need-returns-2
+returns-2 c = put-as (bytes-whole _ _ _ (length-passed _ (sym (c .before .before .before .before .before .before .before .before .before .before .length-refusal .ensures) ∙ ap asVerdict (c .before .before .before .before .before .before .before .before .enum-told .given .1)) .0)) refl refl (rw (numbers-read _ _ _ (c .before .before .before .before .before .before .read-triangles .ensures)) at (c .before .before .build-list .ensures))
 
 pub build-image-spec : {M : Type 1} → statement M
 build-image-spec =
     tie.close
     (tie.spec
+    length-refusal-requires
+    enum-known-verdict
     tell-refusal-requires
     returns
-    tell-refusal-requires-2
-    returns-2
-    slice-aggregate-read-f32s
-    read-f32s-requires
+    enum-told
+    slice-aggregate-read-triangles
+    read-triangles-requires
     array-share-prefix-list
     slice-aggregate-build-list
     build-list-requires
     same-length
-    returns-3)
+    returns-2)
