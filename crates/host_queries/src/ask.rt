@@ -1,9 +1,10 @@
 // A query over an image, from the outside in: its layout, its triangles, its tree. What is loaded
 // stands in local lists, once.
-use crate::load::count_refusal;
-use crate::load::early_refusal;
 use crate::load::load_tree;
 use image::settings_of;
+use image_tests::count_refusal;
+use image_tests::early_refusal;
+use image_tests::nodes_refusal;
 use lists::limits::MOST_NODES;
 use lists::limits::MOST_TRIANGLES;
 use lists::refusal::Verdict;
@@ -74,20 +75,13 @@ fn ask_triangles(
     ensures verdict { λ r. ⌜ asVerdict r ≡ askedRefusal (imageIn version1 (now (image .entry)) count nodes) (now (points .entry)) distance (length (now (answers .entry))) ⌝ }
     ensures answers { λ r. ⌜ now (answers .exit) ≡ afterBytes (asVerdict r) (answerBytes (answerIn (asQuery query) (imageIn version1 (now (image .entry)) count nodes) distance) (now (points .entry))) (now (answers .entry)) ⌝ }
 {
-    let early = early_refusal(
-        triangles,
-        settings_of(image),
-        answers.len() / 24,
-        points.len() / 12,
-    );
+    let early = early_refusal(triangles, settings_of(image), answers.len(), points.len());
     if early.refuses() {
         return early;
     }
-    if nodes > MOST_NODES {
-        return Verdict::Refused {
-            number: 7,
-            place: 0,
-        };
+    let too_many = nodes_refusal(nodes);
+    if too_many.refuses() {
+        return too_many;
     }
     ask_tree(
         query,

@@ -1,5 +1,5 @@
 // Winding numbers over an image: its layout, its triangles, and nothing of its tree.
-use crate::load::count_refusal;
+use image_tests::count_refusal;
 use lists::limits::MOST_TRIANGLES;
 use lists::refusal::Verdict;
 use little_endian::read_f32s;

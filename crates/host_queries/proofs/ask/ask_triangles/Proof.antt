@@ -1,6 +1,6 @@
 -- `host_queries::ask_triangles` meets its contract: the tests before the tree, a count of nodes that no tree has, and the tree.
 -- Assumes nothing.
-use mathlib.Core.Path.{refl, sym, _∙_}
+use mathlib.Core.Path.{sym, _∙_}
 use lib.ListN.{length}
 use Rattle.spec_records.specs.Layouts.{version1}
 use Rattle.spec_image.specs.Image.{imageIn}
@@ -8,6 +8,7 @@ use Rattle.spec_lists.proofs.Verdicts.{did-pass}
 use Rattle.spec_asked.proofs.PointBytes.{as-it-was}
 use Rattle.spec_asked.proofs.Asked.{early-passed, early-stops, late-decides, tree-stops}
 use Rattle.spec_asked.proofs.Loaded.{early-same, nodes-refused}
+use Rattle.image_tests.proofs.Nodes.{nodes-stop, nodes-many, nodes-few}
 use borrow.Author.Needs.{needs}
 use Rattle.host_queries.proofs.ask.ask_triangles.Statement.{statement}
 use Rattle.host_queries.proofs.ask.ask_triangles.Tie as tie
@@ -29,28 +30,35 @@ returns c =
       as-it-was _ _ _ (sym (c .before .refuses .ensures) ∙ c .if1 .taken),
     )
 
+nodes-refusal-requires : tie.Need-nodes-refusal-requires
+nodes-refusal-requires c κs = search needs
+
+refuses-requires-2 : tie.Need-refuses-requires-2
+refuses-requires-2 c κs = search needs
+
 returns-2 : tie.Need-returns-2
 returns-2 c =
-    let a = c .before .before .before .before .before .before .before .before .before .args in
+    let a = c .before .before .before .before .before .before .before .before .before .before .before .args in
     let x = imageIn version1 (a .image .now) (a .count) (a .nodes) in
-    let ready = early-passed (a .triangles .now) (a .points .now) _ (length (a .answers .now)) (did-pass _ _ _ (c .before .before .before .early-refusal .ensures) (c .before .before .refuses .ensures) (c .before .if1 .left)) in (
-      tree-stops x (a .points .now) (a .distance) (length (a .answers .now)) _ _ (c .before .before .before .early-refusal .ensures ∙ early-same (c .before .before .before .before .before .before .before .before .before .pre) _ _ _ (c .before .before .before .before .settings-of .ensures)) (c .before .before .refuses .ensures) (c .before .if1 .left) (nodes-refused (c .before .before .before .before .before .before .before .before .before .pre) (ready .triangles-good .few) (c .if2 .taken)),
-      as-it-was _ _ _ refl,
+    let ready = early-passed (a .triangles .now) (a .points .now) _ (length (a .answers .now)) (did-pass _ _ _ (c .before .before .before .before .before .early-refusal .ensures) (c .before .before .before .before .refuses .ensures) (c .before .before .before .if1 .left)) in (
+      nodes-stop (a .nodes) _ _ (c .before .before .nodes-refusal .ensures) (c .before .refuses2 .ensures) (c .if2 .taken)
+          ∙ tree-stops x (a .points .now) (a .distance) (length (a .answers .now)) _ _ (c .before .before .before .before .before .early-refusal .ensures ∙ early-same (c .before .before .before .before .before .before .before .before .before .before .before .pre) _ _ _ (c .before .before .before .before .before .before .settings-of .ensures)) (c .before .before .before .before .refuses .ensures) (c .before .before .before .if1 .left) (nodes-refused (c .before .before .before .before .before .before .before .before .before .before .before .pre) (ready .triangles-good .few) (nodes-many (a .nodes) _ _ (c .before .before .nodes-refusal .ensures) (c .before .refuses2 .ensures) (c .if2 .taken))),
+      as-it-was _ _ _ (sym (c .before .refuses2 .ensures) ∙ c .if2 .taken),
     )
 
 ask-tree-requires : tie.Need-ask-tree-requires
 ask-tree-requires c κs =
-    let a = c .before .before .before .before .before .before .before .before .before .before .args in
-    (c .before .before .before .before .before .before .before .before .before .before .pre, (early-passed (a .triangles .now) (a .points .now) _ (length (a .answers .now)) (did-pass _ _ _ (c .before .before .before .before .early-refusal .ensures) (c .before .before .before .refuses .ensures) (c .before .before .if1 .left)), c .before .if2 .left))
+    let a = c .before .before .before .before .before .before .before .before .before .before .before .before .args in
+    (c .before .before .before .before .before .before .before .before .before .before .before .before .pre, (early-passed (a .triangles .now) (a .points .now) _ (length (a .answers .now)) (did-pass _ _ _ (c .before .before .before .before .before .before .early-refusal .ensures) (c .before .before .before .before .before .refuses .ensures) (c .before .before .before .before .if1 .left)), nodes-few (a .nodes) _ _ (c .before .before .before .nodes-refusal .ensures) (c .before .before .refuses2 .ensures) (c .before .if2 .left)))
 
 same-length : tie.Need-same-length
 same-length c = search needs
 
 returns-3 : tie.Need-returns-3
 returns-3 c =
-    let a = c .before .before .before .before .before .before .before .before .before .before .before .before .before .args in
+    let a = c .before .before .before .before .before .before .before .before .before .before .before .before .before .before .before .args in
     let x = imageIn version1 (a .image .now) (a .count) (a .nodes) in (
-      late-decides x (a .points .now) (a .distance) (length (a .answers .now)) _ _ (c .before .before .before .before .before .before .before .early-refusal .ensures ∙ early-same (c .before .before .before .before .before .before .before .before .before .before .before .before .before .pre) _ _ _ (c .before .before .before .before .before .before .before .before .settings-of .ensures)) (c .before .before .before .before .before .before .refuses .ensures) (c .before .before .before .before .before .if1 .left) _ (c .before .before .ask-tree .ensures .0),
+      late-decides x (a .points .now) (a .distance) (length (a .answers .now)) _ _ (c .before .before .before .before .before .before .before .before .before .early-refusal .ensures ∙ early-same (c .before .before .before .before .before .before .before .before .before .before .before .before .before .before .before .pre) _ _ _ (c .before .before .before .before .before .before .before .before .before .before .settings-of .ensures)) (c .before .before .before .before .before .before .before .before .refuses .ensures) (c .before .before .before .before .before .before .before .if1 .left) _ (c .before .before .ask-tree .ensures .0),
       c .before .before .ask-tree .ensures .1,
     )
 
@@ -62,6 +70,8 @@ ask-triangles-spec =
     early-refusal-requires
     refuses-requires
     returns
+    nodes-refusal-requires
+    refuses-requires-2
     returns-2
     ask-tree-requires
     same-length

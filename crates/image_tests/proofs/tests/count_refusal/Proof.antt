@@ -1,10 +1,10 @@
--- `host_queries::count_refusal` meets its contract: the two tests in turn.
+-- `image_tests::count_refusal` meets its contract: the two tests in turn.
 -- Assumes nothing.
 use Rattle.spec_lists.proofs.Verdicts.{stops, goes-on, ends}
 use Rattle.spec_asked.specs.Loading.{countRefusal}
 use borrow.Author.Needs.{needs}
-use Rattle.host_queries.proofs.load.count_refusal.Statement.{statement}
-use Rattle.host_queries.proofs.load.count_refusal.Tie as tie
+use Rattle.image_tests.proofs.tests.count_refusal.Statement.{statement}
+use Rattle.image_tests.proofs.tests.count_refusal.Tie as tie
 
 refused-if-requires : tie.Need-refused-if-requires
 refused-if-requires c κs = search needs

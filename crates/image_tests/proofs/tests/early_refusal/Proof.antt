@@ -1,10 +1,10 @@
--- `host_queries::early_refusal` meets its contract: the three tests in turn.
+-- `image_tests::early_refusal` meets its contract: the three tests in turn.
 -- Assumes nothing.
 use Rattle.spec_lists.proofs.Verdicts.{stops, goes-on, ends}
 use Rattle.spec_asked.specs.Loading.{earlyRefusal}
 use borrow.Author.Needs.{needs}
-use Rattle.host_queries.proofs.load.early_refusal.Statement.{statement}
-use Rattle.host_queries.proofs.load.early_refusal.Tie as tie
+use Rattle.image_tests.proofs.tests.early_refusal.Statement.{statement}
+use Rattle.image_tests.proofs.tests.early_refusal.Tie as tie
 
 triangles-refusal-requires : tie.Need-triangles-refusal-requires
 triangles-refusal-requires c κs = search needs
