@@ -18,7 +18,7 @@ use aabb_build::build::build;
 use answer_lines::put_answer_lines;
 use closest::queries::sure_query;
 use floats::from_bits;
-use image::settings_of;
+use image_get::settings_of;
 use lists::points::point_count;
 use lists::refusal::Verdict;
 use lists::settings::Settings;

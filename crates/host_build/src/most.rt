@@ -1,7 +1,7 @@
 // How large an image is at most, so that a host can lend room that always does.
 ghost use mathlib.Core.Path.{_≡_};
 ghost use Rattle.spec_host.specs.Build.{imageMost};
-use image::image_size;
+use image_put::image_size;
 use lists::limits;
 
 // Of so many triangles; 0 where no list of so many passes.

@@ -1,7 +1,7 @@
 // A query over an image, from the outside in: its layout, its triangles, its tree. What is loaded
 // stands in local lists, once.
-use crate::load::load_tree;
-use image::settings_of;
+use image_get::read_tree;
+use image_get::settings_of;
 use image_tests::count_refusal;
 use image_tests::early_refusal;
 use image_tests::nodes_refusal;
@@ -44,7 +44,7 @@ fn ask_tree(
     let mut order = [0u32; MOST_TRIANGLES];
     let mut links = [0u32; 3 * MOST_NODES];
     let mut boxes = [0.0f32; 6 * MOST_NODES];
-    load_tree(image, count, nodes, &mut order, &mut links, &mut boxes);
+    read_tree(image, count, nodes, &mut order, &mut links, &mut boxes);
     let links_end = 3 * nodes;
     let boxes_end = 6 * nodes;
     ask_lists(

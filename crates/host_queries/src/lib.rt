@@ -3,7 +3,6 @@
 // definition of `spec_asked`.
 mod ask;
 mod calls;
-mod load;
 mod wind;
 
 pub use calls::check_image;

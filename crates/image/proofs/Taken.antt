@@ -1,36 +1,23 @@
--- What was read, put together: a node's links, the answer, and lists that a refusal leaves as they were. Assumes nothing.
+-- What was read, put together: the answer, and lists that a refusal leaves as they were. Assumes nothing.
 use mathlib.Core.Path.{_≡_, sym, ap, _∙_}
 use mathlib.Core.List.{List}
 use mathlib.Core.Bool.{Bool, true, _&&_}
-use Prim.Native.Nat.{ℕ, _+_, _*_, _/_, _≤_}
+use Prim.Native.Nat.{ℕ, _*_, _/_, _≤_}
 use native.Mathlib.Omega.{arith}
 use borrow.Author.Tests.{leb-true}
 use lib.ListN.{length}
 use lib.Dec.{leb}
 use lib.Ieee.{Float}
-use Rattle.spec_tables.specs.Tables.{over}
-use Rattle.spec_tables.proofs.Tables.{then-over, over-none}
-use Rattle.spec_tables.proofs.Pieces.{length-singles}
-use Rattle.spec_records.specs.Entries.{numbersIn}
+use Rattle.spec_tables.proofs.Tables.{over-none}
 use Rattle.spec_records.specs.Records.{bodies, laidOut}
 use Rattle.spec_records.specs.Layouts.{version1, imageSpans, imageSize, imageWants}
 use Rattle.spec_records.proofs.Records.{both}
-use Rattle.spec_image.specs.Image.{linksIn}
 use Rattle.spec_image.specs.Reading.{Rooms, refused, roomFor, byRoom, imageRead, filledBy}
 use Rattle.spec_image.proofs.Sizes.{image-is}
 use Rattle.records.specs.Values.{imageLaid}
 use Rattle.records.specs.declared.layout.ImageLayout.{ImageLayout}
 use Rattle.records.specs.declared.layout.ImageLayout.the-variants.{Right, Wrong}
-use Rattle.image.specs.Values.{Filled}
-
-pub links-over : (s : List ℕ) (start i : ℕ) (old mid out : List ℕ) → 3 * i + 3 ≤ length old
-    → mid ≡ over (3 * i) (numbersIn 2 s (start + 30 * i) 1) old → out ≡ over (3 * i + 1) (numbersIn 2 s (start + 30 * i + 2) 2) mid
-    → out ≡ over (3 * i) (linksIn version1 s start i) old
-unfolding linksIn
-links-over s start i old mid out room p q =
-    let a : length (numbersIn 2 s (start + 30 * i) 1) ≡ 1 = length-singles _ 1 in
-    let b : length (numbersIn 2 s (start + 30 * i + 2) 2) ≡ 2 = length-singles _ 2 in
-    then-over (3 * i) (3 * i + 1) (numbersIn 2 s (start + 30 * i) 1) (numbersIn 2 s (start + 30 * i + 2) 2) old mid out p q (omega arith) (omega arith)
+use Rattle.image_get.specs.Values.{Filled}
 
 -- nothing is changed on a refusal
 pub unchanged : (number place : ℕ) (s : List ℕ) (t : List Float) (o l : List ℕ) (b : List Float) → Filled (filledBy version1 s (refused number place)) t o l b t o l b

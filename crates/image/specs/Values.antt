@@ -1,32 +1,20 @@
--- The crate's values in the terms of `spec_image`, and what reading leaves in the lent lists. Definitions only.
+-- The crate's values in the terms of `spec_image`, and what the calls leave in the lent lists. Definitions only.
 use Prim.Native.Nat.{ℕ}
 use mathlib.Core.Path.{_≡_}
 use mathlib.Core.List.{List}
 use lib.ListN.{length}
 use lib.Ieee.{Float}
-use Rattle.spec_tables.specs.Tables.{over}
 use Rattle.spec_records.specs.Layouts.{version1}
 use Rattle.spec_image.specs.Image.{Image}
 use Rattle.spec_image.specs.Reading as Reading
 use Rattle.spec_image.specs.Writing as Writing
-use Rattle.lists.specs.declared.settings.Settings.{Settings}
 use Rattle.lists.specs.Values.{asSettings}
+use Rattle.image_get.specs.Values.{Filled}
 use Rattle.image.specs.declared.read.Rooms.{Rooms}
 use Rattle.image.specs.declared.read.ImageRead.{ImageRead}
 use Rattle.image.specs.declared.read.ImageRead.the-variants.{Refused, Read}
 use Rattle.image.specs.declared.write.ImageWritten.{ImageWritten}
 use Rattle.image.specs.declared.write.ImageWritten.the-variants as Written
-
--- a tree in lent lists
-abbrev pub imageOf : Settings → List Float → List ℕ → List ℕ → List Float → ℕ → Image
-imageOf s triangles order links boxes nodes = record {
-  settings = asSettings s;
-  triangles = triangles;
-  order = order;
-  nodes = nodes;
-  links = links;
-  boxes = boxes;
-}
 
 abbrev pub imageFrom : (strategy leafMinimum maximumDepth : ℕ) → List Float → List ℕ → List ℕ → List Float → ℕ → Image
 imageFrom strategy leafMinimum maximumDepth triangles order links boxes nodes = record {
@@ -44,13 +32,6 @@ roomsOf r = record { triangles = r .triangles; order = r .order; links = r .link
 abbrev pub answerOf : ImageRead → Reading.ImageRead
 answerOf (Refused number place) = Reading.refused number place
 answerOf (Read settings triangles nodes) = Reading.holds (asSettings settings) triangles nodes
-
--- the image's lists stand at the front of the lent ones, and all else is as it was
-pub record Filled (x : Image) (t : List Float) (o l : List ℕ) (b t′ : List Float) (o′ l′ : List ℕ) (b′ : List Float) : Type 0 where
-  pub triangles : t′ ≡ over 0 (x .triangles) t
-  pub order : o′ ≡ over 0 (x .order) o
-  pub links : l′ ≡ over 0 (x .links) l
-  pub boxes : b′ ≡ over 0 (x .boxes) b
 
 abbrev pub roomsIn : List Float → List ℕ → List ℕ → List Float → Reading.Rooms
 roomsIn t o l b = record { triangles = length t; order = length o; links = length l; boxes = length b }

@@ -1,19 +1,15 @@
 // Writing an image: the tests 1 to 7 in turn, then the bytes.
 ghost use mathlib.Core.Path.{_≡_};
-ghost use mathlib.Core.Bool.{not};
-ghost use Prim.Native.Nat.{_≤_, _<_, _^_};
-ghost use lib.Dec.{ltb};
-ghost use lib.ListN.{length};
-ghost use Rattle.spec_records.specs.Layouts.{version1, imageSize};
-ghost use Rattle.spec_lists.specs.Limits.{mostTriangles};
-ghost use Rattle.spec_lists.specs.Refusals as Refusals;
+ghost use Prim.Native.Nat.{_<_, _^_};
+ghost use Rattle.spec_records.specs.Layouts.{version1};
 ghost use Rattle.spec_image.specs.Writing.{writeRefusal};
 ghost use Rattle.lists.specs.Values.{asVerdict};
-ghost use Rattle.image.specs.Values.{imageOf, imageFrom, WrittenIs};
-use crate::put::put_image;
+ghost use Rattle.image_put.specs.Values.{imageOf};
+ghost use Rattle.image.specs.Values.{imageFrom, WrittenIs};
 use aabb_tree::refusals::tree_refusal;
+use image_put::image_room_refusal;
+use image_put::put_image;
 use lists::refusal::Verdict;
-use lists::refusal::refused_if;
 use lists::settings::Settings;
 use lists::settings::settings_refusal;
 use lists::triangles::triangle_count;
@@ -23,33 +19,6 @@ use lists::triangles::triangles_refusal;
 pub enum ImageWritten {
     Refused { number: usize, place: usize },
     Bytes(usize),
-}
-
-// How many bytes the image of so many triangles and nodes has.
-pub fn image_size(triangles: usize, nodes: usize) -> usize
-    requires { ⌜ imageSize version1 triangles nodes < 2 ^ 64 ⌝ }
-    ensures { λ r. ⌜ r ≡ imageSize version1 triangles nodes ⌝ }
-{
-    32 + 38 * triangles + 30 * nodes
-}
-
-// A node count of any size, however large, is asked for: it is held to the room before it is multiplied.
-fn is_short(given: usize, triangles: usize, nodes: usize) -> bool
-    requires { ⌜ (given < 2 ^ 63) × (triangles ≤ mostTriangles) ⌝ }
-    ensures { λ r. ⌜ r ≡ ltb given (imageSize version1 triangles nodes) ⌝ }
-{
-    if nodes > given / 30 {
-        return true;
-    }
-    given < image_size(triangles, nodes)
-}
-
-// 6: so many bytes are fewer than the image has.
-fn image_room_refusal(given: usize, triangles: usize, nodes: usize) -> Verdict
-    requires { ⌜ (given < 2 ^ 63) × (triangles ≤ mostTriangles) ⌝ }
-    ensures { λ r. ⌜ asVerdict r ≡ Refusals.roomRefusal given (imageSize version1 triangles nodes) ⌝ }
-{
-    refused_if(is_short(given, triangles, nodes), 6, 0)
 }
 
 // 1 to 7.

@@ -110,7 +110,7 @@ fn write_again(
     requires { ⌜ (3 * nodes ≤ length (now links)) × (6 * nodes ≤ length (now boxes)) × (nodes ≤ 7) ⌝ }
 {
     let mut out = [0; 400];
-    let end = image::put_image(settings, triangles, order, links, boxes, nodes, &mut out);
+    let end = image_put::put_image(settings, triangles, order, links, boxes, nodes, &mut out);
     put_same(check::same(&out[..end], bytes));
     write_tested(bytes, settings, triangles, order, links, boxes, nodes);
 }

@@ -9,21 +9,22 @@ use Rattle.spec_search.specs.Answers.{Answer}
 use Rattle.spec_asked.specs.PointBytes.{answerBytes, afterBytes}
 use Rattle.spec_asked.proofs.Loaded.{loaded-count, late-same, answer-same}
 use Rattle.point_queries.specs.Values.{asQuery}
+use Rattle.host_queries.proofs.Tree.{tree-read}
 use borrow.Author.Needs.{needs}
 use Rattle.host_queries.proofs.ask.ask_tree.Statement.{statement}
 use Rattle.host_queries.proofs.ask.ask_tree.Tie as tie
 
-slice-aggregate-load-tree : tie.Need-slice-aggregate-load-tree
-slice-aggregate-load-tree c = search needs
+slice-aggregate-read-tree : tie.Need-slice-aggregate-read-tree
+slice-aggregate-read-tree c = search needs
 
-slice-aggregate-load-tree-2 : tie.Need-slice-aggregate-load-tree-2
-slice-aggregate-load-tree-2 c = search needs
+slice-aggregate-read-tree-2 : tie.Need-slice-aggregate-read-tree-2
+slice-aggregate-read-tree-2 c = search needs
 
-slice-aggregate-load-tree-3 : tie.Need-slice-aggregate-load-tree-3
-slice-aggregate-load-tree-3 c = search needs
+slice-aggregate-read-tree-3 : tie.Need-slice-aggregate-read-tree-3
+slice-aggregate-read-tree-3 c = search needs
 
-load-tree-requires : tie.Need-load-tree-requires
-load-tree-requires c κs = (c .before .before .before .before .before .before .before .pre .0 .long, (omega (arith, loaded-count (c .before .before .before .before .before .before .before .pre .0), c .before .before .before .before .before .before .before .pre .1 .0 .triangles-good .few), (omega (arith, c .before .before .before .before .before .before .before .pre .1 .1), omega (arith, c .before .before .before .before .before .before .before .pre .1 .1))))
+read-tree-requires : tie.Need-read-tree-requires
+read-tree-requires c κs = (omega (arith, c .before .before .before .before .before .before .before .pre .0 .long), (omega (arith, loaded-count (c .before .before .before .before .before .before .before .pre .0), c .before .before .before .before .before .before .before .pre .1 .0 .triangles-good .few), (omega (arith, c .before .before .before .before .before .before .before .pre .1 .1), omega (arith, c .before .before .before .before .before .before .before .pre .1 .1))))
 
 mul-links-end : tie.Need-mul-links-end
 mul-links-end c = search needs
@@ -59,7 +60,7 @@ returns : tie.Need-returns
 returns c =
     let a = c .before .before .before .before .before .before .before .before .before .before .before .before .before .before .before .before .before .before .args in
     let l = c .before .before .before .before .before .before .before .before .before .before .before .before .before .before .before .before .before .before .pre .0 in
-    let t = c .before .before .before .before .before .before .before .before .before .before .load-tree .ensures in (
+    let t = tree-read (a .image .now) (a .count) (a .nodes) (c .before .before .before .before .before .before .before .before .before .before .read-tree .ensures) in (
       c .before .before .ask-lists .ensures .0 ∙ late-same l t (a .points .now) (a .distance),
       c .before .before .ask-lists .ensures .1 ∙ ap (λ (answer : Point → Answer). afterBytes (asVerdict (c .before .before .ask-lists .result)) (answerBytes answer (a .points .now)) (a .answers .now)) (answer-same l t (asQuery (a .query)) (a .distance)),
     )
@@ -68,10 +69,10 @@ pub ask-tree-spec : {M : Type 1} → statement M
 ask-tree-spec =
     tie.close
     (tie.spec
-    slice-aggregate-load-tree
-    slice-aggregate-load-tree-2
-    slice-aggregate-load-tree-3
-    load-tree-requires
+    slice-aggregate-read-tree
+    slice-aggregate-read-tree-2
+    slice-aggregate-read-tree-3
+    read-tree-requires
     mul-links-end
     mul-boxes-end
     array-share-prefix-order

@@ -1,0 +1,21 @@
+-- A node's links, read as two lists of entries. Assumes nothing.
+use mathlib.Core.Path.{_≡_}
+use mathlib.Core.List.{List}
+use Prim.Native.Nat.{ℕ, _+_, _*_, _≤_}
+use native.Mathlib.Omega.{arith}
+use lib.ListN.{length}
+use Rattle.spec_tables.specs.Tables.{over}
+use Rattle.spec_tables.proofs.Tables.{then-over}
+use Rattle.spec_tables.proofs.Pieces.{length-singles}
+use Rattle.spec_records.specs.Entries.{numbersIn}
+use Rattle.spec_records.specs.Layouts.{version1}
+use Rattle.spec_image.specs.Image.{linksIn}
+
+pub links-over : (s : List ℕ) (start i : ℕ) (old mid out : List ℕ) → 3 * i + 3 ≤ length old
+    → mid ≡ over (3 * i) (numbersIn 2 s (start + 30 * i) 1) old → out ≡ over (3 * i + 1) (numbersIn 2 s (start + 30 * i + 2) 2) mid
+    → out ≡ over (3 * i) (linksIn version1 s start i) old
+unfolding linksIn
+links-over s start i old mid out room p q =
+    let a : length (numbersIn 2 s (start + 30 * i) 1) ≡ 1 = length-singles _ 1 in
+    let b : length (numbersIn 2 s (start + 30 * i + 2) 2) ≡ 2 = length-singles _ 2 in
+    then-over (3 * i) (3 * i + 1) (numbersIn 2 s (start + 30 * i) 1) (numbersIn 2 s (start + 30 * i + 2) 2) old mid out p q (omega arith) (omega arith)
