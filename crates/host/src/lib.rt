@@ -8,7 +8,7 @@ ghost use Rattle.spec_host.specs.Build.{imageMost, numbersOf, builtImage, bytes
 ghost use Rattle.spec_asked.specs.PointBytes.{answerBytes, windingBytes, afterBytes};
 ghost use Rattle.spec_asked.specs.Asked.{sure, source, contents, checkVerdict, queryVerdict, windingVerdict, answerIn};
 use host_build::build_image;
-use host_build::image_most;
+use host_put::image_most;
 use host_queries::check_image;
 use host_queries::source_points;
 use host_queries::sure_points;

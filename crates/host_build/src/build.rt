@@ -1,45 +1,18 @@
 // The build, from the outside in: the bytes, the list, the image.
 ghost use lib.ListN.{length};
-ghost use Rattle.spec_records.specs.Layouts.{version1};
-ghost use Rattle.spec_lists.specs.Refusals.{roomRefusal};
-ghost use Rattle.spec_image.specs.Writing.{exactSize};
 ghost use Rattle.lists.specs.Values.{asSettings};
-ghost use Rattle.image_put.specs.Values.{imageOf};
-ghost use Rattle.spec_host.specs.Build.{numbersOf, builtImage, listRefusal, bytesRefusal, Puttable, ImagePut};
+ghost use Rattle.spec_host.specs.Build.{numbersOf, builtImage, listRefusal, bytesRefusal, ImagePut};
 use aabb_build::build::Built;
 use aabb_build::build::build;
-use image_put::image_size;
-use image_put::put_image;
+use host_put::put_built;
 use lists::limits::MOST_NODES;
 use lists::limits::MOST_TRIANGLES;
 use lists::refusal::Verdict;
 use lists::settings::Settings;
 use lists::triangles::triangle_count;
-use told::tell;
 use told::tell_refusal;
 use triangle_bytes::length_refusal;
 use triangle_bytes::read_triangles;
-
-// The image of a tree in lists, where there is room for it: test 6.
-fn put_built(
-    settings: Settings,
-    triangles: &[f32],
-    order: &[u32],
-    links: &[u32],
-    boxes: &[f32],
-    nodes: usize,
-    image: &mut [u8],
-) -> u64
-    requires { ⌜ Puttable (imageOf settings (now triangles) (now order) (now links) (now boxes) nodes) ⌝ }
-    ensures { λ r. ⌜ ImagePut (roomRefusal (length (now (image .entry))) (exactSize version1 (imageOf settings (now (triangles .entry)) (now (order .entry)) (now (links .entry)) (now (boxes .entry)) nodes))) (imageOf settings (now (triangles .entry)) (now (order .entry)) (now (links .entry)) (now (boxes .entry)) nodes) (now (image .entry)) r (now (image .exit)) ⌝ }
-{
-    let size = image_size(triangle_count(triangles), nodes);
-    if image.len() < size {
-        return tell_refusal(6, 0);
-    }
-    let written = put_image(settings, triangles, order, links, boxes, nodes, image);
-    tell(Verdict::Passed, written)
-}
 
 // Builds into lists with room for the most triangles, so that the build tests 1 to 5.
 fn build_list(settings: Settings, triangles: &[f32], image: &mut [u8]) -> u64

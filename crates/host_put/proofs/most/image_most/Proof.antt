@@ -1,4 +1,4 @@
--- `host_build::image_most` meets its contract: none and too many have no image.
+-- `host_put::image_most` meets its contract: none and too many have no image.
 -- Assumes nothing.
 use mathlib.Core.Path.{_∙_}
 use borrow.Author.Tests.{le-leb, lt-leb}
@@ -6,8 +6,8 @@ use native.Mathlib.Omega.{arith}
 use Rattle.spec_lists.specs.Limits.{mostTriangles}
 use Rattle.spec_host.specs.Build.{imageMost}
 use borrow.Author.Needs.{needs}
-use Rattle.host_build.proofs.most.image_most.Statement.{statement}
-use Rattle.host_build.proofs.most.image_most.Tie as tie
+use Rattle.host_put.proofs.most.image_most.Statement.{statement}
+use Rattle.host_put.proofs.most.image_most.Tie as tie
 
 returns : tie.Need-returns
 unfolding imageMost

@@ -1,11 +1,11 @@
--- `host_build::put_built` meets its contract: the room is tested, then the image is put.
+-- `host_put::put_built` meets its contract: the room is tested, then the image is put.
 -- Assumes nothing.
 use native.Mathlib.Omega.{arith}
 use Rattle.spec_lists.proofs.Passed.{room-passes}
 use Rattle.spec_host.proofs.Build.{room-short, put-nothing, put-all}
 use borrow.Author.Needs.{needs}
-use Rattle.host_build.proofs.build.put_built.Statement.{statement}
-use Rattle.host_build.proofs.build.put_built.Tie as tie
+use Rattle.host_put.proofs.put.put_built.Statement.{statement}
+use Rattle.host_put.proofs.put.put_built.Tie as tie
 
 triangle-count-requires : tie.Need-triangle-count-requires
 triangle-count-requires c κs = search needs
