@@ -1,10 +1,5 @@
-// The nearest surface point of a triangle list to a point: the source query, and the sure query.
-// Each contract is an equation with a definition of `spec_search`.
-pub mod answer;
-pub mod kept;
-pub mod leaf;
+// The search for the nearest surface point, over a tree: the source query's walk, and the sure
+// query's. Each contract is an equation with a definition of `spec_search`.
 pub mod links;
-pub mod queries;
 pub mod source;
 pub mod sure;
-pub mod words;

@@ -6,28 +6,20 @@ ghost use Prim.Native.Nat.{_+_, _*_, _≤_};
 ghost use lib.ListN.{length};
 ghost use Rattle.vec3.specs.Values as Shapes;
 ghost use Rattle.spec_search.specs.Walk as Walk;
-ghost use Rattle.spec_search.specs.Kept as Kept;
 ghost use Rattle.spec_search.specs.Sure as Sure;
 ghost use Rattle.spec_search.specs.Safe as Safe;
 ghost use Rattle.spec_search.specs.Calls as Calls;
-ghost use Rattle.closest.specs.Values as Values;
-use crate::answer::Query;
-use crate::answer::Sought;
-use crate::kept::answer_of;
-use crate::kept::does_count;
-use crate::kept::point_of;
-use crate::leaf::measure_leaf;
+ghost use Rattle.answers.specs.Values as Values;
 use crate::links::links_of;
+use answers::answer::Query;
+use answers::answer::Sought;
+use answers::kept::answer_of;
+use answers::kept::is_passed;
+use answers::kept::point_of;
+use leaf_hits::measure_leaf;
 use lists::limits;
 use tree_lists::nodes::node_box;
 use vec3::Vec3;
-
-// A box at this squared distance is passed over: it does not count, or is above the best so far.
-fn is_passed(limit: f32, squared: f32, best: &[f32; 4], number: u32) -> bool
-    ensures { λ r. ⌜ r ≡ Sure.isPassed limit squared (Kept.kept (Values.hitOf (now (best .entry)) number)) ⌝ }
-{
-    !does_count(limit, squared) | (best[3] < squared)
-}
 
 // The squared distance from p to a node's box.
 fn node_squared(boxes: &[f32], node: usize, p: Vec3) -> f32

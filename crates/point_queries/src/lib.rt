@@ -1,9 +1,9 @@
 // The queries at points in bytes, over the lists of a tree. Each contract is an equation with a
 // definition of `spec_asked`.
-mod answers;
+mod ask;
 mod query;
 mod windings;
 
-pub use answers::ask_lists;
+pub use ask::ask_lists;
 pub use query::Query;
 pub use windings::wind_lists;

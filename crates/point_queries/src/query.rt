@@ -1,14 +1,14 @@
 // Which of the two queries is asked, and what it answers at one point.
-use closest::answer::Answer;
-use closest::queries::source_at;
-use closest::queries::sure_at;
+use answers::answer::Answer;
+use list_queries::source_at;
+use list_queries::sure_at;
 use vec3::Vec3;
 ghost use mathlib.Core.Path.{_≡_};
 ghost use Rattle.vec3.specs.Values.{asPoint};
 ghost use Rattle.spec_numbers.specs.Axes.{Finite};
 ghost use Rattle.spec_shapes.specs.Points as Points;
 ghost use Rattle.spec_search.specs.Calls.{Searchable};
-ghost use Rattle.closest.specs.Values.{asAnswer};
+ghost use Rattle.answers.specs.Values.{asAnswer};
 ghost use Rattle.spec_asked.specs.Asked.{answerBy};
 ghost use Rattle.point_queries.specs.Values.{asQuery};
 

@@ -278,7 +278,7 @@ fn answered(
     let size = 6 * (head.points % 21);
     let mut first = [7u32; 120];
     let source = &mut first[..size];
-    let sourced = closest::queries::source_query(
+    let sourced = list_queries::source_query(
         triangles,
         order,
         links,
@@ -290,7 +290,7 @@ fn answered(
     );
     let mut second = [7u32; 120];
     let sure = &mut second[..size];
-    let sured = closest::queries::sure_query(
+    let sured = list_queries::sure_query(
         triangles,
         order,
         links,

@@ -12,7 +12,7 @@ ghost use Rattle.spec_search.specs.Calls as Calls;
 ghost use Rattle.timing.specs.Told as Told;
 use aabb_build::build::Built;
 use aabb_tree::check::is_accepted;
-use closest::answer::Query;
+use answers::answer::Query;
 use closest::sure::search;
 use lists::points::point_at;
 use lists::refusal::Verdict;
@@ -112,7 +112,7 @@ pub extern "C" fn timing_sure(
     ensures passed { λ r. ⌜ r ≡ Told.onePassed (Calls.queryRefusal (now (triangles .entry)) (now (order .entry)) (now (links .entry)) (now (boxes .entry)) nodes (now (points .entry)) distance (length (now (answers .entry)))) ⌝ }
     ensures answers { λ _. ⌜ now (answers .exit) ≡ Calls.afterQuery binary32 (Calls.sureAnswer binary32 (now (triangles .entry)) distance) (now (points .entry)) (Calls.queryRefusal (now (triangles .entry)) (now (order .entry)) (now (links .entry)) (now (boxes .entry)) nodes (now (points .entry)) distance (length (now (answers .entry)))) (now (answers .entry)) ⌝ }
 {
-    let verdict = closest::queries::sure_query(
+    let verdict = list_queries::sure_query(
         triangles,
         order,
         links,
@@ -139,7 +139,7 @@ pub extern "C" fn timing_source(
     ensures passed { λ r. ⌜ r ≡ Told.onePassed (Calls.queryRefusal (now (triangles .entry)) (now (order .entry)) (now (links .entry)) (now (boxes .entry)) nodes (now (points .entry)) distance (length (now (answers .entry)))) ⌝ }
     ensures answers { λ _. ⌜ now (answers .exit) ≡ Calls.afterQuery binary32 (Calls.sourceAnswer binary32 (now (triangles .entry)) (now (order .entry)) (now (links .entry)) (now (boxes .entry)) nodes distance) (now (points .entry)) (Calls.queryRefusal (now (triangles .entry)) (now (order .entry)) (now (links .entry)) (now (boxes .entry)) nodes (now (points .entry)) distance (length (now (answers .entry)))) (now (answers .entry)) ⌝ }
 {
-    let verdict = closest::queries::source_query(
+    let verdict = list_queries::source_query(
         triangles,
         order,
         links,

@@ -7,7 +7,7 @@ use lib.Ieee.{binary32}
 use Rattle.spec_search.specs.Source.{sourceSearch}
 use Rattle.spec_search.proofs.Walked.{walk-passed, walk-looked}
 use Rattle.spec_search.proofs.Steps.{hangs-there, leaf-asks, pair-asks, levels-left, root-leaf-answers, root-pair-answers, right-asks, then-left-asks, right-answers}
-use Rattle.closest.specs.Values.{pointOf, fourthOf, soughtOf}
+use Rattle.answers.specs.Values.{pointOf, fourthOf, soughtOf}
 use Prim.Native.Nat.{ℕ, _+_, _-_, _<_}
 use borrow.Fn.Kinds.{In}
 use borrow.Fn.PlainCycle.{Measures, is, falls, and}
@@ -19,7 +19,7 @@ use Rattle.closest.proofs.source.look_if_entered.Kinds as look-if-enter
 use Rattle.closest.proofs.source.+look+look_if_entered.Lts-look_if_entered as look-if-entered-lts
 use Rattle.closest.proofs.source.does_enter.Reads as does-enter-reads
 use Rattle.closest.proofs.links.links_of.Reads as links-of-reads
-use Rattle.closest.proofs.leaf.measure_leaf.Reads as measure-leaf-reads
+use Rattle.leaf_hits.proofs.measure_leaf.Reads as measure-leaf-reads
 use Rattle.closest.proofs.source.+look+look_if_entered.{statement}
 use Rattle.closest.proofs.source.+look+look_if_entered.Tie.{close}
 

@@ -8,23 +8,18 @@ use Rattle.closest.proofs.source.does_enter.Tie as tie
 node-box-requires : tie.Need-node-box-requires
 node-box-requires c κs = search needs
 
--- src/source.rt:28:9
 point-of-requires : tie.Need-point-of-requires
 point-of-requires c κs = search needs
 
--- src/source.rt:29:5
 contains-point-requires : tie.Need-contains-point-requires
 contains-point-requires c κs = search needs
 
--- src/source.rt:29:31
 squared-distance-requires : tie.Need-squared-distance-requires
 squared-distance-requires c κs = search needs
 
--- src/source.rt:29:58
 element-copy-out-result : tie.Need-element-copy-out-result
 element-copy-out-result c = search needs
 
--- src/source.rt:23:1
 returns : tie.Need-returns
 unfolding enters
 returns c = rw (c .before .before .contains-point .ensures, c .before .squared-distance .ensures, c .before .before .before .point-of .ensures, c .before .before .before .before .node-box .ensures)

@@ -9,7 +9,7 @@ use Rattle.spec_search.specs.Kept.{kept}
 use Rattle.spec_search.specs.Sure.{sureSearch, nodeSquared}
 use Rattle.spec_search.proofs.Walked.{walk-passed}
 use Rattle.spec_search.proofs.Steps.{hangs-there, leaf-asks, pair-asks, levels-left, leaf-answers, pair-answers, left-asks, right-asks, then-left-asks, then-right-asks, right-answers, left-answers, passed-here, right-first-here}
-use Rattle.closest.specs.Values.{pointOf, fourthOf, hitOf, soughtOf}
+use Rattle.answers.specs.Values.{pointOf, fourthOf, hitOf, soughtOf}
 use Prim.Native.Nat.{ℕ, _+_, _-_, _<_}
 use mathlib.Core.Bool.{true, false}
 use borrow.Author.Needs.{needs}
@@ -21,10 +21,10 @@ use Rattle.closest.proofs.sure.+node_walk+pair_walk.Lts-node_walk as no
 use Rattle.closest.proofs.sure.pair_walk.Reads as pair-walk
 use Rattle.closest.proofs.sure.pair_walk.Kinds as pair-walk-kinds
 use Rattle.closest.proofs.sure.+node_walk+pair_walk.Lts-pair_walk as pair-walk-lts
-use Rattle.closest.proofs.sure.is_passed.Reads as is-passed-reads
+use Rattle.answers.proofs.kept.is_passed.Reads as is-passed-reads
 use Rattle.closest.proofs.links.links_of.Reads as links-of-reads
-use Rattle.closest.proofs.leaf.measure_leaf.Reads as measure-leaf-reads
-use Rattle.closest.proofs.kept.point_of.Reads as point-of-reads
+use Rattle.leaf_hits.proofs.measure_leaf.Reads as measure-leaf-reads
+use Rattle.answers.proofs.kept.point_of.Reads as point-of-reads
 use Rattle.closest.proofs.sure.node_squared.Reads as node-squared-reads
 use Rattle.closest.proofs.sure.+node_walk+pair_walk.{statement}
 use Rattle.closest.proofs.sure.+node_walk+pair_walk.Tie.{close}
