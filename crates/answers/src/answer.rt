@@ -2,7 +2,7 @@
 use vec3::Vec3;
 
 // The point, and the limit squared.
-pub struct Query {
+pub struct Asked {
     pub point: Vec3,
     pub limit: f32,
 }

@@ -13,7 +13,7 @@ ghost use Rattle.spec_search.specs.Calls as Calls;
 ghost use Rattle.answers.specs.Values as Values;
 use aabb_tree::refusals::tree_refusal;
 use answers::answer::Answer;
-use answers::answer::Query;
+use answers::answer::Asked;
 use answers::words::put_answer;
 use closest::source;
 use closest::sure;
@@ -72,11 +72,11 @@ pub fn sure_at(
     requires { ⌜ Axes.Finite (Points.at (Shapes.asPoint p)) ⌝ }
     ensures { λ r. ⌜ Values.asAnswer r ≡ Calls.sureAnswer binary32 (now (triangles .entry)) distance (Shapes.asPoint p) ⌝ }
 {
-    let query = Query {
+    let asked = Asked {
         point: p,
         limit: distance * distance,
     };
-    let found = sure::search(triangles, order, links, boxes, nodes, query);
+    let found = sure::search(triangles, order, links, boxes, nodes, asked);
     let best = found.best;
     best
 }
@@ -120,11 +120,11 @@ pub fn source_at(
     requires { ⌜ Axes.Finite (Points.at (Shapes.asPoint p)) ⌝ }
     ensures { λ r. ⌜ Values.asAnswer r ≡ Calls.sourceAnswer binary32 (now (triangles .entry)) (now (order .entry)) (now (links .entry)) (now (boxes .entry)) nodes distance (Shapes.asPoint p) ⌝ }
 {
-    let query = Query {
+    let asked = Asked {
         point: p,
         limit: distance * distance,
     };
-    let found = source::search(triangles, order, links, boxes, nodes, query);
+    let found = source::search(triangles, order, links, boxes, nodes, asked);
     let best = found.best;
     best
 }

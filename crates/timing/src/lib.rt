@@ -12,7 +12,7 @@ ghost use Rattle.spec_search.specs.Calls as Calls;
 ghost use Rattle.timing.specs.Told as Told;
 use aabb_build::build::Built;
 use aabb_tree::check::is_accepted;
-use answers::answer::Query;
+use answers::answer::Asked;
 use closest::sure::search;
 use lists::points::point_at;
 use lists::refusal::Verdict;
@@ -178,11 +178,11 @@ fn measured_at(
     requires { ⌜ Calls.Searchable (now triangles) (now order) (now links) (now boxes) nodes ⌝ }
     ensures { λ r. ⌜ r ≡ Sure.sureWalk binary32 (now (triangles .entry)) (now (order .entry)) (now (links .entry)) (now (boxes .entry)) nodes (Shapes.asPoint p) (Sure.limitOf binary32 distance) .measured ⌝ }
 {
-    let query = Query {
+    let asked = Asked {
         point: p,
         limit: distance * distance,
     };
-    let sought = search(triangles, order, links, boxes, nodes, query);
+    let sought = search(triangles, order, links, boxes, nodes, asked);
     sought.measured
 }
 
