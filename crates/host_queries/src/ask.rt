@@ -5,11 +5,11 @@ use image_get::settings_of;
 use image_tests::count_refusal;
 use image_tests::early_refusal;
 use image_tests::nodes_refusal;
+use list_queries::Query;
 use lists::limits::MOST_NODES;
 use lists::limits::MOST_TRIANGLES;
 use lists::refusal::Verdict;
 use little_endian::read_f32s;
-use point_queries::Query;
 use point_queries::ask_lists;
 use records::ImageLayout;
 use records::image_layout;
@@ -22,7 +22,7 @@ ghost use Rattle.lists.specs.Values.{asVerdict};
 ghost use Rattle.spec_asked.specs.PointBytes.{answerBytes, afterBytes};
 ghost use Rattle.spec_asked.specs.Asked.{contents, askedRefusal, queryVerdict, answerIn};
 ghost use Rattle.spec_asked.specs.Loading.{lateIn, Loaded, Ready};
-ghost use Rattle.point_queries.specs.Values.{asQuery};
+ghost use Rattle.list_queries.specs.Values.{asQuery};
 
 // Tests 7, 8 and 9, and the answers.
 fn ask_tree(

@@ -1,8 +1,8 @@
 // The calls: what comes in is judged first, and a call that refuses changes no lent byte.
 use crate::ask::ask;
 use crate::wind::wind;
+use list_queries::Query;
 use lists::refusal::Verdict;
-use point_queries::Query;
 use records::ImageLayout;
 use records::image_layout;
 use told::tell;
@@ -13,8 +13,9 @@ ghost use Rattle.spec_lists.specs.Reading.{triangleCount};
 ghost use Rattle.lists.specs.Values.{asVerdict};
 ghost use Rattle.spec_host.specs.Told.{told, InPlace};
 ghost use Rattle.spec_asked.specs.PointBytes.{answerBytes, windingBytes, afterBytes};
-ghost use Rattle.point_queries.specs.Values.{asQuery};
-ghost use Rattle.spec_asked.specs.Asked.{sure, source, contents, checkVerdict, queryVerdict, windingVerdict, answerIn};
+ghost use Rattle.list_queries.specs.Values.{asQuery};
+ghost use Rattle.spec_search.specs.Calls.{sure, source};
+ghost use Rattle.spec_asked.specs.Asked.{contents, checkVerdict, queryVerdict, windingVerdict, answerIn};
 
 // What is done tells a count.
 fn tell_count(verdict: Verdict, count: usize) -> u64

@@ -1,7 +1,7 @@
 // The answers of a query at all points: tests 7, 8 and 9, then 24 bytes a point.
-use crate::query::Query;
-use crate::query::answer_at;
 use aabb_tree::refusals::tree_refusal;
+use list_queries::Query;
+use list_queries::answer_at;
 use lists::points::distance_refusal;
 use lists::refusal::Verdict;
 use point_bytes::point_bytes_refusal;
@@ -10,17 +10,17 @@ use point_bytes::put_answer_bytes;
 ghost use mathlib.Core.Path.{_≡_};
 ghost use Prim.Native.Nat.{_*_, _/_, _≤_};
 ghost use lib.ListN.{length};
+ghost use lib.Ieee.{binary32};
 ghost use Rattle.spec_tables.specs.Tables.{over};
 ghost use Rattle.spec_lists.specs.Limits.{mostTriangles};
 ghost use Rattle.spec_lists.specs.Reading.{triangleCount};
 ghost use Rattle.spec_lists.specs.Passed.{GoodPoints};
 ghost use Rattle.lists.specs.Values.{asVerdict};
-ghost use Rattle.spec_search.specs.Calls.{Searchable};
+ghost use Rattle.spec_search.specs.Calls.{Searchable, answerBy};
 ghost use Rattle.spec_host.specs.Build.{numbersOf};
 ghost use Rattle.spec_asked.specs.PointBytes.{answerBytes, afterBytes};
-ghost use Rattle.spec_asked.specs.Asked.{answerBy};
 ghost use Rattle.spec_asked.specs.Loading.{lateRefusal, Ready};
-ghost use Rattle.point_queries.specs.Values.{asQuery};
+ghost use Rattle.list_queries.specs.Values.{asQuery};
 
 // The first of the tests 7, 8 and 9 that refuses.
 fn late_refusal(
@@ -61,7 +61,7 @@ fn put_answers(
     requires { ⌜ Searchable (now triangles) (now order) (now links) (now boxes) nodes ⌝ }
     requires { ⌜ GoodPoints (numbersOf (now points)) ⌝ }
     requires { ⌜ 24 * (length (now points) / 12) ≤ length (now answers) ⌝ }
-    ensures { λ _. ⌜ now (answers .exit) ≡ over 0 (answerBytes (answerBy (asQuery query) (now (triangles .entry)) (now (order .entry)) (now (links .entry)) (now (boxes .entry)) nodes distance) (now (points .entry))) (now (answers .entry)) ⌝ }
+    ensures { λ _. ⌜ now (answers .exit) ≡ over 0 (answerBytes (answerBy binary32 (asQuery query) (now (triangles .entry)) (now (order .entry)) (now (links .entry)) (now (boxes .entry)) nodes distance) (now (points .entry))) (now (answers .entry)) ⌝ }
 {
     let count = points.len() / 12;
     let mut k = 0;
@@ -96,7 +96,7 @@ pub fn ask_lists(
 ) -> Verdict
     requires { ⌜ Ready (now triangles) (now points) (length (now answers)) ⌝ }
     ensures verdict { λ r. ⌜ asVerdict r ≡ lateRefusal (now (triangles .entry)) (now (order .entry)) (now (links .entry)) (now (boxes .entry)) nodes (now (points .entry)) distance ⌝ }
-    ensures answers { λ r. ⌜ now (answers .exit) ≡ afterBytes (asVerdict r) (answerBytes (answerBy (asQuery query) (now (triangles .entry)) (now (order .entry)) (now (links .entry)) (now (boxes .entry)) nodes distance) (now (points .entry))) (now (answers .entry)) ⌝ }
+    ensures answers { λ r. ⌜ now (answers .exit) ≡ afterBytes (asVerdict r) (answerBytes (answerBy binary32 (asQuery query) (now (triangles .entry)) (now (order .entry)) (now (links .entry)) (now (boxes .entry)) nodes distance) (now (points .entry))) (now (answers .entry)) ⌝ }
 {
     let verdict = late_refusal(triangles, order, links, boxes, nodes, points, distance);
     if verdict.refuses() {

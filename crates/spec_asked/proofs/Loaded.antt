@@ -3,13 +3,14 @@ use mathlib.Core.Path.{_≡_, ap, _∙_}
 use mathlib.Core.List.{List}
 use Prim.Native.Nat.{ℕ, _*_, _≤_, _<_}
 use lib.ListN.{length, take}
-use lib.Ieee.{Float}
+use lib.Ieee.{Float, binary32}
 use Rattle.spec_records.specs.Layouts.{version1}
 use Rattle.spec_image.specs.Image.{settingsIn, imageIn}
 use Rattle.spec_lists.specs.Limits.{mostTriangles}
 use Rattle.spec_lists.specs.Reading.{triangleCount}
 use Rattle.spec_lists.specs.Refusals.{refused, Settings}
-use Rattle.spec_asked.specs.Asked.{treeIn, Query, answerBy, answerIn}
+use Rattle.spec_search.specs.Calls.{Query, answerBy}
+use Rattle.spec_asked.specs.Asked.{treeIn, answerIn}
 use Rattle.spec_asked.specs.Loading.{earlyRefusal, lateRefusal, lateIn, Loaded, TreeLoaded}
 use Rattle.spec_asked.proofs.Asked.{count-counts, triangles-long, too-many-nodes}
 
@@ -34,6 +35,6 @@ module _ {image : List ℕ} {count nodes : ℕ} {triangles : List Float} (l : Lo
     late-same points distance = λ i. lateRefusal (l .triangles-are i) (t .order-is i) (t .links-are i) (t .boxes-are i) nodes points distance
 
     pub answer-same : (query : Query) (distance : Float)
-        → answerBy query triangles (take count order) (take (3 * nodes) links) (take (6 * nodes) boxes) nodes distance ≡ answerIn query (imageIn version1 image count nodes) distance
+        → answerBy binary32 query triangles (take count order) (take (3 * nodes) links) (take (6 * nodes) boxes) nodes distance ≡ answerIn query (imageIn version1 image count nodes) distance
     unfolding imageIn
-    answer-same query distance = λ i. answerBy query (l .triangles-are i) (t .order-is i) (t .links-are i) (t .boxes-are i) nodes distance
+    answer-same query distance = λ i. answerBy binary32 query (l .triangles-are i) (t .order-is i) (t .links-are i) (t .boxes-are i) nodes distance

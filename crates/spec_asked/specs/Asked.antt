@@ -11,7 +11,7 @@ use Rattle.spec_shapes.specs.Points.{Point}
 use Rattle.spec_lists.specs.Refusals.{Verdict, passes, refused, firstRefusal, trianglesRefusal, settingsRefusal, roomRefusal, distanceRefusal}
 use Rattle.spec_tree.specs.Refusals.{treeRefusal}
 use Rattle.spec_search.specs.Answers.{Answer}
-use Rattle.spec_search.specs.Calls.{sureAnswer, sourceAnswer}
+use Rattle.spec_search.specs.Calls.{Query, answerBy}
 use Rattle.spec_asked.specs.PointBytes.{pointBytesRefusal}
 
 -- ---- the image
@@ -71,16 +71,6 @@ queryVerdict image points distance room = firstRefusal (layoutRefusal image ∷ 
 unfoldable pub windingVerdict : (image points : List ℕ) (room : ℕ) → Verdict
 windingVerdict image points room = firstRefusal (layoutRefusal image ∷ woundRefusal (contents image .triangles) points room ∷ [])
 
--- ---- the answers
--- which of the two queries
-pub data Query : Type 0 where
-  sure : Query
-  source : Query
-
-abbrev pub answerBy : Query → (triangles : List Float) (order links : List ℕ) (boxes : List Float) (nodes : ℕ) (distance : Float) → Point → Answer
-answerBy sure triangles order links boxes nodes distance = sureAnswer binary32 triangles distance
-answerBy source triangles order links boxes nodes distance = sourceAnswer binary32 triangles order links boxes nodes distance
-
--- on what an image holds
+-- ---- the answers, on what an image holds
 abbrev pub answerIn : Query → Image → (distance : Float) → Point → Answer
-answerIn query x distance = answerBy query (x .triangles) (x .order) (x .links) (x .boxes) (x .nodes) distance
+answerIn query x distance = answerBy binary32 query (x .triangles) (x .order) (x .links) (x .boxes) (x .nodes) distance

@@ -42,6 +42,15 @@ sureAnswer f triangles distance p = scan f triangles p (limitOf f distance)
 unfoldable pub sourceAnswer : Format → (triangles : List Float) (order links : List ℕ) (boxes : List Float) (nodes : ℕ) (distance : Float) → Point → Answer
 sourceAnswer f triangles order links boxes nodes distance p = sourceWalk f triangles order links boxes nodes p (limitOf f distance) .best
 
+-- which of the two queries, and what it answers at a point
+pub data Query : Type 0 where
+  sure : Query
+  source : Query
+
+abbrev pub answerBy : Format → Query → (triangles : List Float) (order links : List ℕ) (boxes : List Float) (nodes : ℕ) (distance : Float) → Point → Answer
+answerBy f sure triangles order links boxes nodes distance = sureAnswer f triangles distance
+answerBy f source triangles order links boxes nodes distance = sourceAnswer f triangles order links boxes nodes distance
+
 -- ---- what the inner searches ask
 pub record Searchable (triangles : List Float) (order links : List ℕ) (boxes : List Float) (nodes : ℕ) : Type 0 where
   pub triangles-good : GoodTriangles triangles

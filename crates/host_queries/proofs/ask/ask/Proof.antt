@@ -9,7 +9,7 @@ use Rattle.spec_asked.specs.PointBytes.{answerBytes, afterBytes}
 use Rattle.spec_asked.specs.Asked.{askedRefusal, queryVerdict, answerIn}
 use Rattle.spec_asked.proofs.PointBytes.{as-it-was}
 use Rattle.spec_asked.proofs.Asked.{layout-refuses, image-long, contents-are, inner-decides}
-use Rattle.point_queries.specs.Values.{asQuery}
+use Rattle.list_queries.specs.Values.{asQuery}
 use borrow.Author.Needs.{needs}
 use Rattle.host_queries.proofs.ask.ask.Statement.{statement}
 use Rattle.host_queries.proofs.ask.ask.Tie as tie

@@ -8,7 +8,7 @@ use Rattle.spec_shapes.specs.Points.{Point}
 use Rattle.spec_search.specs.Answers.{Answer}
 use Rattle.spec_asked.specs.PointBytes.{answerBytes, afterBytes}
 use Rattle.spec_asked.proofs.Loaded.{loaded-count, late-same, answer-same}
-use Rattle.point_queries.specs.Values.{asQuery}
+use Rattle.list_queries.specs.Values.{asQuery}
 use Rattle.host_queries.proofs.Tree.{tree-read}
 use borrow.Author.Needs.{needs}
 use Rattle.host_queries.proofs.ask.ask_tree.Statement.{statement}

@@ -9,7 +9,7 @@ use Rattle.spec_host.specs.Told.{told}
 use Rattle.spec_asked.specs.PointBytes.{answerBytes, afterBytes}
 use Rattle.spec_asked.specs.Asked.{contents, answerIn}
 use Rattle.spec_asked.proofs.Told.{query-told}
-use Rattle.point_queries.specs.Values.{asQuery}
+use Rattle.list_queries.specs.Values.{asQuery}
 use borrow.Author.Needs.{needs}
 use Rattle.host_queries.proofs.calls.query_points.Statement.{statement}
 use Rattle.host_queries.proofs.calls.query_points.Tie as tie

@@ -3,17 +3,18 @@
 use mathlib.Core.Path.{refl, ap, _∙_}
 use Prim.Native.Nat.{_-_}
 use native.Mathlib.Omega.{arith}
+use lib.Ieee.{binary32}
 use Rattle.spec_lists.proofs.Reading.{point-finite}
+use Rattle.spec_search.specs.Calls.{answerBy}
 use Rattle.spec_host.specs.Build.{numbersOf}
 use Rattle.spec_host.proofs.Build.{numbers-long}
-use Rattle.spec_asked.specs.Asked.{answerBy}
 use Rattle.spec_asked.proofs.PointBytes.{Answered, answered-start, answered-more, answered-end}
-use Rattle.point_queries.specs.Values.{asQuery}
+use Rattle.list_queries.specs.Values.{asQuery}
 use Rattle.point_queries.proofs.ask.put_answers.Statement.{statement}
 use Rattle.point_queries.proofs.ask.put_answers.Tie as tie
 
 abbrev Inv-loop : tie.InvT-loop
-Inv-loop query triangles order links boxes nodes points distance answers₀ count k₀ answers k = Answered (answerBy (asQuery query) triangles order links boxes nodes distance) points answers₀ count answers k
+Inv-loop query triangles order links boxes nodes points distance answers₀ count k₀ answers k = Answered (answerBy binary32 (asQuery query) triangles order links boxes nodes distance) points answers₀ count answers k
 
 abbrev μ-loop : tie.MeasureT-loop
 μ-loop query triangles order links boxes nodes points distance answers₀ count k₀ answers k = count - k
@@ -21,7 +22,7 @@ abbrev μ-loop : tie.MeasureT-loop
 loop-holds : tie.Need-loop-holds Inv-loop μ-loop
 loop-holds c =
     let a = c .before .before .before .before .before .before .args in
-    answered-start (answerBy (asQuery (a .query)) (a .triangles .now) (a .order .now) (a .links .now) (a .boxes .now) (a .nodes) (a .distance)) (a .points .now) (a .answers .now) _
+    answered-start (answerBy binary32 (asQuery (a .query)) (a .triangles .now) (a .order .now) (a .links .now) (a .boxes .now) (a .nodes) (a .distance)) (a .points .now) (a .answers .now) _
 
 point-in-requires : tie.Need-point-in-requires Inv-loop μ-loop
 point-in-requires c κs = omega (arith, c .loop-test .taken)
@@ -46,7 +47,7 @@ loop-less c = omega arith
 loop-again : tie.Need-loop-again Inv-loop μ-loop
 loop-again c =
     let a = c .before .before .before .before .before .before .before .before .before .before .before .before .before .before .args in
-    let answer = answerBy (asQuery (a .query)) (a .triangles .now) (a .order .now) (a .links .now) (a .boxes .now) (a .nodes) (a .distance) in
+    let answer = answerBy binary32 (asQuery (a .query)) (a .triangles .now) (a .order .now) (a .links .now) (a .boxes .now) (a .nodes) (a .distance) in
     answered-more answer (a .points .now) (a .answers .now) _ _ _ _ _ (c .before .before .before .before .before .before .before .before .before .before .before .before .before .before .pre .1 .1) (c .before .before .before .before .before .before .loop-test .taken) (c .before .before .before .before .before .before .before .loop .inv)
     (c .before .before .before .before .answer-at .ensures ∙ ap answer (c .before .before .before .before .before .point-in .ensures)) (c .before .before .put-answer-bytes .ensures)
 
@@ -56,7 +57,7 @@ same-length c = c .before .loop .inv .long
 returns : tie.Need-returns Inv-loop μ-loop
 returns c =
     let a = c .before .before .before .before .before .before .before .before .args in
-    answered-end (answerBy (asQuery (a .query)) (a .triangles .now) (a .order .now) (a .links .now) (a .boxes .now) (a .nodes) (a .distance)) (a .points .now) (a .answers .now) _ _ _ refl (c .loop-test .left) (c .before .loop .inv)
+    answered-end (answerBy binary32 (asQuery (a .query)) (a .triangles .now) (a .order .now) (a .links .now) (a .boxes .now) (a .nodes) (a .distance)) (a .points .now) (a .answers .now) _ _ _ refl (c .loop-test .left) (c .before .loop .inv)
 
 pub put-answers-spec : {M : Type 1} → statement M
 put-answers-spec =

@@ -1,28 +1,28 @@
--- `list_queries::put_sure_answers` meets its contract. The invariant: the first k answers stand at the front of the list.
+-- `list_queries::put_answers` meets its contract. The invariant: the first k answers stand at the front of the list.
 -- Assumes nothing.
 use mathlib.Core.Path.{ap, _∙_}
 use Prim.Native.Nat.{_-_}
 use native.Mathlib.Omega.{arith}
 use lib.Ieee.{binary32}
 use borrow.Author.Needs.{needs}
-use Rattle.spec_shapes.specs.Points.{Point}
 use Rattle.spec_lists.proofs.Reading.{point-inside, point-finite}
-use Rattle.spec_search.specs.Calls.{sureAnswer}
+use Rattle.spec_search.specs.Calls.{answerBy}
 use Rattle.spec_search.proofs.Calls.{Answered, answered-start, answered-more, answered-end}
-use Rattle.list_queries.proofs.queries.put_sure_answers.Statement.{statement}
-use Rattle.list_queries.proofs.queries.put_sure_answers.Tie as tie
+use Rattle.list_queries.specs.Values.{asQuery}
+use Rattle.list_queries.proofs.queries.put_answers.Statement.{statement}
+use Rattle.list_queries.proofs.queries.put_answers.Tie as tie
 
 abbrev Inv-loop : tie.InvT-loop
-Inv-loop triangles order links boxes nodes points distance answers₀ count k₀ answers k = Answered binary32 (sureAnswer binary32 triangles distance) points answers₀ count answers k
+Inv-loop query triangles order links boxes nodes points distance answers₀ count k₀ answers k = Answered binary32 (answerBy binary32 (asQuery query) triangles order links boxes nodes distance) points answers₀ count answers k
 
 abbrev μ-loop : tie.MeasureT-loop
-μ-loop triangles order links boxes nodes points distance answers₀ count k₀ answers k = count - k
+μ-loop query triangles order links boxes nodes points distance answers₀ count k₀ answers k = count - k
 
 point-count-requires : tie.Need-point-count-requires Inv-loop μ-loop
 point-count-requires c κs = search needs
 
 loop-holds : tie.Need-loop-holds Inv-loop μ-loop
-loop-holds c = let a = c .before .before .before .before .before .before .before .args in answered-start binary32 (sureAnswer binary32 (a .triangles .now) (a .distance)) (a .points .now) (a .answers .now) _
+loop-holds c = let a = c .before .before .before .before .before .before .before .args in answered-start binary32 (answerBy binary32 (asQuery (a .query)) (a .triangles .now) (a .order .now) (a .links .now) (a .boxes .now) (a .nodes) (a .distance)) (a .points .now) (a .answers .now) _
 
 mul-point-at : tie.Need-mul-point-at Inv-loop μ-loop
 mul-point-at c = omega (arith, point-inside _ _ (rw (c .before .before .point-count .ensures) at (c .loop-test .taken)))
@@ -30,8 +30,8 @@ mul-point-at c = omega (arith, point-inside _ _ (rw (c .before .before .point-co
 point-at-requires : tie.Need-point-at-requires Inv-loop μ-loop
 point-at-requires c κs = omega (arith, point-inside _ _ (rw (c .before .before .point-count .ensures) at (c .loop-test .taken)))
 
-sure-at-requires : tie.Need-sure-at-requires Inv-loop μ-loop
-sure-at-requires c κs =
+answer-at-requires : tie.Need-answer-at-requires Inv-loop μ-loop
+answer-at-requires c κs =
     let start = c .before .before .before .before .before .before .before .before .before .before in
     (start .pre .0 .searchable, rw (c .point-at .ensures) (point-finite _ (start .pre .0 .points-good .coordinates) _ (omega (arith, point-inside _ _ (rw (c .before .before .before .point-count .ensures) at (c .before .loop-test .taken))))))
 
@@ -50,18 +50,18 @@ loop-less c = omega arith
 loop-again : tie.Need-loop-again Inv-loop μ-loop
 loop-again c =
     let a = c .before .before .before .before .before .before .before .before .before .before .before .before .before .before .before .args in
-    answered-more binary32 (sureAnswer binary32 (a .triangles .now) (a .distance)) (a .points .now) (a .answers .now) _ _ _ _ _
+    answered-more binary32 (answerBy binary32 (asQuery (a .query)) (a .triangles .now) (a .order .now) (a .links .now) (a .boxes .now) (a .nodes) (a .distance)) (a .points .now) (a .answers .now) _ _ _ _ _
     (omega (arith, c .before .before .before .before .before .before .before .before .before .before .before .before .before .before .before .pre .1, c .before .before .before .before .before .before .before .before .point-count .ensures)) (c .before .before .before .before .before .before .loop-test .taken) (c .before .before .before .before .before .before .before .loop .inv)
-    (c .before .before .before .before .sure-at .ensures ∙ ap (λ (p : Point). sureAnswer binary32 (a .triangles .now) (a .distance) p) (c .before .before .before .before .before .point-at .ensures)) (c .before .before .put-answer .ensures)
+    (c .before .before .before .before .answer-at .ensures ∙ ap (answerBy binary32 (asQuery (a .query)) (a .triangles .now) (a .order .now) (a .links .now) (a .boxes .now) (a .nodes) (a .distance)) (c .before .before .before .before .before .point-at .ensures)) (c .before .before .put-answer .ensures)
 
 same-length : tie.Need-same-length Inv-loop μ-loop
 same-length c = c .before .loop .inv .long
 
 returns : tie.Need-returns Inv-loop μ-loop
-returns c = let a = c .before .before .before .before .before .before .before .before .before .args in answered-end binary32 (sureAnswer binary32 (a .triangles .now) (a .distance)) (a .points .now) (a .answers .now) _ _ _ (c .before .before .point-count .ensures) (c .loop-test .left) (c .before .loop .inv)
+returns c = let a = c .before .before .before .before .before .before .before .before .before .args in answered-end binary32 (answerBy binary32 (asQuery (a .query)) (a .triangles .now) (a .order .now) (a .links .now) (a .boxes .now) (a .nodes) (a .distance)) (a .points .now) (a .answers .now) _ _ _ (c .before .before .point-count .ensures) (c .loop-test .left) (c .before .loop .inv)
 
-pub put-sure-answers-spec : {M : Type 1} → statement M
-put-sure-answers-spec =
+pub put-answers-spec : {M : Type 1} → statement M
+put-answers-spec =
     tie.close
     (tie.spec
     Inv-loop
@@ -70,7 +70,7 @@ put-sure-answers-spec =
     loop-holds
     mul-point-at
     point-at-requires
-    sure-at-requires
+    answer-at-requires
     mul-put-answer
     put-answer-requires
     add-k
