@@ -1,7 +1,7 @@
 // Which of the two queries is asked, and what it answers at one point.
 ghost use mathlib.Core.Path.{_≡_};
 ghost use lib.Ieee.{binary32};
-ghost use Rattle.primitives.specs.Values.{asPoint};
+ghost use Rattle.vec3.specs.Values.{asPoint};
 ghost use Rattle.spec_numbers.specs.Axes.{Finite};
 ghost use Rattle.spec_shapes.specs.Points as Points;
 ghost use Rattle.spec_search.specs.Calls.{Searchable, answerBy};
@@ -11,7 +11,7 @@ use answers::answer::Answer;
 use answers::answer::Asked;
 use closest::source;
 use closest::sure;
-use primitives::vec3::Vec3;
+use vec3::Vec3;
 
 pub enum Query {
     Sure,

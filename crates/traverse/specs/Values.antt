@@ -1,8 +1,6 @@
 -- The program's values as the definitions' own. Definitions only.
 use Rattle.box3.specs.Values.{asBox}
 use Rattle.spec_tree.specs.Leaves as Leaves
-use Rattle.traverse.specs.declared.leaf.EntryFound.{EntryFound}
-use Rattle.traverse.specs.declared.leaf.EntryFound.the-variants as Entry
 use Rattle.traverse.specs.declared.traverse.LeafFound.{LeafFound}
 use Rattle.traverse.specs.declared.traverse.LeafFound.the-variants as Found
 use Rattle.traverse.specs.declared.traverse.LeavesCounted.{LeavesCounted}
@@ -16,8 +14,3 @@ asLeafFound (Found.Refused number place) = Leaves.notSought number place
 abbrev pub asLeavesCounted : LeavesCounted → Leaves.LeavesCounted
 asLeavesCounted (Counted.Leaves n) = Leaves.counted n
 asLeavesCounted (Counted.Refused number place) = Leaves.notCounted number place
-
-abbrev pub asEntryFound : EntryFound → Leaves.EntryFound
-asEntryFound Entry.Nothing = Leaves.noEntry
-asEntryFound (Entry.Triangle t) = Leaves.triangle t
-asEntryFound (Entry.Refused number place) = Leaves.notAsked number place

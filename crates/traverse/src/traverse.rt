@@ -4,9 +4,12 @@ ghost use mathlib.Core.Path.{_≡_};
 ghost use Prim.Native.Nat.{_+_, _*_, _≤_};
 ghost use lib.ListN.{length};
 ghost use Rattle.spec_tree.specs.Leaves as Leaves;
+ghost use Rattle.leaf_reader.specs.Values as Entries;
 ghost use Rattle.traverse.specs.Values as Values;
 use aabb_tree::refusals::check;
 use box3::Box3;
+use leaf_reader::EntryFound;
+use leaf_reader::entry_of;
 use lists::refusal::Verdict;
 use tree_lists::nodes::kind_at;
 use tree_lists::nodes::left_at;
@@ -115,5 +118,25 @@ pub fn leaves(
     match verdict {
         Verdict::Refused { number, place } => LeavesCounted::Refused { number, place },
         Verdict::Passed => LeavesCounted::Leaves(leaf_count(links, nodes)),
+    }
+}
+
+// The i-th triangle of the tree's k-th leaf, both counted from 0, over any lists at all: 1 to 4 and 7 refuse.
+pub fn leaf_entry(
+    triangles: &[f32],
+    order: &[u32],
+    links: &[u32],
+    boxes: &[f32],
+    nodes: usize,
+    k: usize,
+    i: usize,
+) -> EntryFound
+    ensures { λ r. ⌜ Entries.asEntryFound r ≡ Leaves.entryAnswer (now (triangles .entry)) (now (order .entry)) (now (links .entry)) (now (boxes .entry)) nodes k i ⌝ }
+{
+    let found = leaf(triangles, order, links, boxes, nodes, k);
+    match found {
+        LeafFound::Nothing => EntryFound::Nothing,
+        LeafFound::Leaf { first, last, .. } => entry_of(order, first, last, i),
+        LeafFound::Refused { number, place } => EntryFound::Refused { number, place },
     }
 }

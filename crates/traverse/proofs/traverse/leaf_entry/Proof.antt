@@ -4,8 +4,8 @@ use mathlib.Core.Path.{sym, ap, _∙_}
 use Rattle.spec_tree.proofs.Leaves.{entry-none, entry-read, entry-refused}
 use Rattle.traverse.specs.Values.{asLeafFound}
 use borrow.Author.Needs.{needs}
-use Rattle.traverse.proofs.leaf.leaf_entry.Statement.{statement}
-use Rattle.traverse.proofs.leaf.leaf_entry.Tie as tie
+use Rattle.traverse.proofs.traverse.leaf_entry.Statement.{statement}
+use Rattle.traverse.proofs.traverse.leaf_entry.Tie as tie
 
 leaf-requires : tie.Need-leaf-requires
 leaf-requires c κs = search needs

@@ -1,4 +1,4 @@
--- `traverse::Leaf::entry` meets its contract: a walk of its MIR, by hand. The struct is taken apart, and `entry_at` is called on the slice and the number. All that the proof knows of `entry_at` is that it meets its contract.
+-- `leaf_reader::Leaf::entry` meets its contract: a walk of its MIR, by hand. The struct is taken apart, and `entry_at` is called on the slice and the number. All that the proof knows of `entry_at` is that it meets its contract.
 -- The struct is Copy: what it owns is had twice, one copy is kept whole for the exit, and of the other what part owns goes to the callee, beside the lifetime's token, which comes back.
 -- Assumes nothing.
 use mathlib.Core.Path.{_≡_, refl}
@@ -45,21 +45,21 @@ use denote.Exit.{yes}
 use denote.Triple.Clauses.{ensured, lasts}
 use Rattle.spec_tree.specs.Leaves.{entryAt}
 use Rattle.spec_tree.specs.Leaves as Leaves
-use Rattle.traverse.specs.Values.{asEntryFound}
-use Rattle.traverse.specs.declared.leaf.Leaf.{Leaf}
-use Rattle.traverse.specs.declared.leaf.EntryFound.{EntryFound}
-use Rattle.traverse.proofs.leaf.Leaf as T
-use Rattle.traverse.proofs.leaf.Leaf.Laws as T′
-use Rattle.traverse.proofs.leaf.EntryFound as S
-use Rattle.traverse.proofs.leaf.EntryFound.Laws as S′
-use Rattle.traverse.proofs.leaf.entry_at as entry-at
-use Rattle.traverse.proofs.leaf.entry_at.Symbol as entry-at-def
-use Rattle.traverse.proofs.leaf.entry_at.Symbol.{name as #entry-at}
-use Rattle.traverse.proofs.leaf.entry_at.Met as entry-at-thm
-use Rattle.traverse.proofs.leaf.Leaf.entry.Key.{name as #entry}
-use Rattle.traverse.proofs.leaf.Leaf.entry as entry
-use Rattle.traverse.proofs.leaf.Leaf.entry.Statement as stated
-use Rattle.traverse.proofs.leaf.Leaf.entry.Code as code
+use Rattle.leaf_reader.specs.Values.{asEntryFound}
+use Rattle.leaf_reader.specs.declared.Leaf.{Leaf}
+use Rattle.leaf_reader.specs.declared.EntryFound.{EntryFound}
+use Rattle.leaf_reader.proofs.Leaf as T
+use Rattle.leaf_reader.proofs.Leaf.Laws as T′
+use Rattle.leaf_reader.proofs.EntryFound as S
+use Rattle.leaf_reader.proofs.EntryFound.Laws as S′
+use Rattle.leaf_reader.proofs.entry_at as entry-at
+use Rattle.leaf_reader.proofs.entry_at.Symbol as entry-at-def
+use Rattle.leaf_reader.proofs.entry_at.Symbol.{name as #entry-at}
+use Rattle.leaf_reader.proofs.entry_at.Met as entry-at-thm
+use Rattle.leaf_reader.proofs.Leaf.entry.Key.{name as #entry}
+use Rattle.leaf_reader.proofs.Leaf.entry as entry
+use Rattle.leaf_reader.proofs.Leaf.entry.Statement as stated
+use Rattle.leaf_reader.proofs.Leaf.entry.Code as code
 
 -- the struct's type, over the signature's lifetimes
 abbrev B : Lfts 1 → RattleType
@@ -167,4 +167,4 @@ entry-spec 𝓤 H 𝓜 𝓖 𝓡 =
     entered 𝓤 H (tripleOf 𝓤 H (𝓖 .A) entry.signature (entry.spec 𝓤 H (𝓖 .A) (𝓜 .mem) (𝓡 .run)))
     (tables 𝓤 H 𝓜 𝓡 code.env .C) (tables 𝓤 H 𝓜 𝓡 code.env .Λ) #entry code.function (code.unfolded 𝓤 H 𝓜 𝓡)
     (entry-meets 𝓤 H (𝓖 .A) (givenOf 𝓤 H 𝓜 𝓖) (𝓜 .mem) (𝓡 .run) (tablesOf 𝓤 H 𝓜 (tables 𝓤 H 𝓜 𝓡 code.env))
-    (cited 𝓤 H (EntryAt 𝓤 H (𝓖 .A) (𝓜 .mem) (𝓡 .run)) 𝓜 𝓡 code.env #entry-at entry-at-def.routine code.calls-traverse·leaf·entry-at (entry-at-thm.met 𝓤 H 𝓜 𝓖 𝓡)))
+    (cited 𝓤 H (EntryAt 𝓤 H (𝓖 .A) (𝓜 .mem) (𝓡 .run)) 𝓜 𝓡 code.env #entry-at entry-at-def.routine code.calls-leaf-reader·entry-at (entry-at-thm.met 𝓤 H 𝓜 𝓖 𝓡)))

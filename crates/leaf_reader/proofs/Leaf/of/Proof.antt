@@ -1,4 +1,4 @@
--- `traverse::Leaf::of` meets its contract: a walk of its MIR, by hand. `part_of` is called, and a `Leaf` is made of the slice that it returns, in the result's local. All that the proof knows of `part_of` is that it meets its contract.
+-- `leaf_reader::Leaf::of` meets its contract: a walk of its MIR, by hand. `part_of` is called, and a `Leaf` is made of the slice that it returns, in the result's local. All that the proof knows of `part_of` is that it meets its contract.
 -- A `&[u32]` is Copy, so what order owns is had twice: once for the callee, and once for the exit. What the part owns is all that the struct owns.
 -- The part's machine value is what the call returned; what the part owns says that it is the slice's own.
 -- Assumes nothing.
@@ -40,17 +40,17 @@ use denote.Triple.Walked.{says, Stays, stay-none, stay-none-slice, walkOf, goes-
 use denote.Exit.{yes}
 use denote.Triple.Clauses.{ensured, lasts}
 use Rattle.spec_tables.specs.Tables.{part}
-use Rattle.traverse.specs.declared.leaf.Leaf.{Leaf}
-use Rattle.traverse.proofs.leaf.Leaf as T
-use Rattle.traverse.proofs.leaf.Leaf.Laws as T′
-use Rattle.traverse.proofs.leaf.part_of as part-of
-use Rattle.traverse.proofs.leaf.part_of.Symbol as part-of-def
-use Rattle.traverse.proofs.leaf.part_of.Symbol.{name as #part-of}
-use Rattle.traverse.proofs.leaf.part_of.Met as part-of-thm
-use Rattle.traverse.proofs.leaf.Leaf.of.Key.{name as #of}
-use Rattle.traverse.proofs.leaf.Leaf.of as of
-use Rattle.traverse.proofs.leaf.Leaf.of.Statement as stated
-use Rattle.traverse.proofs.leaf.Leaf.of.Code as code
+use Rattle.leaf_reader.specs.declared.Leaf.{Leaf}
+use Rattle.leaf_reader.proofs.Leaf as T
+use Rattle.leaf_reader.proofs.Leaf.Laws as T′
+use Rattle.leaf_reader.proofs.part_of as part-of
+use Rattle.leaf_reader.proofs.part_of.Symbol as part-of-def
+use Rattle.leaf_reader.proofs.part_of.Symbol.{name as #part-of}
+use Rattle.leaf_reader.proofs.part_of.Met as part-of-thm
+use Rattle.leaf_reader.proofs.Leaf.of.Key.{name as #of}
+use Rattle.leaf_reader.proofs.Leaf.of as of
+use Rattle.leaf_reader.proofs.Leaf.of.Statement as stated
+use Rattle.leaf_reader.proofs.Leaf.of.Code as code
 
 abbrev stayed : Stays (of.ended .signature .params) (of.ended .kept)
 stayed = (stay-none-slice (0 ∷ []) tt (plain (λ _. u32)) yes, (stay-none (λ _. usize) yes, (stay-none (λ _. usize) yes, tt)))
@@ -158,4 +158,4 @@ of-spec 𝓤 H 𝓜 𝓖 𝓡 =
     entered 𝓤 H (tripleOf 𝓤 H (𝓖 .A) of.signature (of.spec 𝓤 H (𝓖 .A) (𝓜 .mem) (𝓡 .run)))
     (tables 𝓤 H 𝓜 𝓡 code.env .C) (tables 𝓤 H 𝓜 𝓡 code.env .Λ) #of code.function (code.unfolded 𝓤 H 𝓜 𝓡)
     (of-meets 𝓤 H (𝓖 .A) (givenOf 𝓤 H 𝓜 𝓖) (𝓜 .mem) (𝓡 .run) (tablesOf 𝓤 H 𝓜 (tables 𝓤 H 𝓜 𝓡 code.env))
-    (cited 𝓤 H (PartOf 𝓤 H (𝓖 .A) (𝓜 .mem) (𝓡 .run)) 𝓜 𝓡 code.env #part-of part-of-def.routine code.calls-traverse·leaf·part-of (part-of-thm.met 𝓤 H 𝓜 𝓖 𝓡)))
+    (cited 𝓤 H (PartOf 𝓤 H (𝓖 .A) (𝓜 .mem) (𝓡 .run)) 𝓜 𝓡 code.env #part-of part-of-def.routine code.calls-leaf-reader·part-of (part-of-thm.met 𝓤 H 𝓜 𝓖 𝓡)))

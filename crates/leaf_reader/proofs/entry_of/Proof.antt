@@ -1,4 +1,4 @@
--- `traverse::entry_of` meets its contract: a walk of its MIR, by hand. A `Leaf` that one call returns is held in a local and passed to the next. All that the proof knows of `of` and of `entry` is that each meets its contract.
+-- `leaf_reader::entry_of` meets its contract: a walk of its MIR, by hand. A `Leaf` that one call returns is held in a local and passed to the next. All that the proof knows of `of` and of `entry` is that each meets its contract.
 -- The machine value that `of` returns is stored and passed on as it is. In a local of a body MIR erases the lifetime of the struct's type, so the value is shown to have the type at `erased`: what the struct owns does not say the lifetime's name.
 -- Assumes nothing.
 use mathlib.Core.Path.{_≡_, refl, ap, _∙_}
@@ -41,25 +41,25 @@ use denote.Triple.Clauses.{ensured, lasts}
 use Rattle.spec_tables.specs.Tables.{part}
 use Rattle.spec_tree.specs.Leaves.{entryAt}
 use Rattle.spec_tree.specs.Leaves as Leaves
-use Rattle.traverse.specs.Values.{asEntryFound}
-use Rattle.traverse.specs.declared.leaf.Leaf.{Leaf}
-use Rattle.traverse.specs.declared.leaf.EntryFound.{EntryFound}
-use Rattle.traverse.proofs.leaf.Leaf as T
-use Rattle.traverse.proofs.leaf.Leaf.Laws as T′
-use Rattle.traverse.proofs.leaf.EntryFound as S
-use Rattle.traverse.proofs.leaf.EntryFound.Laws as S′
-use Rattle.traverse.proofs.leaf.Leaf.of as of
-use Rattle.traverse.proofs.leaf.Leaf.of.Symbol as of-def
-use Rattle.traverse.proofs.leaf.Leaf.of.Symbol.{name as #of}
-use Rattle.traverse.proofs.leaf.Leaf.of.Met as of-thm
-use Rattle.traverse.proofs.leaf.Leaf.entry as entry
-use Rattle.traverse.proofs.leaf.Leaf.entry.Symbol as entry-def
-use Rattle.traverse.proofs.leaf.Leaf.entry.Symbol.{name as #entry}
-use Rattle.traverse.proofs.leaf.Leaf.entry.Met as entry-thm
-use Rattle.traverse.proofs.leaf.entry_of.Key.{name as #entry-of}
-use Rattle.traverse.proofs.leaf.entry_of as entry-of
-use Rattle.traverse.proofs.leaf.entry_of.Statement as stated
-use Rattle.traverse.proofs.leaf.entry_of.Code as code
+use Rattle.leaf_reader.specs.Values.{asEntryFound}
+use Rattle.leaf_reader.specs.declared.Leaf.{Leaf}
+use Rattle.leaf_reader.specs.declared.EntryFound.{EntryFound}
+use Rattle.leaf_reader.proofs.Leaf as T
+use Rattle.leaf_reader.proofs.Leaf.Laws as T′
+use Rattle.leaf_reader.proofs.EntryFound as S
+use Rattle.leaf_reader.proofs.EntryFound.Laws as S′
+use Rattle.leaf_reader.proofs.Leaf.of as of
+use Rattle.leaf_reader.proofs.Leaf.of.Symbol as of-def
+use Rattle.leaf_reader.proofs.Leaf.of.Symbol.{name as #of}
+use Rattle.leaf_reader.proofs.Leaf.of.Met as of-thm
+use Rattle.leaf_reader.proofs.Leaf.entry as entry
+use Rattle.leaf_reader.proofs.Leaf.entry.Symbol as entry-def
+use Rattle.leaf_reader.proofs.Leaf.entry.Symbol.{name as #entry}
+use Rattle.leaf_reader.proofs.Leaf.entry.Met as entry-thm
+use Rattle.leaf_reader.proofs.entry_of.Key.{name as #entry-of}
+use Rattle.leaf_reader.proofs.entry_of as entry-of
+use Rattle.leaf_reader.proofs.entry_of.Statement as stated
+use Rattle.leaf_reader.proofs.entry_of.Code as code
 
 -- the struct's type, over the signature's lifetimes
 abbrev B : Lfts 1 → RattleType
@@ -172,5 +172,5 @@ entry-of-spec 𝓤 H 𝓜 𝓖 𝓡 =
     entered 𝓤 H (tripleOf 𝓤 H (𝓖 .A) entry-of.signature (entry-of.spec 𝓤 H (𝓖 .A) (𝓜 .mem) (𝓡 .run)))
     (tables 𝓤 H 𝓜 𝓡 code.env .C) (tables 𝓤 H 𝓜 𝓡 code.env .Λ) #entry-of code.function (code.unfolded 𝓤 H 𝓜 𝓡)
     (entry-of-meets 𝓤 H (𝓖 .A) (givenOf 𝓤 H 𝓜 𝓖) (𝓜 .mem) (𝓡 .run) (tablesOf 𝓤 H 𝓜 (tables 𝓤 H 𝓜 𝓡 code.env))
-    (cited 𝓤 H (Of 𝓤 H (𝓖 .A) (𝓜 .mem) (𝓡 .run)) 𝓜 𝓡 code.env #of of-def.routine code.calls-traverse·leaf·Leaf·of (of-thm.met 𝓤 H 𝓜 𝓖 𝓡))
-    (cited 𝓤 H (Entry 𝓤 H (𝓖 .A) (𝓜 .mem) (𝓡 .run)) 𝓜 𝓡 code.env #entry entry-def.routine code.calls-traverse·leaf·Leaf·entry (entry-thm.met 𝓤 H 𝓜 𝓖 𝓡)))
+    (cited 𝓤 H (Of 𝓤 H (𝓖 .A) (𝓜 .mem) (𝓡 .run)) 𝓜 𝓡 code.env #of of-def.routine code.calls-leaf-reader·Leaf·of (of-thm.met 𝓤 H 𝓜 𝓖 𝓡))
+    (cited 𝓤 H (Entry 𝓤 H (𝓖 .A) (𝓜 .mem) (𝓡 .run)) 𝓜 𝓡 code.env #entry entry-def.routine code.calls-leaf-reader·Leaf·entry (entry-thm.met 𝓤 H 𝓜 𝓖 𝓡)))

@@ -1,4 +1,4 @@
--- `traverse::Leaf::len` meets its contract: a walk of its MIR, by hand. The slice's length is read from the struct.
+-- `leaf_reader::Leaf::len` meets its contract: a walk of its MIR, by hand. The slice's length is read from the struct.
 -- Assumes nothing.
 use mathlib.Core.Path.{refl}
 use Prim.Native.Nat.{ℕ, _<_, _^_}
@@ -34,13 +34,13 @@ use denote.Triple.Spec.{Meets, tripleOf}
 use denote.Triple.Table.{entered}
 use denote.Triple.Walked.{says, Stays, stay-none, walkOf, goes-none, Walks, ends-at, walked, walk-meets}
 use denote.Exit.{yes}
-use Rattle.traverse.specs.declared.leaf.Leaf.{Leaf}
-use Rattle.traverse.proofs.leaf.Leaf as T
-use Rattle.traverse.proofs.leaf.Leaf.Laws as T′
-use Rattle.traverse.proofs.leaf.Leaf.len.Key.{name as #len}
-use Rattle.traverse.proofs.leaf.Leaf.len as len
-use Rattle.traverse.proofs.leaf.Leaf.len.Statement as stated
-use Rattle.traverse.proofs.leaf.Leaf.len.Code as code
+use Rattle.leaf_reader.specs.declared.Leaf.{Leaf}
+use Rattle.leaf_reader.proofs.Leaf as T
+use Rattle.leaf_reader.proofs.Leaf.Laws as T′
+use Rattle.leaf_reader.proofs.Leaf.len.Key.{name as #len}
+use Rattle.leaf_reader.proofs.Leaf.len as len
+use Rattle.leaf_reader.proofs.Leaf.len.Statement as stated
+use Rattle.leaf_reader.proofs.Leaf.len.Code as code
 
 -- the struct's type, over the signature's lifetimes
 abbrev B : Lfts 1 → RattleType

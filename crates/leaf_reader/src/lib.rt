@@ -6,9 +6,7 @@ ghost use Prim.Native.Nat.{_-_, min};
 ghost use lib.ListN.{length};
 ghost use Rattle.spec_tables.specs.Tables as Tables;
 ghost use Rattle.spec_tree.specs.Leaves as Leaves;
-ghost use Rattle.traverse.specs.Values as Values;
-use crate::traverse::LeafFound;
-use crate::traverse::leaf;
+ghost use Rattle.leaf_reader.specs.Values as Values;
 
 pub struct Leaf<'a> {
     pub part: &'a [u32],
@@ -76,24 +74,4 @@ pub fn entry_of(order: &[u32], first: usize, last: usize, i: usize) -> EntryFoun
     ensures { λ r. ⌜ Values.asEntryFound r ≡ Leaves.entryAt (Tables.part (now (order .entry)) first (last - first)) i ⌝ }
 {
     Leaf::of(order, first, last).entry(i)
-}
-
-// The i-th triangle of the tree's k-th leaf, both counted from 0, over any lists at all: 1 to 4 and 7 refuse.
-pub fn leaf_entry(
-    triangles: &[f32],
-    order: &[u32],
-    links: &[u32],
-    boxes: &[f32],
-    nodes: usize,
-    k: usize,
-    i: usize,
-) -> EntryFound
-    ensures { λ r. ⌜ Values.asEntryFound r ≡ Leaves.entryAnswer (now (triangles .entry)) (now (order .entry)) (now (links .entry)) (now (boxes .entry)) nodes k i ⌝ }
-{
-    let found = leaf(triangles, order, links, boxes, nodes, k);
-    match found {
-        LeafFound::Nothing => EntryFound::Nothing,
-        LeafFound::Leaf { first, last, .. } => entry_of(order, first, last, i),
-        LeafFound::Refused { number, place } => EntryFound::Refused { number, place },
-    }
 }

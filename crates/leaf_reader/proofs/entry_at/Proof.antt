@@ -1,10 +1,10 @@
--- `traverse::entry_at` meets its contract: within the part the triangle's number, past its end nothing.
+-- `leaf_reader::entry_at` meets its contract: within the part the triangle's number, past its end nothing.
 -- Assumes nothing.
 use borrow.Author.Tests.{lt-ltb, le-ltb}
 use borrow.Author.Needs.{needs}
 use Rattle.spec_tree.specs.Leaves.{entryAt}
-use Rattle.traverse.proofs.leaf.entry_at.Statement.{statement}
-use Rattle.traverse.proofs.leaf.entry_at.Tie as tie
+use Rattle.leaf_reader.proofs.entry_at.Statement.{statement}
+use Rattle.leaf_reader.proofs.entry_at.Tie as tie
 
 mul-t5 : tie.Need-mul-t5
 mul-t5 c = search needs

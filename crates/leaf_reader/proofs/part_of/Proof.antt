@@ -1,9 +1,9 @@
--- `traverse::part_of` meets its contract: what of the part is there.
+-- `leaf_reader::part_of` meets its contract: what of the part is there.
 -- Assumes nothing.
 use borrow.Author.Needs.{needs}
-use Rattle.traverse.proofs.Parts.{part-there}
-use Rattle.traverse.proofs.leaf.part_of.Statement.{statement}
-use Rattle.traverse.proofs.leaf.part_of.Tie as tie
+use Rattle.leaf_reader.proofs.Parts.{part-there}
+use Rattle.leaf_reader.proofs.part_of.Statement.{statement}
+use Rattle.leaf_reader.proofs.part_of.Tie as tie
 
 lesser-requires : tie.Need-lesser-requires
 lesser-requires c κs = search needs
