@@ -1,0 +1,53 @@
+-- What the layout of an image and that of an input tell is fixed by the spans of their bodies. Assumes nothing.
+use mathlib.Core.Path.{_≡_, refl, sym, ap, ap₂, _∙_}
+use mathlib.Core.List.{List, [], _∷_}
+use Prim.Native.Nat.{ℕ, zero, suc, _*_, _/_}
+use native.Mathlib.Omega.{arith}
+use Rattle.spec_records.specs.Records.{Span, Layout, wrong, bodies}
+use Rattle.spec_records.specs.Layouts.{imageSpans, gaugeSpans}
+use Rattle.records.specs.declared.layout.ImageLayout.{ImageLayout}
+use Rattle.records.specs.declared.layout.ImageLayout.the-variants as image
+use Rattle.records.specs.declared.layout.GaugeLayout.{GaugeLayout}
+use Rattle.records.specs.declared.layout.GaugeLayout.the-variants as gauge
+use Rattle.records.specs.Values.{imageLaid, gaugeLaid}
+
+-- the size of the body in place i
+abbrev sizeAt : List Span → ℕ → ℕ
+sizeAt [] i = 0
+sizeAt (s ∷ ss) zero = s .size
+sizeAt (s ∷ ss) (suc i) = sizeAt ss i
+
+trianglesCounted : (n : ℕ) → 36 * n / 36 ≡ n
+trianglesCounted n = omega arith
+
+-- ---- an image
+abbrev backImage : Layout → ImageLayout
+backImage (wrong at) = image.Wrong at
+backImage (bodies ss) = image.Right (sizeAt ss 1 / 36) (sizeAt ss 3 / 30)
+
+image-is : (a : ImageLayout) → backImage (imageLaid a) ≡ a
+unfolding imageSpans
+image-is (image.Right triangles nodes) = ap₂ image.Right (trianglesCounted triangles) (nodesCounted nodes)
+  where
+    nodesCounted : (n : ℕ) → 30 * n / 30 ≡ n
+    nodesCounted n = omega arith
+image-is (image.Wrong at) = refl
+
+pub image-unique : (a b : ImageLayout) → imageLaid a ≡ imageLaid b → a ≡ b
+image-unique a b e = sym (image-is a) ∙ ap backImage e ∙ image-is b
+
+-- ---- an input of `gauge`
+abbrev backGauge : Layout → GaugeLayout
+backGauge (wrong at) = gauge.Wrong at
+backGauge (bodies ss) = gauge.Right (sizeAt ss 1 / 36) (sizeAt ss 2 / 12)
+
+gauge-is : (a : GaugeLayout) → backGauge (gaugeLaid a) ≡ a
+unfolding gaugeSpans
+gauge-is (gauge.Right triangles points) = ap₂ gauge.Right (trianglesCounted triangles) (pointsCounted points)
+  where
+    pointsCounted : (n : ℕ) → 12 * n / 12 ≡ n
+    pointsCounted n = omega arith
+gauge-is (gauge.Wrong at) = refl
+
+pub gauge-unique : (a b : GaugeLayout) → gaugeLaid a ≡ gaugeLaid b → a ≡ b
+gauge-unique a b e = sym (gauge-is a) ∙ ap backGauge e ∙ gauge-is b
