@@ -1,6 +1,6 @@
 // The box over a part of the order list.
 ghost use mathlib.Core.Path.{_≡_};
-ghost use Prim.Native.Nat.{ℕ, _<_};
+ghost use Prim.Native.Nat.{_<_};
 ghost use lib.ListN.{length};
 ghost use Rattle.box3.specs.Values as Shapes;
 ghost use Rattle.spec_lists.specs.Reading as Reading;

@@ -5,8 +5,6 @@ ghost use mathlib.Core.List.{_++_};
 ghost use Prim.Native.Nat.{_+_, _*_, _≤_};
 ghost use lib.ListN.{length};
 ghost use Rattle.spec_tables.specs.Tables.{Put};
-ghost use Rattle.spec_records.specs.Records.{bodies, laidOut};
-ghost use Rattle.spec_records.specs.Layouts.{gaugeWants, gaugeSpans};
 ghost use Rattle.spec_lists.specs.Reading.{pointCount};
 ghost use Rattle.spec_lists.specs.Refusals.{passes};
 ghost use Rattle.lists.specs.Values.{asSettings};

@@ -1,6 +1,5 @@
 -- `host_put::image_most` meets its contract: none and too many have no image.
 -- Assumes nothing.
-use mathlib.Core.Path.{_∙_}
 use borrow.Author.Tests.{le-leb, lt-leb}
 use native.Mathlib.Omega.{arith}
 use Rattle.spec_lists.specs.Limits.{mostTriangles}

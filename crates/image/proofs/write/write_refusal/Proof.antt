@@ -1,6 +1,5 @@
 -- `image::write_refusal` meets its contract: the four tests in turn.
 -- Assumes nothing.
-use mathlib.Core.Path.{ap, _∙_}
 use Rattle.spec_lists.proofs.Verdicts.{stops, goes-on, ends, did-pass}
 use Rattle.spec_lists.proofs.Passed.{triangles-passed}
 use Rattle.spec_image.specs.Writing.{writeRefusal}
