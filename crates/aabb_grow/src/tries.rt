@@ -30,7 +30,7 @@ fn sort_on(centres: &[f32], axis: Axis, part: &mut [u32], scratch: &mut [u32])
 // What the rule says of the part as it stands: strategy 1 is median, 2 is area.
 fn rule(bounds: &[f32], strategy: usize, axis: Axis, parent: Box3, part: &[u32]) -> Split
     requires { ⌜ RuleAsked binary32 (now bounds) (now part) ⌝ }
-    ensures { λ r. ⌜ Rules.asSplit r ≡ Tries.rule binary32 strategy (Shapes.asAxis axis) (Shapes.asBox parent) (Splits.boxesOf (now (bounds .entry)) (now (part .entry))) ⌝ }
+    ensures { λ r. ⌜ Rules.asSplit r ≡ Tries.rule binary32 strategy (Shapes.asAxis axis) (Shapes.asBox parent) (Splits.boxesIn (now (bounds .entry)) (now (part .entry))) ⌝ }
 {
     if strategy == 1 {
         return median_split(bounds, part, axis, parent);

@@ -44,7 +44,7 @@ pub fn bucket_of(bounds: &[f32], t: u32, axis: Axis, within: Span) -> usize
 // The ends of the centres' bounds on the axis: the other two axes are never asked for.
 pub fn centre_span(bounds: &[f32], part: &[u32], axis: Axis) -> Span
     requires { ⌜ Splits.AllInTable (now bounds) (now part) ⌝ }
-    ensures { λ r. ⌜ Area.EndsOf (Shapes.asAxis axis) (Area.centreBounds binary32 (Splits.boxesOf (now (bounds .entry)) (now (part .entry)))) (r .lo) (r .hi) ⌝ }
+    ensures { λ r. ⌜ Area.EndsOf (Shapes.asAxis axis) (Area.centreBounds binary32 (Splits.boxesIn (now (bounds .entry)) (now (part .entry)))) (r .lo) (r .hi) ⌝ }
 {
     let mut lo = 3.4028235e38;
     let mut hi = -3.4028235e38;
@@ -62,7 +62,7 @@ pub fn centre_span(bounds: &[f32], part: &[u32], axis: Axis) -> Span
 pub fn fill(bounds: &[f32], part: &[u32], axis: Axis, within: Span) -> Buckets
     requires { ⌜ length (now part) < 2 ^ 28 ⌝ }
     requires { ⌜ Splits.AllInTable (now bounds) (now part) ⌝ }
-    ensures { λ r. ⌜ Costs.asBuckets r ≡ Area.filled binary32 (Area.bucketBetween binary32 (Shapes.asAxis axis) (within .lo) (within .hi)) (Splits.boxesOf (now (bounds .entry)) (now (part .entry))) ⌝ }
+    ensures { λ r. ⌜ Costs.asBuckets r ≡ Area.filled binary32 (Area.bucketBetween binary32 (Shapes.asAxis axis) (within .lo) (within .hi)) (Splits.boxesIn (now (bounds .entry)) (now (part .entry))) ⌝ }
 {
     let mut buckets = Buckets::empty();
     let mut i = 0;

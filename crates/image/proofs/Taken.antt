@@ -17,10 +17,10 @@ use Rattle.spec_image.proofs.Sizes.{image-is}
 use Rattle.records.specs.Values.{imageLaid}
 use Rattle.records.specs.declared.layout.ImageLayout.{ImageLayout}
 use Rattle.records.specs.declared.layout.ImageLayout.the-variants.{Right, Wrong}
-use Rattle.image_get.specs.Values.{Filled}
+use Rattle.image_get.specs.Values.{ListsRead}
 
 -- nothing is changed on a refusal
-pub unchanged : (number place : ℕ) (s : List ℕ) (t : List Float) (o l : List ℕ) (b : List Float) → Filled (filledBy version1 s (refused number place)) t o l b t o l b
+pub unchanged : (number place : ℕ) (s : List ℕ) (t : List Float) (o l : List ℕ) (b : List Float) → ListsRead (filledBy version1 s (refused number place)) t o l b t o l b
 unchanged number place s t o l b = record { triangles = sym (over-none 0 t); order = sym (over-none 0 o); links = sym (over-none 0 l); boxes = sym (over-none 0 b) }
 
 -- ---- what the layout's answer says

@@ -9,7 +9,7 @@ use Rattle.spec_image.specs.Image.{Image}
 use Rattle.spec_image.specs.Reading as Reading
 use Rattle.spec_image.specs.Writing as Writing
 use Rattle.lists.specs.Values.{asSettings}
-use Rattle.image_get.specs.Values.{Filled}
+use Rattle.image_get.specs.Values.{ListsRead}
 use Rattle.image.specs.declared.read.Rooms.{Rooms}
 use Rattle.image.specs.declared.read.ImageRead.{ImageRead}
 use Rattle.image.specs.declared.read.ImageRead.the-variants.{Refused, Read}
@@ -39,7 +39,7 @@ roomsIn t o l b = record { triangles = length t; order = length o; links = lengt
 -- layout, then room, then the lists
 pub record ReadIs (s : List ℕ) (r : ImageRead) (t : List Float) (o l : List ℕ) (b t′ : List Float) (o′ l′ : List ℕ) (b′ : List Float) : Type 0 where
   pub answer : answerOf r ≡ Reading.imageRead version1 s (roomsIn t o l b)
-  pub filled : Filled (Reading.filledBy version1 s (answerOf r)) t o l b t′ o′ l′ b′
+  pub filled : ListsRead (Reading.filledBy version1 s (answerOf r)) t o l b t′ o′ l′ b′
 
 abbrev pub asWritten : ImageWritten → Writing.ImageWritten
 asWritten (Written.Refused number place) = Writing.refused number place

@@ -13,7 +13,7 @@ pub record TreeFilled (x : Image) (o l : List ℕ) (b : List Float) (o′ l′ :
   pub boxes : b′ ≡ over 0 (x .boxes) b
 
 -- and its triangles
-pub record Filled (x : Image) (t : List Float) (o l : List ℕ) (b t′ : List Float) (o′ l′ : List ℕ) (b′ : List Float) : Type 0 where
+pub record ListsRead (x : Image) (t : List Float) (o l : List ℕ) (b t′ : List Float) (o′ l′ : List ℕ) (b′ : List Float) : Type 0 where
   pub triangles : t′ ≡ over 0 (x .triangles) t
   pub order : o′ ≡ over 0 (x .order) o
   pub links : l′ ≡ over 0 (x .links) l

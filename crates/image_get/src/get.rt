@@ -8,9 +8,9 @@ ghost use Prim.Native.Nat.{_+_, _*_, _≤_};
 ghost use lib.ListN.{length};
 ghost use Rattle.spec_tables.specs.Tables.{over, many};
 ghost use Rattle.spec_records.specs.Layouts.{version1, imageSize};
-ghost use Rattle.spec_image.specs.Image.{settingsIn, linksIn, boxIn, imageIn};
+ghost use Rattle.spec_image.specs.Image.{settingsIn, linksIn, sidesIn, imageIn};
 ghost use Rattle.lists.specs.Values.{asSettings};
-ghost use Rattle.image_get.specs.Values.{TreeFilled, Filled};
+ghost use Rattle.image_get.specs.Values.{TreeFilled, ListsRead};
 
 // The numbers of record 1, which stands at the front.
 pub fn settings_of(bytes: &[u8]) -> Settings
@@ -29,7 +29,7 @@ fn read_node(bytes: &[u8], start: usize, node: usize, links: &mut [u32], boxes: 
     requires { ⌜ start + 30 * node + 30 ≤ length (now bytes) ⌝ }
     requires { ⌜ (3 * node + 3 ≤ length (now links)) × (6 * node + 6 ≤ length (now boxes)) ⌝ }
     ensures { λ _. ⌜ now (links .exit) ≡ over (3 * node) (linksIn version1 (now (bytes .entry)) start node) (now (links .entry)) ⌝ }
-    ensures { λ _. ⌜ now (boxes .exit) ≡ over (6 * node) (boxIn version1 (now (bytes .entry)) start node) (now (boxes .entry)) ⌝ }
+    ensures { λ _. ⌜ now (boxes .exit) ≡ over (6 * node) (sidesIn version1 (now (bytes .entry)) start node) (now (boxes .entry)) ⌝ }
 {
     let at = start + 30 * node;
     read_u16s(bytes, at, 1, links, 3 * node);
@@ -41,7 +41,7 @@ fn read_nodes(bytes: &[u8], start: usize, nodes: usize, links: &mut [u32], boxes
     requires { ⌜ start + 30 * nodes ≤ length (now bytes) ⌝ }
     requires { ⌜ (3 * nodes ≤ length (now links)) × (6 * nodes ≤ length (now boxes)) ⌝ }
     ensures { λ _. ⌜ now (links .exit) ≡ over 0 (many (linksIn version1 (now (bytes .entry)) start) nodes) (now (links .entry)) ⌝ }
-    ensures { λ _. ⌜ now (boxes .exit) ≡ over 0 (many (boxIn version1 (now (bytes .entry)) start) nodes) (now (boxes .entry)) ⌝ }
+    ensures { λ _. ⌜ now (boxes .exit) ≡ over 0 (many (sidesIn version1 (now (bytes .entry)) start) nodes) (now (boxes .entry)) ⌝ }
 {
     let mut i = 0;
     while i < nodes {
@@ -83,7 +83,7 @@ pub fn read_lists(
     requires { ⌜ imageSize version1 count nodes ≤ length (now bytes) ⌝ }
     requires { ⌜ (9 * count ≤ length (now triangles)) × (count ≤ length (now order)) ⌝ }
     requires { ⌜ (3 * nodes ≤ length (now links)) × (6 * nodes ≤ length (now boxes)) ⌝ }
-    ensures { λ _. ⌜ Filled (imageIn version1 (now (bytes .entry)) count nodes) (now (triangles .entry)) (now (order .entry)) (now (links .entry)) (now (boxes .entry)) (now (triangles .exit)) (now (order .exit)) (now (links .exit)) (now (boxes .exit)) ⌝ }
+    ensures { λ _. ⌜ ListsRead (imageIn version1 (now (bytes .entry)) count nodes) (now (triangles .entry)) (now (order .entry)) (now (links .entry)) (now (boxes .entry)) (now (triangles .exit)) (now (order .exit)) (now (links .exit)) (now (boxes .exit)) ⌝ }
 {
     read_f32s(bytes, 20, 9 * count, triangles, 0);
     read_tree(bytes, count, nodes, order, links, boxes);

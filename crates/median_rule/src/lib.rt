@@ -33,7 +33,7 @@ fn plane_between(bounds: &[f32], axis: Axis, above: u32, below: u32) -> Plane3
 // Whether every box of the part meets the plane.
 fn all_meet(bounds: &[f32], part: &[u32], plane: Plane3) -> bool
     requires { ⌜ Splits.AllInTable (now bounds) (now part) ⌝ }
-    ensures { λ r. ⌜ r ≡ Median.allMeet binary32 (Shapes.asPlane plane) (Splits.boxesOf (now (bounds .entry)) (now (part .entry))) ⌝ }
+    ensures { λ r. ⌜ r ≡ Median.allMeet binary32 (Shapes.asPlane plane) (Splits.boxesIn (now (bounds .entry)) (now (part .entry))) ⌝ }
 {
     let mut i = 0;
     while i < part.len() {
@@ -50,7 +50,7 @@ fn all_meet_at(bounds: &[f32], part: &[u32], axis: Axis, cut: usize) -> bool
     requires { ⌜ 0 < cut ⌝ }
     requires { ⌜ cut < length (now part) ⌝ }
     requires { ⌜ Splits.AllInTable (now bounds) (now part) ⌝ }
-    ensures { λ r. ⌜ r ≡ Median.allMeetAt binary32 (Shapes.asAxis axis) (Splits.boxesOf (now (bounds .entry)) (now (part .entry))) cut ⌝ }
+    ensures { λ r. ⌜ r ≡ Median.allMeetAt binary32 (Shapes.asAxis axis) (Splits.boxesIn (now (bounds .entry)) (now (part .entry))) cut ⌝ }
 {
     all_meet(
         bounds,
@@ -63,7 +63,7 @@ fn all_meet_at(bounds: &[f32], part: &[u32], axis: Axis, cut: usize) -> bool
 fn is_large(bounds: &[f32], part: &[u32], parent: Box3) -> bool
     requires { ⌜ 0 < length (now part) ⌝ }
     requires { ⌜ Splits.AllInTable (now bounds) (now part) ⌝ }
-    ensures { λ r. ⌜ r ≡ Median.isLarge binary32 (Shapes.asBox parent) (Splits.boxesOf (now (bounds .entry)) (now (part .entry))) ⌝ }
+    ensures { λ r. ⌜ r ≡ Median.isLarge binary32 (Shapes.asBox parent) (Splits.boxesIn (now (bounds .entry)) (now (part .entry))) ⌝ }
 {
     union_of(bounds, part).volume() / parent.volume() > 0.8
 }
@@ -74,7 +74,7 @@ fn are_both_large(bounds: &[f32], part: &[u32], cut: usize, parent: Box3) -> boo
     requires { ⌜ 0 < cut ⌝ }
     requires { ⌜ cut < length (now part) ⌝ }
     requires { ⌜ Splits.AllInTable (now bounds) (now part) ⌝ }
-    ensures { λ r. ⌜ r ≡ Median.areBothLarge binary32 (Shapes.asBox parent) (Splits.boxesOf (now (bounds .entry)) (now (part .entry))) cut ⌝ }
+    ensures { λ r. ⌜ r ≡ Median.areBothLarge binary32 (Shapes.asBox parent) (Splits.boxesIn (now (bounds .entry)) (now (part .entry))) cut ⌝ }
 {
     if is_large(bounds, &part[..cut], parent) {
         return is_large(bounds, &part[cut..], parent);
@@ -85,7 +85,7 @@ fn are_both_large(bounds: &[f32], part: &[u32], cut: usize, parent: Box3) -> boo
 pub fn median_split(bounds: &[f32], part: &[u32], axis: Axis, parent: Box3) -> Split
     requires { ⌜ 2 ≤ length (now part) ⌝ }
     requires { ⌜ Splits.Boxed binary32 (now bounds) (now part) ⌝ }
-    ensures { λ r. ⌜ Cuts.asSplit r ≡ Median.medianSplit binary32 (Shapes.asAxis axis) (Shapes.asBox parent) (Splits.boxesOf (now (bounds .entry)) (now (part .entry))) ⌝ }
+    ensures { λ r. ⌜ Cuts.asSplit r ≡ Median.medianSplit binary32 (Shapes.asAxis axis) (Shapes.asBox parent) (Splits.boxesIn (now (bounds .entry)) (now (part .entry))) ⌝ }
 {
     let cut = part.len() / 2;
     if all_meet_at(bounds, part, axis, cut) {

@@ -17,7 +17,7 @@ use lib.Ieee.Scale.{finite}
 use Rattle.spec_numbers.specs.Values.{zero, one, two}
 use Rattle.spec_numbers.specs.Axes.{Axis, X, Y, Z}
 use Rattle.spec_numbers.proofs.Fraction.{compared}
-use Rattle.spec_shapes.specs.Points.{Point, on, minus, over, dot, cross}
+use Rattle.spec_shapes.specs.Points.{Point, on, minus, dividedBy, dot, cross}
 use Rattle.spec_shapes.specs.Triangles.{Triangle}
 use Rattle.spec_lists.specs.Limits.{furthestCoordinate}
 use Rattle.spec_lists.specs.Reading.{pointAt, triangleAt, triangleCount, pointCount}
@@ -115,8 +115,8 @@ pub record Bounded (f : Format) (a : Point) : Type 0 where
   pub inside : (i : Axis) → Within (2 ^ 21) (on i a)
   pub holds : (i : Axis) → T (fits f (on i a))
 
-over-inside : (f : Format) (a : Point) → Bounded f a → T (not (eq (Winding.norm f a) zero)) → Inside 2 (over f a (Winding.norm f a))
-unfolding over
+over-inside : (f : Format) (a : Point) → Bounded f a → T (not (eq (Winding.norm f a) zero)) → Inside 2 (dividedBy f a (Winding.norm f a))
+unfolding dividedBy
 over-inside f a A n X = direction-within f a (A .inside) (A .holds) n X
 over-inside f a A n Y = direction-within f a (A .inside) (A .holds) n Y
 over-inside f a A n Z = direction-within f a (A .inside) (A .holds) n Z
@@ -135,7 +135,7 @@ origin-angle-within f t A B C = go (eq a zero) (eq b zero) (eq c zero) (λ h. h)
     c = Winding.norm f (t .c)
 
     go : (x y z : Bool) → (T (not x) → T (not (eq a zero))) → (T (not y) → T (not (eq b zero))) → (T (not z) → T (not (eq c zero)))
-        → Within 8 (cond (x || y || z) zero (Winding.unitAngle f record { a = over f (t .a) a; b = over f (t .b) b; c = over f (t .c) c }))
+        → Within 8 (cond (x || y || z) zero (Winding.unitAngle f record { a = dividedBy f (t .a) a; b = dividedBy f (t .b) b; c = dividedBy f (t .c) c }))
     go true y z h k l = zero-within 8
     go false true z h k l = zero-within 8
     go false false true h k l = zero-within 8

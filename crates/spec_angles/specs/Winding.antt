@@ -5,7 +5,7 @@ use Prim.Native.Nat as Nat
 use lib.IntN.{pos}
 use lib.Ieee.{Float, fin, Format, binary32, binary64, add, mul, div, eq, ofBits}
 use Rattle.spec_numbers.specs.Values.{zero, one, two}
-use Rattle.spec_shapes.specs.Points.{Point, minus, over, dot, cross}
+use Rattle.spec_shapes.specs.Points.{Point, minus, dividedBy, dot, cross}
 use Rattle.spec_shapes.specs.Triangles.{Triangle}
 use Rattle.spec_angles.specs.Root.{rootOrNan}
 use Rattle.spec_angles.specs.Angle.{angleOrNan}
@@ -35,7 +35,7 @@ originAngle f t =
     let a = norm f (t .a) in
     let b = norm f (t .b) in
     let c = norm f (t .c) in
-    cond (eq a zero || eq b zero || eq c zero) zero (unitAngle f record { a = over f (t .a) a; b = over f (t .b) b; c = over f (t .c) c })
+    cond (eq a zero || eq b zero || eq c zero) zero (unitAngle f record { a = dividedBy f (t .a) a; b = dividedBy f (t .b) b; c = dividedBy f (t .c) c })
 
 unfoldable pub solidAngle : Format → Triangle → Point → Float
 solidAngle f t q = originAngle f (seenFrom f q t)

@@ -14,7 +14,7 @@ use Rattle.spec_tables.proofs.Pieces.{length-singles, take-over}
 use Rattle.spec_records.specs.Entries.{numbersIn, floatsIn}
 use Rattle.spec_records.specs.Records.{wrong, bodies, laidOut}
 use Rattle.spec_records.specs.Layouts.{version1, imageWants, imageSpans, imageSize, orderStart, nodesStart}
-use Rattle.spec_image.specs.Image.{Image, linksIn, boxIn, imageIn}
+use Rattle.spec_image.specs.Image.{Image, linksIn, sidesIn, imageIn}
 use Rattle.spec_image.proofs.Sizes.{length-links, length-box, image-is}
 use Rattle.spec_numbers.specs.Values.{zero}
 use Rattle.spec_lists.specs.Limits.{mostTriangles}
@@ -114,7 +114,7 @@ module _ (s : List ℕ) (t n : ℕ) where
   unfolding imageIn
   links-read old new e = ap (take (3 * n)) e ∙ take-over (3 * n) _ old (length-many _ 3 n (length-links version1 s (nodesStart version1 t)))
 
-  pub boxes-read : (old new : List Float) → new ≡ over 0 (many (boxIn version1 s (nodesStart version1 t)) n) old → take (6 * n) new ≡ imageIn version1 s t n .boxes
+  pub boxes-read : (old new : List Float) → new ≡ over 0 (many (sidesIn version1 s (nodesStart version1 t)) n) old → take (6 * n) new ≡ imageIn version1 s t n .boxes
   unfolding imageIn
   boxes-read old new e = ap (take (6 * n)) e ∙ take-over (6 * n) _ old (length-many _ 6 n (length-box version1 s (nodesStart version1 t)))
 

@@ -10,7 +10,7 @@ use Rattle.spec_numbers.specs.Axes.{Axis, X, Y, Z}
 use Rattle.spec_numbers.proofs.Order.{number-left, number-right}
 use Rattle.spec_numbers.proofs.Rounding.{round-not-below, round-not-above}
 use Rattle.spec_numbers.proofs.Sum.{add-number}
-use Rattle.spec_shapes.specs.Points.{on, plus, over}
+use Rattle.spec_shapes.specs.Points.{on, plus, dividedBy}
 use Rattle.spec_shapes.specs.Boxes.{Box, centre, Proper}
 
 round-number : (f : Format) (s : Bool) (a c : ℕ) → 0 < c → Number (round f s a c)
@@ -23,7 +23,7 @@ half-number f (inf s) h = tt
 half-number f (fin s m e) h = round-number f (unlike s false) (m * up e * down (pos 1)) (1 * up (pos 1) * down e) (mul-pos (mul-pos (zero-lt-suc 0) (up-pos (pos 1))) (down-pos e))
 
 pub centre-number : (f : Format) (b : Box) → Proper b → (axis : Axis) → Number (on axis (centre f b))
-unfolding centre over plus
+unfolding centre dividedBy plus
 centre-number f b h X = half-number f _ (add-number f (b .min .x) (b .max .x) (h .min X) (h .max X))
 centre-number f b h Y = half-number f _ (add-number f (b .min .y) (b .max .y) (h .min Y) (h .max Y))
 centre-number f b h Z = half-number f _ (add-number f (b .min .z) (b .max .z) (h .min Z) (h .max Z))

@@ -2,7 +2,7 @@
 use mathlib.Core.Path.{refl}
 use mathlib.Core.List.{_++_}
 use lib.Ieee.{Format, binary32, binary64, add, sub, mul, div, lt, le, eq, round, ofInt, ofBits}
-use Rattle.spec_shapes.specs.Points.{minus, plus, scale, over, dot, smallest, largest, isUnder, isFinite, plusZero, squaredDistance}
+use Rattle.spec_shapes.specs.Points.{minus, plus, scale, dividedBy, dot, smallest, largest, isUnder, isFinite, plusZero, squaredDistance}
 use Rattle.spec_shapes.specs.Boxes.{union, centre, sizes, area, volume, offsetOn, offset, withExcess, withOutside, boxSquared, containsPoint, heldIn}
 use Rattle.spec_shapes.specs.Planes.{unit, reach, meetsBox}
 use Rattle.spec_shapes.specs.Triangles.{boxOf, dots, crossed, part, along, facePoint, pointOn, closestPoint, finiteOr, heldPoint, measured}
@@ -28,6 +28,6 @@ use Rattle.spec_examples.specs.Angles.{angleExamples}
 use Rattle.spec_examples.specs.Queries.{queryExamples, e10Tree}
 
 pub examples-hold : (f : Format) → AllHold (shapeExamples f ++ (angleExamples f ++ queryExamples f))
-unfolding add sub mul div lt le eq round ofInt ofBits minus plus scale over dot smallest largest isUnder isFinite plusZero squaredDistance union centre sizes area volume offsetOn offset withExcess withOutside boxSquared containsPoint heldIn unit reach meetsBox boxOf dots crossed part along facePoint pointOn closestPoint finiteOr heldPoint measured wholeRoot rootBy rootIn root arcs entry arc ratio mirrored angle numberAt pointAt triangleAt boxAt triangleCount numbers nodeCount joinedTo joined boxOver rootFrom linksFrom boxesOf upTo inserted sorted unionOf planeBetween allMeet allMeetAt isLarge areBothLarge medianSplit grown axisInserted axesBySize rule triedOn triedIn triedWithin tried builtTree tookAll nodeWalk pairWalk rootWalk keptBy limitOf counts offered hit tookSure scan sourceHit strictly tookSource enters sourceWalk sureAnswer sourceAnswer e10Tree
+unfolding add sub mul div lt le eq round ofInt ofBits minus plus scale dividedBy dot smallest largest isUnder isFinite plusZero squaredDistance union centre sizes area volume offsetOn offset withExcess withOutside boxSquared containsPoint heldIn unit reach meetsBox boxOf dots crossed part along facePoint pointOn closestPoint finiteOr heldPoint measured wholeRoot rootBy rootIn root arcs entry arc ratio mirrored angle numberAt pointAt triangleAt boxAt triangleCount numbers nodeCount joinedTo joined boxOver rootFrom linksFrom boxesOf upTo inserted sorted unionOf planeBetween allMeet allMeetAt isLarge areBothLarge medianSplit grown axisInserted axesBySize rule triedOn triedIn triedWithin tried builtTree tookAll nodeWalk pairWalk rootWalk keptBy limitOf counts offered hit tookSure scan sourceHit strictly tookSource enters sourceWalk sureAnswer sourceAnswer e10Tree
 examples-hold binary32 = refl
 examples-hold binary64 = refl

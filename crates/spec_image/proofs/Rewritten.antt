@@ -15,7 +15,7 @@ use Rattle.spec_records.specs.Records.{bodies, sizeAt, header, recordOf, laidOu
 use Rattle.spec_records.specs.Layouts.{Shape, triangleSize, nodeSize, imageWants, orderStart, nodesStart, imageSize, imageSpans}
 use Rattle.spec_records.proofs.Little.{number-back}
 use Rattle.spec_records.proofs.Entries.{numbers-written, floats-written}
-use Rattle.spec_image.specs.Image.{settingsBytes, nodeBytes, imageBytes, settingsIn, linksIn, boxIn, imageIn}
+use Rattle.spec_image.specs.Image.{settingsBytes, nodeBytes, imageBytes, settingsIn, linksIn, sidesIn, imageIn}
 use Rattle.spec_image.specs.Stored.{ImageIs}
 use Rattle.spec_image.proofs.Sizes.{image-is, length-links, length-box}
 
@@ -48,7 +48,7 @@ module _ (s : List ℕ) (ok : Bytes s) where
     links = many (linksIn sh s start) n
 
     abbrev boxes : List Float
-    boxes = many (boxIn sh s start) n
+    boxes = many (sidesIn sh s start) n
 
     module _ (numbers : NoNan boxes (6 * n)) (i : ℕ) (l : i < n) where
       abbrev at : ℕ
@@ -86,10 +86,10 @@ module _ (s : List ℕ) (ok : Bytes s) where
           numbers-written (sh .entry) links (3 * i + 1) s (at + 2) 2 ok (omega (arith, within)) e
 
       box-written : floatBytes (sh .float) boxes (6 * i) 6 ≡ part s (at + (2 + 2 * sh .entry)) (floatSize (sh .float) * 6)
-      unfolding boxIn
+      unfolding sidesIn
       box-written =
           let six : 6 * i + 6 ≤ 6 * n = piece-within 6 n i l in
-          let e : part boxes (6 * i) 6 ≡ boxIn sh s start i = part-many (boxIn sh s start) 6 n i (length-box sh s start) l in
+          let e : part boxes (6 * i) 6 ≡ sidesIn sh s start i = part-many (sidesIn sh s start) 6 n i (length-box sh s start) l in
           floats-written (sh .float) boxes (6 * i) s (at + (2 + 2 * sh .entry)) 6 ok (omega (arith, within)) (λ j k. numbers j (omega arith)) e
 
       node-written : nodeBytes sh links boxes i ≡ part s at (nodeSize sh)
@@ -121,7 +121,7 @@ module _ (s : List ℕ) (ok : Bytes s) where
       let f₃ : numberBytes (sh .entry) order 0 t ≡ part s (orderStart sh t) (sh .entry * t) =
       numbers-written (sh .entry) order 0 s (orderStart sh t) t ok (omega arith) (ap (part order 0) (sym l₃) ∙ take-length order) in
       let r₃ : recordOf 3 (numberBytes (sh .entry) order 0 t) ≡ part s third (6 + sh .entry * t) = record-written 3 (sh .entry * t) third _ (is .size3) (is .kind3) f₃ (omega arith) in
-      let nodes : List ℕ = many (nodeBytes sh (many (linksIn sh s (nodesStart sh t)) n) (many (boxIn sh s (nodesStart sh t)) n)) n in
+      let nodes : List ℕ = many (nodeBytes sh (many (linksIn sh s (nodesStart sh t)) n) (many (sidesIn sh s (nodesStart sh t)) n)) n in
       let f₄ : nodes ≡ part s (nodesStart sh t) (nodeSize sh * n) =
       many-same _ (λ i. part s (nodesStart sh t + nodeSize sh * i) (nodeSize sh)) n (node-written sh (nodesStart sh t) n (omega arith) bounds) ∙ many-parts-at (nodeSize sh) s (nodesStart sh t) n in
       let r₄ : recordOf 4 nodes ≡ part s fourth (6 + nodeSize sh * n) = record-written 4 (nodeSize sh * n) fourth _ (is .size4) (is .kind4) f₄ (omega arith) in

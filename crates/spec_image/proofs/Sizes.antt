@@ -18,7 +18,7 @@ use Rattle.spec_records.proofs.Little.{length-little, number-part}
 use Rattle.spec_records.proofs.Entries.{length-numbers, length-floats}
 use Rattle.spec_records.proofs.Records.{both, record-kind, one-back, done-back, length-record}
 use Rattle.spec_lists.specs.Refusals.{Settings}
-use Rattle.spec_image.specs.Image.{Image, settingsBytes, nodeBytes, trianglesBody, orderBody, nodesBody, imageBytes, linksIn, boxIn}
+use Rattle.spec_image.specs.Image.{Image, settingsBytes, nodeBytes, trianglesBody, orderBody, nodesBody, imageBytes, linksIn, sidesIn}
 use Rattle.spec_image.specs.Stored.{Complete, ImageIs}
 
 -- ---- of what is written
@@ -55,8 +55,8 @@ pub length-links : (sh : Shape) (s : List ℕ) (start i : ℕ) → length (links
 unfolding linksIn
 length-links sh s start i = simp (length-append, length-singles)
 
-pub length-box : (sh : Shape) (s : List ℕ) (start i : ℕ) → length (boxIn sh s start i) ≡ 6
-unfolding boxIn
+pub length-box : (sh : Shape) (s : List ℕ) (start i : ℕ) → length (sidesIn sh s start i) ≡ 6
+unfolding sidesIn
 length-box sh s start i = length-singles _ 6
 
 -- ---- of a layout

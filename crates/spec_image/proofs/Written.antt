@@ -19,7 +19,7 @@ use Rattle.spec_records.specs.Layouts.{Shape, triangleSize, nodeSize, settingsR
 use Rattle.spec_records.proofs.Little.{length-little, number-left}
 use Rattle.spec_records.proofs.Entries.{length-numbers, numbers-read, floats-read}
 use Rattle.spec_records.proofs.Records.{RightRecord, record-there, reach-start, reach-on, reach-end}
-use Rattle.spec_image.specs.Image.{Image, settingsBytes, nodeBytes, trianglesBody, orderBody, nodesBody, imageBytes, settingsIn, linksIn, boxIn, imageIn}
+use Rattle.spec_image.specs.Image.{Image, settingsBytes, nodeBytes, trianglesBody, orderBody, nodesBody, imageBytes, settingsIn, linksIn, sidesIn, imageIn}
 use Rattle.spec_image.specs.Stored.{Storable, used}
 use Rattle.spec_image.specs.Reading.{Rooms, holds, roomFor, imageRead}
 use Rattle.spec_image.proofs.Sizes.{length-settings, length-node, length-triangles, length-order, length-nodes}
@@ -198,8 +198,8 @@ module _ (sh : Shape) (x : Image) (ok : Storable sh x) where
         let b : numbersIn (sh .entry) s (at + 2) 2 ≡ part (x .links) (3 * i + 1) 2 = numbers-read (sh .entry) (x .links) (3 * i + 1) 2 s (at + 2) _ (ok .sides i l) (omega arith) sides-left in
         rw (a, b, take-add 1 2 (drop (3 * i) (x .links)), drop-drop 1 (3 * i) (x .links))
 
-    box-back : boxIn sh s (nodesStart sh t) i ≡ part (x .boxes) (6 * i) 6
-    unfolding boxIn
+    box-back : sidesIn sh s (nodesStart sh t) i ≡ part (x .boxes) (6 * i) 6
+    unfolding sidesIn
     box-back =
         let room : 6 * i + 6 ≤ length (x .boxes) = omega (arith, ok .complete .boxed) in
         floats-read (sh .float) (x .boxes) (6 * i) 6 s (at + (2 + 2 * sh .entry)) _ (ok .bounds i l) room box-left
@@ -210,8 +210,8 @@ module _ (sh : Shape) (x : Image) (ok : Storable sh x) where
   written-read =
       let links-are : many (linksIn sh s (nodesStart sh t)) (x .nodes) ≡ take (3 * x .nodes) (x .links) =
       many-same (linksIn sh s (nodesStart sh t)) (λ i. part (x .links) (3 * i) 3) (x .nodes) links-back ∙ many-parts 3 (x .links) (x .nodes) in
-      let boxes-are : many (boxIn sh s (nodesStart sh t)) (x .nodes) ≡ take (6 * x .nodes) (x .boxes) =
-      many-same (boxIn sh s (nodesStart sh t)) (λ i. part (x .boxes) (6 * i) 6) (x .nodes) box-back ∙ many-parts 6 (x .boxes) (x .nodes) in
+      let boxes-are : many (sidesIn sh s (nodesStart sh t)) (x .nodes) ≡ take (6 * x .nodes) (x .boxes) =
+      many-same (sidesIn sh s (nodesStart sh t)) (λ i. part (x .boxes) (6 * i) 6) (x .nodes) box-back ∙ many-parts 6 (x .boxes) (x .nodes) in
       λ i. record { settings = settings-back i; triangles = triangles-back i; order = order-back i; nodes = x .nodes; links = links-are i; boxes = boxes-are i }
 
   -- so the answer is what was written, where there is room

@@ -50,8 +50,8 @@ settingsIn s = record { strategy = littleAt 2 s 8; leafMinimum = littleAt 2 s 10
 unfoldable pub linksIn : Shape → List ℕ → ℕ → ℕ → List ℕ
 linksIn sh s start i = numbersIn 2 s (start + nodeSize sh * i) 1 ++ numbersIn (sh .entry) s (start + nodeSize sh * i + 2) 2
 
-unfoldable pub boxIn : Shape → List ℕ → ℕ → ℕ → List Float
-boxIn sh s start i = floatsIn (sh .float) s (start + nodeSize sh * i + (2 + 2 * sh .entry)) 6
+unfoldable pub sidesIn : Shape → List ℕ → ℕ → ℕ → List Float
+sidesIn sh s start i = floatsIn (sh .float) s (start + nodeSize sh * i + (2 + 2 * sh .entry)) 6
 
 unfoldable pub imageIn : Shape → List ℕ → ℕ → ℕ → Image
 imageIn sh s t n = record {
@@ -60,5 +60,5 @@ imageIn sh s t n = record {
   order = numbersIn (sh .entry) s (orderStart sh t) t;
   nodes = n;
   links = many (linksIn sh s (nodesStart sh t)) n;
-  boxes = many (boxIn sh s (nodesStart sh t)) n;
+  boxes = many (sidesIn sh s (nodesStart sh t)) n;
 }

@@ -4,7 +4,7 @@ use lib.Ieee.{Float, Format, add, sub, mul, div, lt}
 use Rattle.spec_numbers.specs.Values as Values
 use Rattle.spec_numbers.specs.Hold.{held}
 use Rattle.spec_numbers.specs.Axes.{Finite, Under}
-use Rattle.spec_shapes.specs.Points.{Point, on, at, byAxis, minus, plus, over, smallest, largest, isUnder, squaredDistance}
+use Rattle.spec_shapes.specs.Points.{Point, on, at, byAxis, minus, plus, dividedBy, smallest, largest, isUnder, squaredDistance}
 
 pub record Box : Type 0 where
   pub min : Point
@@ -22,7 +22,7 @@ unionPoint a p = record { min = smallest (a .min) p; max = largest (a .max) p }
 
 -- (min + max) / 2
 unfoldable pub centre : Format → Box → Point
-centre f b = over f (plus f (b .min) (b .max)) Values.two
+centre f b = dividedBy f (plus f (b .min) (b .max)) Values.two
 
 unfoldable pub sizes : Format → Box → Point
 sizes f b = minus f (b .max) (b .min)

@@ -32,8 +32,8 @@ plus f a b = byAxis (λ i. add f (on i a) (on i b))
 unfoldable pub scale : Format → Point → Float → Point
 scale f a s = byAxis (λ i. mul f (on i a) s)
 
-unfoldable pub over : Format → Point → Float → Point
-over f a s = byAxis (λ i. div f (on i a) s)
+unfoldable pub dividedBy : Format → Point → Float → Point
+dividedBy f a s = byAxis (λ i. div f (on i a) s)
 
 -- xx + yy + zz, from the left
 unfoldable pub dot : Format → Point → Point → Float

@@ -21,7 +21,7 @@ use Rattle.spec_numbers.proofs.Order.{not-lt→le, lt-le-transitive, finite-num
 use Rattle.spec_numbers.proofs.Difference.{sub-not-below, sub-not-above}
 use Rattle.spec_numbers.proofs.Largest.{at-most-largest}
 use Rattle.spec_numbers.proofs.Nought.{Nought, either, nought-by-order, difference-nought, over-nought, times-nought, cut-nought}
-use Rattle.spec_shapes.specs.Points.{on, over}
+use Rattle.spec_shapes.specs.Points.{on, dividedBy}
 use Rattle.spec_shapes.specs.Boxes.{Box, centre, offsetOn}
 use Rattle.spec_tree.specs.Splits.{Split, cutAt, nowhere, CutsInside, NoneBelow, FirstIsLeast}
 use Rattle.spec_tree.specs.Median.{medianSplit, allMeetAt, areBothLarge}
@@ -71,7 +71,7 @@ module _ (f : Format) (axis : Axis) where
   centreOf b = on axis (centre f b)
 
   centre-fits : (b : Box) → T (fits f (centreOf b))
-  unfolding centre over
+  unfolding centre dividedBy
   centre-fits b = by-axis axis
     where
       by-axis : (i : Axis) → T (fits f (on i (centre f b)))

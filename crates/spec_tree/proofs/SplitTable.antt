@@ -9,7 +9,7 @@ use lib.Seq.{getD-take, getD-drop, take-all}
 use lib.Ieee.{Float, Format, nan, add, div}
 use Rattle.spec_numbers.specs.Values.{two}
 use Rattle.spec_numbers.specs.Axes.{Axis, X, Y, Z}
-use Rattle.spec_shapes.specs.Points.{on, plus, over}
+use Rattle.spec_shapes.specs.Points.{on, plus, dividedBy}
 use Rattle.spec_shapes.specs.Boxes.{Box, union, centre}
 use Rattle.spec_tree.specs.Splits.{boxIn, place, AllInTable, unionOf}
 
@@ -62,7 +62,7 @@ place-below Z = omega arith
 
 module _ (f : Format) (bounds : List Float) where
   pub centre-in : (t : ℕ) (axis : Axis) → div f (add f (getD bounds (6 * t + place axis) nan) (getD bounds (6 * t + place axis + 3) nan)) two ≡ on axis (centre f (boxIn bounds t))
-  unfolding centre boxIn plus over
+  unfolding centre boxIn plus dividedBy
   centre-in t X = ap (λ (k : ℕ). div f (add f (getD bounds k nan) (getD bounds (k + 3) nan)) two) (add-zero (6 * t))
   centre-in t Y = ap (λ (k : ℕ). div f (add f (getD bounds (6 * t + 1) nan) (getD bounds k nan)) two) (omega arith)
   centre-in t Z = ap (λ (k : ℕ). div f (add f (getD bounds (6 * t + 2) nan) (getD bounds k nan)) two) (omega arith)

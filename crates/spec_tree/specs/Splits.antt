@@ -20,8 +20,8 @@ pub data Split : Type 0 where
 unfoldable pub boxIn : List Float → ℕ → Box
 boxIn bounds t = nodeBox bounds t
 
-abbrev pub boxesOf : List Float → List ℕ → List Box
-boxesOf bounds part = map (boxIn bounds) part
+abbrev pub boxesIn : List Float → List ℕ → List Box
+boxesIn bounds part = map (boxIn bounds) part
 
 -- where the number of an axis stands in a point
 abbrev pub place : Axis → ℕ

@@ -60,7 +60,7 @@ pub fn centre_on(bounds: &[f32], t: u32, axis: Axis) -> f32
 pub fn union_of(bounds: &[f32], part: &[u32]) -> Box3
     requires { ⌜ 0 < length (now part) ⌝ }
     requires { ⌜ Splits.AllInTable (now bounds) (now part) ⌝ }
-    ensures { λ r. ⌜ Shapes.asBox r ≡ Splits.unionOf binary32 (Splits.boxesOf (now (bounds .entry)) (now (part .entry))) ⌝ }
+    ensures { λ r. ⌜ Shapes.asBox r ≡ Splits.unionOf binary32 (Splits.boxesIn (now (bounds .entry)) (now (part .entry))) ⌝ }
 {
     let mut joined = box_at(bounds, part[0]);
     let mut i = 1;

@@ -60,7 +60,7 @@ impl Vec3 {
     }
 
     pub fn over(self, s: f32) -> Vec3
-        ensures { λ r. ⌜ Values.asPoint r ≡ Points.over binary32 (Values.asPoint self) s ⌝ }
+        ensures { λ r. ⌜ Values.asPoint r ≡ Points.dividedBy binary32 (Values.asPoint self) s ⌝ }
     {
         Vec3 {
             x: self.x / s,

@@ -8,14 +8,14 @@ use lib.ListN.{length, drop}
 use lib.Ieee.{binary32}
 use Rattle.spec_shapes.specs.Planes.{meetsBox}
 use Rattle.plane3.specs.Values.{asPlane}
-use Rattle.spec_tree.specs.Splits.{boxIn, boxesOf}
+use Rattle.spec_tree.specs.Splits.{boxIn, boxesIn}
 use Rattle.spec_tree.specs.Median.{allMeet}
 use Rattle.spec_tree.proofs.SplitMedian.{not-true, not-false, meeting-stops, meeting-goes-on, meeting-ends}
 use Rattle.median_rule.proofs.all_meet.Statement.{statement}
 use Rattle.median_rule.proofs.all_meet.Tie as tie
 
 abbrev Inv-loop : tie.InvT-loop
-Inv-loop bounds part plane i₀ i = allMeet binary32 (asPlane plane) (boxesOf bounds (drop i part)) ≡ allMeet binary32 (asPlane plane) (boxesOf bounds part)
+Inv-loop bounds part plane i₀ i = allMeet binary32 (asPlane plane) (boxesIn bounds (drop i part)) ≡ allMeet binary32 (asPlane plane) (boxesIn bounds part)
 
 abbrev μ-loop : tie.MeasureT-loop
 μ-loop bounds part plane i₀ i = length part - i

@@ -4,7 +4,7 @@ use mathlib.Core.Path.{_≡_}
 use mathlib.Core.Bool.{true, false, _||_}
 use lib.Ieee.{Float, binary32, eq, ofBits}
 use Rattle.spec_numbers.specs.Values.{zero}
-use Rattle.spec_shapes.specs.Points.{Point, over}
+use Rattle.spec_shapes.specs.Points.{Point, dividedBy}
 use Rattle.spec_shapes.specs.Triangles.{Triangle}
 use Rattle.spec_angles.specs.Winding.{norm, unitAngle, originAngle}
 use borrow.Author.Needs.{needs}
@@ -26,7 +26,7 @@ module _ (t : Triangle) (l m n : Float) (L : l ≡ norm binary32 (t .a)) (M : m 
   unfolding originAngle
   here h = rw (rw (L, M, N) at h)
 
-  away : (p q s : Point) (r : Float) → p ≡ over binary32 (t .a) l → q ≡ over binary32 (t .b) m → s ≡ over binary32 (t .c) n → r ≡ unitAngle binary32 record { a = p; b = q; c = s }
+  away : (p q s : Point) (r : Float) → p ≡ dividedBy binary32 (t .a) l → q ≡ dividedBy binary32 (t .b) m → s ≡ dividedBy binary32 (t .c) n → r ≡ unitAngle binary32 record { a = p; b = q; c = s }
       → (eq l zero || eq m zero || eq n zero) ≡ false → r ≡ originAngle binary32 t
   unfolding originAngle
   away p q s r P Q S R h = rw (rw (L, M, N) at h, R, P, Q, S, L, M, N)

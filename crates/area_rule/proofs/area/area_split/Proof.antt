@@ -3,7 +3,7 @@
 use lib.ListN.{length-map}
 use lib.Ieee.{binary32}
 use Rattle.vec3.specs.Values.{asAxis}
-use Rattle.spec_tree.specs.Splits.{boxesOf}
+use Rattle.spec_tree.specs.Splits.{boxesIn}
 use Rattle.spec_tree.specs.Area.{areaSplit}
 use Rattle.spec_tree.proofs.SplitBuckets.{filled-small}
 use Rattle.spec_tree.proofs.SplitArea.{bucket-on-axis}
@@ -20,7 +20,7 @@ fill-requires c κs = search needs
 costs-of-requires : tie.Need-costs-of-requires
 costs-of-requires c κs =
     let args = c .before .before .before .before .args in
-    rw (c .fill .ensures) (filled-small binary32 _ (boxesOf (args .bounds .now) (args .part .now)) (rw length-map (c .before .before .before .before .pre .0)))
+    rw (c .fill .ensures) (filled-small binary32 _ (boxesIn (args .bounds .now) (args .part .now)) (rw length-map (c .before .before .before .before .pre .0)))
 
 cheapest-of-requires : tie.Need-cheapest-of-requires
 cheapest-of-requires c κs = search needs

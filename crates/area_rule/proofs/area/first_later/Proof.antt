@@ -9,7 +9,7 @@ use lib.Dec.{ltb}
 use lib.ListN.{length, drop}
 use lib.Ieee.{binary32}
 use Rattle.vec3.specs.Values.{asAxis}
-use Rattle.spec_tree.specs.Splits.{boxIn, boxesOf}
+use Rattle.spec_tree.specs.Splits.{boxIn, boxesIn}
 use Rattle.spec_tree.specs.Area.{bucketBetween, firstLater}
 use Rattle.spec_tree.proofs.SplitArea.{looking-finds, looking-goes-on, looking-ends}
 use Rattle.area_rule.proofs.area.first_later.Statement.{statement}
@@ -17,7 +17,7 @@ use Rattle.area_rule.proofs.area.first_later.Tie as tie
 
 abbrev Inv-loop : tie.InvT-loop
 Inv-loop bounds part axis within k i₀ i =
-    firstLater (bucketBetween binary32 (asAxis axis) (within .lo) (within .hi)) k (boxesOf bounds (drop i part)) i ≡ firstLater (bucketBetween binary32 (asAxis axis) (within .lo) (within .hi)) k (boxesOf bounds part) 0
+    firstLater (bucketBetween binary32 (asAxis axis) (within .lo) (within .hi)) k (boxesIn bounds (drop i part)) i ≡ firstLater (bucketBetween binary32 (asAxis axis) (within .lo) (within .hi)) k (boxesIn bounds part) 0
 
 abbrev μ-loop : tie.MeasureT-loop
 μ-loop bounds part axis within k i₀ i = length part - i

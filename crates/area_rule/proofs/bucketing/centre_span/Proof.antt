@@ -10,7 +10,7 @@ use lib.Ieee.{binary32, ofBits, neg}
 use Rattle.spec_numbers.specs.Values as Values
 use Rattle.spec_numbers.specs.Hold.{smaller, larger}
 use Rattle.vec3.specs.Values.{asAxis}
-use Rattle.spec_tree.specs.Splits.{boxIn, boxesOf}
+use Rattle.spec_tree.specs.Splits.{boxIn, boxesIn}
 use Rattle.spec_tree.proofs.SplitArea.{lowerEnd, upperEnd, lower-end, upper-end}
 use Rattle.spec_tree.proofs.SplitTurns.{fold-on-named, fold-ended-named}
 use Rattle.area_rule.proofs.bucketing.centre_span.Statement.{statement}
@@ -18,8 +18,8 @@ use Rattle.area_rule.proofs.bucketing.centre_span.Tie as tie
 
 abbrev Inv-loop : tie.InvT-loop
 Inv-loop bounds part axis lo₀ hi₀ i₀ lo hi i =
-    (foldl (lowerEnd binary32 (asAxis axis)) lo (boxesOf bounds (drop i part)) ≡ foldl (lowerEnd binary32 (asAxis axis)) (Values.largest binary32) (boxesOf bounds part))
-    × (foldl (upperEnd binary32 (asAxis axis)) hi (boxesOf bounds (drop i part)) ≡ foldl (upperEnd binary32 (asAxis axis)) (Values.least binary32) (boxesOf bounds part))
+    (foldl (lowerEnd binary32 (asAxis axis)) lo (boxesIn bounds (drop i part)) ≡ foldl (lowerEnd binary32 (asAxis axis)) (Values.largest binary32) (boxesIn bounds part))
+    × (foldl (upperEnd binary32 (asAxis axis)) hi (boxesIn bounds (drop i part)) ≡ foldl (upperEnd binary32 (asAxis axis)) (Values.least binary32) (boxesIn bounds part))
 
 abbrev μ-loop : tie.MeasureT-loop
 μ-loop bounds part axis lo₀ hi₀ i₀ lo hi i = length part - i
@@ -62,7 +62,7 @@ returns : tie.Need-returns Inv-loop μ-loop
 returns c =
     let args = c .before .before .before .before .args in
     let loop = c .before .loop in
-    let boxes = boxesOf (args .bounds .now) (args .part .now) in
+    let boxes = boxesIn (args .bounds .now) (args .part .now) in
     record {
       lo-is = fold-ended-named (lowerEnd binary32 (asAxis (args .axis))) (boxIn (args .bounds .now)) (args .part .now) (loop .i) (loop .lo) _ (c .loop-test .left) (loop .inv .0) ∙ lower-end binary32 (asAxis (args .axis)) boxes;
       hi-is = fold-ended-named (upperEnd binary32 (asAxis (args .axis))) (boxIn (args .bounds .now)) (args .part .now) (loop .i) (loop .hi) _ (c .loop-test .left) (loop .inv .1) ∙ upper-end binary32 (asAxis (args .axis)) boxes;

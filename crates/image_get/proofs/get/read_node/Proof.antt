@@ -1,7 +1,7 @@
 -- `image_get::read_node` meets its contract: the links in two lists of entries, the box in one.
 -- Assumes nothing.
 use denote.Ref.{now}
-use Rattle.spec_image.specs.Image.{boxIn}
+use Rattle.spec_image.specs.Image.{sidesIn}
 use Rattle.image_get.proofs.Taken.{links-over}
 use borrow.Author.Needs.{needs}
 use Rattle.image_get.proofs.get.read_node.Statement.{statement}
@@ -47,7 +47,7 @@ same-length-2 : tie.Need-same-length-2
 same-length-2 c = search needs
 
 returns : tie.Need-returns
-unfolding boxIn
+unfolding sidesIn
 returns c =
     let a = c .before .before .before .before .before .before .before .before .before .before .before .before .before .before .before .args in
     (links-over (now (a .bytes)) (a .start) (a .node) (now (a .links)) _ _ (c .before .before .before .before .before .before .before .before .before .before .before .before .before .before .before .pre .1 .0) (c .before .before .before .before .before .before .before .before .before .before .«read-u16s» .ensures) (c .before .before .before .before .before .before .«read-u16s2» .ensures), c .before .before .«read-f32s» .ensures)

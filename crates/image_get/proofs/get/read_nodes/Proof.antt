@@ -4,14 +4,14 @@ use Prim.Native.Nat.{_-_}
 use denote.Ref.{now}
 use Rattle.spec_tables.proofs.Runs.{Run, run-start, run-front, run-end}
 use Rattle.spec_records.specs.Layouts.{version1}
-use Rattle.spec_image.specs.Image.{linksIn, boxIn}
+use Rattle.spec_image.specs.Image.{linksIn, sidesIn}
 use Rattle.spec_image.proofs.Sizes.{length-links, length-box}
 use borrow.Author.Needs.{needs}
 use Rattle.image_get.proofs.get.read_nodes.Statement.{statement}
 use Rattle.image_get.proofs.get.read_nodes.Tie as tie
 
 abbrev Inv-loop : tie.InvT-loop
-Inv-loop bytes start nodes links₀ boxes₀ i₀ links boxes i = Run (linksIn version1 bytes start) 0 nodes links₀ links i × Run (boxIn version1 bytes start) 0 nodes boxes₀ boxes i
+Inv-loop bytes start nodes links₀ boxes₀ i₀ links boxes i = Run (linksIn version1 bytes start) 0 nodes links₀ links i × Run (sidesIn version1 bytes start) 0 nodes boxes₀ boxes i
 
 abbrev μ-loop : tie.MeasureT-loop
 μ-loop bytes start nodes links₀ boxes₀ i₀ links boxes i = nodes - i
@@ -19,7 +19,7 @@ abbrev μ-loop : tie.MeasureT-loop
 loop-holds : tie.Need-loop-holds Inv-loop μ-loop
 loop-holds c =
     let a = c .before .before .before .args in
-    (run-start (linksIn version1 (now (a .bytes)) (a .start)) 3 0 (a .nodes) (now (a .links)), run-start (boxIn version1 (now (a .bytes)) (a .start)) 6 0 (a .nodes) (now (a .boxes)))
+    (run-start (linksIn version1 (now (a .bytes)) (a .start)) 3 0 (a .nodes) (now (a .links)), run-start (sidesIn version1 (now (a .bytes)) (a .start)) 6 0 (a .nodes) (now (a .boxes)))
 
 read-node-requires : tie.Need-read-node-requires Inv-loop μ-loop
 read-node-requires c κs = search needs
@@ -35,7 +35,7 @@ loop-again c =
     let a = c .before .before .before .before .before .before .before .before .before .before .before .before .args in
     let v = c .before .before .before .before .before .before .before .before .loop .inv in (
       run-front (linksIn version1 (now (a .bytes)) (a .start)) 3 (a .nodes) (now (a .links)) _ _ (c .before .before .before .before .before .before .before .before .loop .i) (length-links version1 (now (a .bytes)) (a .start)) (c .before .before .before .before .before .before .before .before .before .before .before .before .pre .1 .0) (c .before .before .before .before .before .before .before .«loop-test» .taken) (v .0) (c .before .before .before .before .«read-node» .ensures .0),
-      run-front (boxIn version1 (now (a .bytes)) (a .start)) 6 (a .nodes) (now (a .boxes)) _ _ (c .before .before .before .before .before .before .before .before .loop .i) (length-box version1 (now (a .bytes)) (a .start)) (c .before .before .before .before .before .before .before .before .before .before .before .before .pre .1 .1) (c .before .before .before .before .before .before .before .«loop-test» .taken) (v .1) (c .before .before .before .before .«read-node» .ensures .1),
+      run-front (sidesIn version1 (now (a .bytes)) (a .start)) 6 (a .nodes) (now (a .boxes)) _ _ (c .before .before .before .before .before .before .before .before .loop .i) (length-box version1 (now (a .bytes)) (a .start)) (c .before .before .before .before .before .before .before .before .before .before .before .before .pre .1 .1) (c .before .before .before .before .before .before .before .«loop-test» .taken) (v .1) (c .before .before .before .before .«read-node» .ensures .1),
     )
 
 same-length : tie.Need-same-length Inv-loop μ-loop
@@ -49,7 +49,7 @@ returns c =
     let a = c .before .before .before .before .before .args in
     let v = c .before .loop .inv in (
       run-end (linksIn version1 (now (a .bytes)) (a .start)) 0 (a .nodes) (now (a .links)) _ (c .before .loop .i) (c .«loop-test» .left) (v .0),
-      run-end (boxIn version1 (now (a .bytes)) (a .start)) 0 (a .nodes) (now (a .boxes)) _ (c .before .loop .i) (c .«loop-test» .left) (v .1),
+      run-end (sidesIn version1 (now (a .bytes)) (a .start)) 0 (a .nodes) (now (a .boxes)) _ (c .before .loop .i) (c .«loop-test» .left) (v .1),
     )
 
 pub read-nodes-spec : {M : Type 1} → statement M

@@ -9,14 +9,14 @@ use lib.ListN.{length, drop}
 use lib.Ieee.{binary32}
 use Rattle.spec_shapes.specs.Boxes.{Box, union}
 use Rattle.box3.specs.Values.{asBox}
-use Rattle.spec_tree.specs.Splits.{boxIn, boxesOf, unionOf}
+use Rattle.spec_tree.specs.Splits.{boxIn, boxesIn, unionOf}
 use Rattle.spec_tree.proofs.SplitTable.{union-from-first}
 use Rattle.spec_tree.proofs.SplitTurns.{fold-on-named, fold-ended-named}
 use Rattle.splits.proofs.table.union_of.Statement.{statement}
 use Rattle.splits.proofs.table.union_of.Tie as tie
 
 abbrev Inv-loop : tie.InvT-loop
-Inv-loop bounds part joined₀ i₀ joined i = foldl union (asBox joined) (boxesOf bounds (drop i part)) ≡ unionOf binary32 (boxesOf bounds part)
+Inv-loop bounds part joined₀ i₀ joined i = foldl union (asBox joined) (boxesIn bounds (drop i part)) ≡ unionOf binary32 (boxesIn bounds part)
 
 abbrev μ-loop : tie.MeasureT-loop
 μ-loop bounds part joined₀ i₀ joined i = length part - i
@@ -30,7 +30,7 @@ box-at-requires c κs = c .before .before .before .pre .1 0 (c .before .before .
 loop-holds : tie.Need-loop-holds Inv-loop μ-loop
 loop-holds c =
     let args = c .before .before .before .before .args in
-    ap (λ (b : Box). foldl union b (boxesOf (args .bounds .now) (drop 1 (args .part .now)))) (c .box-at .ensures) ∙ union-from-first binary32 (boxIn (args .bounds .now)) (args .part .now) (c .before .before .before .before .pre .0)
+    ap (λ (b : Box). foldl union b (boxesIn (args .bounds .now) (drop 1 (args .part .now)))) (c .box-at .ensures) ∙ union-from-first binary32 (boxIn (args .bounds .now)) (args .part .now) (c .before .before .before .before .pre .0)
 
 mul-box-at : tie.Need-mul-box-at Inv-loop μ-loop
 mul-box-at c = search needs

@@ -1,12 +1,12 @@
 -- `vec3::Vec3::over` meets its contract: the operation on each axis.
 -- Assumes nothing.
 use mathlib.Core.Path.{refl}
-use Rattle.spec_shapes.specs.Points.{over}
+use Rattle.spec_shapes.specs.Points.{dividedBy}
 use Rattle.vec3.proofs.Vec3.over.Statement.{statement}
 use Rattle.vec3.proofs.Vec3.over.Tie as tie
 
 returns : tie.Need-returns
-unfolding over
+unfolding dividedBy
 returns c = refl
 
 pub over-spec : {M : Type 1} → statement M
