@@ -5,7 +5,7 @@ ghost use Rattle.spec_build.specs.Growing.{Growable, GrownIs};
 use crate::nodes::Grown;
 use crate::nodes::put_branch;
 use crate::nodes::put_leaf;
-use crate::tries::try_part;
+use axis_tries::try_part;
 use splits::split::Split;
 
 // Grows the tree of a part whose triangles begin at `entry` of the order list, with so many levels left below this one, its nodes from `node` on.

@@ -1,6 +1,3 @@
-// Growing a tree: parts of the order list are sorted, cut and grown, each node written behind its subtrees. Each contract is an equation with a definition of `spec_build`.
-pub mod axes;
+// Growing a tree: parts of the order list are cut and grown, each node written behind its subtrees. Each contract is an equation with a definition of `spec_build`.
 pub mod grow;
 pub mod nodes;
-pub mod tables;
-pub mod tries;

@@ -9,6 +9,7 @@ ghost use Rattle.spec_tree.specs.Trees as Trees;
 ghost use Rattle.spec_tree.specs.Splits.{boxIn};
 ghost use Rattle.spec_build.specs.Growing.{LeafAsked, BranchAsked, BranchPut, Written};
 use box3::Box3;
+use build_tables::put_box;
 use splits::table::union_of;
 
 // What was grown: where its root stands, its levels, and the box over it.
@@ -26,20 +27,6 @@ pub fn put_links(links: &mut [u32], node: usize, kind: u32, left: u32, right: u3
     links[at] = kind;
     links[at + 1] = left;
     links[at + 2] = right;
-}
-
-// The box in place k of a table of boxes.
-pub fn put_box(boxes: &mut [f32], k: usize, b: Box3)
-    requires { ⌜ 6 * k + 6 ≤ length (now boxes) ⌝ }
-    ensures { λ _. ⌜ now (boxes .exit) ≡ over (6 * k) (Trees.sixOf (Shapes.asBox b)) (now (boxes .entry)) ⌝ }
-{
-    let at = 6 * k;
-    boxes[at] = b.min.x;
-    boxes[at + 1] = b.min.y;
-    boxes[at + 2] = b.min.z;
-    boxes[at + 3] = b.max.x;
-    boxes[at + 4] = b.max.y;
-    boxes[at + 5] = b.max.z;
 }
 
 // A leaf over the part, whose triangles begin at this entry of the order list.
