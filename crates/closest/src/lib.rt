@@ -1,5 +1,2 @@
-// The search for the nearest surface point, over a tree: the source query's walk, and the sure
-// query's. Each contract is an equation with a definition of `spec_search`.
-pub mod links;
-pub mod source;
+// The sure query's walk over a tree. Its contract is an equation with a definition of `spec_search`.
 pub mod sure;

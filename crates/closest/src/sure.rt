@@ -10,7 +10,6 @@ ghost use Rattle.spec_search.specs.Sure as Sure;
 ghost use Rattle.spec_search.specs.Safe as Safe;
 ghost use Rattle.spec_search.specs.Calls as Calls;
 ghost use Rattle.answers.specs.Values as Values;
-use crate::links::links_of;
 use answers::answer::Asked;
 use answers::answer::Sought;
 use answers::kept::answer_of;
@@ -18,6 +17,7 @@ use answers::kept::is_passed;
 use answers::kept::point_of;
 use leaf_hits::measure_leaf;
 use lists::limits;
+use node_links::links_of;
 use tree_lists::nodes::node_box;
 use vec3::Vec3;
 

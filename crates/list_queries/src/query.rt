@@ -9,7 +9,6 @@ ghost use Rattle.answers.specs.Values.{asAnswer};
 ghost use Rattle.list_queries.specs.Values.{asQuery};
 use answers::answer::Answer;
 use answers::answer::Asked;
-use closest::source;
 use closest::sure;
 use vec3::Vec3;
 
@@ -44,7 +43,7 @@ pub fn answer_at(
             best
         }
         Query::Source => {
-            let found = source::search(triangles, order, links, boxes, nodes, asked);
+            let found = source_walk::search(triangles, order, links, boxes, nodes, asked);
             let best = found.best;
             best
         }

@@ -22,7 +22,7 @@ use Rattle.closest.proofs.sure.pair_walk.Reads as pair-walk
 use Rattle.closest.proofs.sure.pair_walk.Kinds as pair-walk-kinds
 use Rattle.closest.proofs.sure.+node_walk+pair_walk.Lts-pair_walk as pair-walk-lts
 use Rattle.answers.proofs.kept.is_passed.Reads as is-passed-reads
-use Rattle.closest.proofs.links.links_of.Reads as links-of-reads
+use Rattle.node_links.proofs.links_of.Reads as links-of-reads
 use Rattle.leaf_hits.proofs.measure_leaf.Reads as measure-leaf-reads
 use Rattle.answers.proofs.kept.point_of.Reads as point-of-reads
 use Rattle.closest.proofs.sure.node_squared.Reads as node-squared-reads

@@ -11,17 +11,17 @@ use Rattle.answers.specs.Values.{pointOf, fourthOf, soughtOf}
 use Prim.Native.Nat.{ℕ, _+_, _-_, _<_}
 use borrow.Fn.Kinds.{In}
 use borrow.Fn.PlainCycle.{Measures, is, falls, and}
-use Rattle.closest.proofs.source.look.Reads as look
-use Rattle.closest.proofs.source.look.Kinds as look-kinds
-use Rattle.closest.proofs.source.+look+look_if_entered.Lts-look as look-lts
-use Rattle.closest.proofs.source.look_if_entered.Reads as look-if-entered
-use Rattle.closest.proofs.source.look_if_entered.Kinds as look-if-entered-kinds
-use Rattle.closest.proofs.source.+look+look_if_entered.Lts-look_if_entered as look-if-entered-lts
-use Rattle.closest.proofs.source.does_enter.Reads as does-enter-reads
-use Rattle.closest.proofs.links.links_of.Reads as links-of-reads
+use Rattle.source_walk.proofs.look.Reads as look
+use Rattle.source_walk.proofs.look.Kinds as look-kinds
+use Rattle.source_walk.proofs.+look+look_if_entered.Lts-look as look-lts
+use Rattle.source_walk.proofs.look_if_entered.Reads as look-if-entered
+use Rattle.source_walk.proofs.look_if_entered.Kinds as look-if-entered-kinds
+use Rattle.source_walk.proofs.+look+look_if_entered.Lts-look_if_entered as look-if-entered-lts
+use Rattle.source_walk.proofs.does_enter.Reads as does-enter-reads
+use Rattle.node_links.proofs.links_of.Reads as links-of-reads
 use Rattle.leaf_hits.proofs.measure_leaf.Reads as measure-leaf-reads
-use Rattle.closest.proofs.source.+look+look_if_entered.{statement}
-use Rattle.closest.proofs.source.+look+look_if_entered.Tie.{close}
+use Rattle.source_walk.proofs.+look+look_if_entered.{statement}
+use Rattle.source_walk.proofs.+look+look_if_entered.Tie.{close}
 
 abbrev μ-look : Measures 7 look-kinds.ps ℕ
 μ-look κs a = a .1 .1 .1 .1 .1 .0 + a .1 .1 .1 .1 .1 .0

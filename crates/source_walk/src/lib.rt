@@ -10,13 +10,13 @@ ghost use Rattle.spec_search.specs.Source as Source;
 ghost use Rattle.spec_search.specs.Safe as Safe;
 ghost use Rattle.spec_search.specs.Calls as Calls;
 ghost use Rattle.answers.specs.Values as Values;
-use crate::links::links_of;
 use answers::answer::Asked;
 use answers::answer::Sought;
 use answers::kept::answer_of;
 use answers::kept::point_of;
 use leaf_hits::measure_leaf;
 use lists::limits;
+use node_links::links_of;
 use tree_lists::nodes::node_box;
 
 // Whether a child enters: its box holds the point, or is nearer than the limit.

@@ -1,4 +1,4 @@
--- `closest::source::search` meets its contract: an accepted tree is safe to walk from its root, and what is kept at first stands for nothing.
+-- `source_walk::search` meets its contract: an accepted tree is safe to walk from its root, and what is kept at first stands for nothing.
 -- Assumes nothing.
 use mathlib.Core.Path.{_∙_}
 use lib.Ieee.{div, ofBits, eq}
@@ -6,8 +6,8 @@ use Rattle.spec_search.specs.Kept.{kept}
 use Rattle.spec_search.specs.Source.{sourceWalk}
 use Rattle.spec_search.proofs.Calls.{root-there, root-safe}
 use borrow.Author.Needs.{needs}
-use Rattle.closest.proofs.source.search.Statement.{statement}
-use Rattle.closest.proofs.source.search.Tie as tie
+use Rattle.source_walk.proofs.search.Statement.{statement}
+use Rattle.source_walk.proofs.search.Tie as tie
 
 sub-look : tie.Need-sub-look
 sub-look c = search needs

@@ -1,9 +1,9 @@
--- `closest::source::does_enter` meets its contract: both tests are of the node's box.
+-- `source_walk::does_enter` meets its contract: both tests are of the node's box.
 -- Assumes nothing.
 use Rattle.spec_search.specs.Source.{enters}
 use borrow.Author.Needs.{needs}
-use Rattle.closest.proofs.source.does_enter.Statement.{statement}
-use Rattle.closest.proofs.source.does_enter.Tie as tie
+use Rattle.source_walk.proofs.does_enter.Statement.{statement}
+use Rattle.source_walk.proofs.does_enter.Tie as tie
 
 node-box-requires : tie.Need-node-box-requires
 node-box-requires c κs = search needs
