@@ -3,7 +3,7 @@ use image_tests::count_refusal;
 use lists::limits::MOST_TRIANGLES;
 use lists::refusal::Verdict;
 use little_endian::read_f32s;
-use point_queries::wind_lists;
+use point_windings::wind_lists;
 use records::ImageLayout;
 use records::image_layout;
 ghost use mathlib.Core.Path.{_≡_};

@@ -1,4 +1,4 @@
--- `point_queries::wind_lists` meets its contract: a refusal leaves the bytes as they were, and where there is none each winding number is written.
+-- `point_windings::wind_lists` meets its contract: a refusal leaves the bytes as they were, and where there is none each winding number is written.
 -- Assumes nothing.
 use mathlib.Core.Path.{sym, _∙_}
 use lib.ListN.{length}
@@ -6,8 +6,8 @@ use Rattle.spec_lists.proofs.Verdicts.{did-pass}
 use Rattle.spec_asked.proofs.PointBytes.{as-it-was, as-written}
 use Rattle.spec_asked.proofs.Asked.{wound-passed}
 use borrow.Author.Needs.{needs}
-use Rattle.point_queries.proofs.windings.wind_lists.Statement.{statement}
-use Rattle.point_queries.proofs.windings.wind_lists.Tie as tie
+use Rattle.point_windings.proofs.wind_lists.Statement.{statement}
+use Rattle.point_windings.proofs.wind_lists.Tie as tie
 
 wound-refusal-requires : tie.Need-wound-refusal-requires
 wound-refusal-requires c κs = search needs

@@ -1,4 +1,4 @@
--- `point_queries::put_windings` meets its contract: a turn writes the winding number about one point more (`Wound`).
+-- `point_windings::put_windings` meets its contract: a turn writes the winding number about one point more (`Wound`).
 -- Assumes nothing.
 use mathlib.Core.Path.{refl, ap, _∙_}
 use Prim.Native.Nat.{_-_}
@@ -7,8 +7,8 @@ use lib.Ieee.{binary32, toBits}
 use Rattle.spec_angles.specs.Windings.{windingAbout, windingAt}
 use Rattle.spec_asked.proofs.PointBytes.{Wound, wound-start, wound-more, wound-end}
 use borrow.Author.Needs.{needs}
-use Rattle.point_queries.proofs.windings.put_windings.Statement.{statement}
-use Rattle.point_queries.proofs.windings.put_windings.Tie as tie
+use Rattle.point_windings.proofs.put_windings.Statement.{statement}
+use Rattle.point_windings.proofs.put_windings.Tie as tie
 
 abbrev Inv-loop : tie.InvT-loop
 Inv-loop triangles points out₀ count k₀ out k = Wound triangles points out₀ count out k

@@ -1,10 +1,10 @@
--- `point_queries::wound_refusal` meets its contract: the three tests in turn.
+-- `point_windings::wound_refusal` meets its contract: the three tests in turn.
 -- Assumes nothing.
 use Rattle.spec_lists.proofs.Verdicts.{stops, goes-on, ends}
 use Rattle.spec_asked.specs.Asked.{woundRefusal}
 use borrow.Author.Needs.{needs}
-use Rattle.point_queries.proofs.windings.wound_refusal.Statement.{statement}
-use Rattle.point_queries.proofs.windings.wound_refusal.Tie as tie
+use Rattle.point_windings.proofs.wound_refusal.Statement.{statement}
+use Rattle.point_windings.proofs.wound_refusal.Tie as tie
 
 triangles-refusal-requires : tie.Need-triangles-refusal-requires
 triangles-refusal-requires c κs = search needs
