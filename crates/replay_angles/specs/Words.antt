@@ -2,15 +2,14 @@
 use mathlib.Core.Bool.{cond, _&&_}
 use mathlib.Core.List.{List, [], _∷_}
 use Prim.Native.Nat.{ℕ, _+_, _*_}
-use lib.Dec.{ltb, leb}
-use lib.ListN.{length}
+use lib.Dec.{ltb}
 use lib.Ieee.{Float, binary32, ofBits}
 use Rattle.spec_tables.specs.Tables.{many}
-use Rattle.spec_records.specs.Little.{littleAt}
+use Rattle.case_words.specs.Words as Stored
 use Rattle.spec_shapes.specs.Points.{Point}
 
 unfoldable pub wordAt : List ℕ → ℕ → ℕ
-wordAt s i = cond (ltb i 16384) (cond (leb (4 * i + 4) (length s)) (littleAt 4 s (4 * i)) 0) 0
+wordAt s i = cond (ltb i 16384) (Stored.wordAt s (4 * i)) 0
 
 -- a count, at most 16384
 unfoldable pub sizeAt : List ℕ → ℕ → ℕ

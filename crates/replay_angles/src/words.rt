@@ -3,17 +3,14 @@ ghost use mathlib.Core.Path.{_≡_};
 ghost use lib.ListN.{length};
 ghost use Rattle.vec3.specs.Values.{asPoint};
 ghost use Rattle.replay_angles.specs.Words as Words;
-use little_endian::u32_at;
+use case_words::pattern_at;
 use vec3::Vec3;
 
 pub fn word_at(block: &[u8], index: usize) -> u32
     ensures { λ r. ⌜ r ≡ Words.wordAt (now (block .entry)) index ⌝ }
 {
     if index < 16384 {
-        let at = 4 * index;
-        if at + 4 <= block.len() {
-            return u32_at(block, at);
-        }
+        return pattern_at(block, 4 * index);
     }
     0
 }

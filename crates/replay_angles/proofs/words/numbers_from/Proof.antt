@@ -1,27 +1,15 @@
 -- `replay_angles::words::numbers_from` meets its contract. The invariant: the first i numbers stand in the array. The measure is how many are left.
 -- Assumes nothing.
-use Prim.Native.Nat.{ℕ, _≤_, _-_}
-use mathlib.Core.Path.{_≡_, refl, sym, _∙_, ap}
-use mathlib.Core.List.{List, [], _∷_}
+use Prim.Native.Nat.{_-_}
+use mathlib.Core.List.{[], _∷_}
 use native.Mathlib.Omega.{arith}
-use lib.Ieee.{Float}
-use lib.ListN.{length, take}
-use lib.Seq.{take-all}
-use Rattle.spec_tables.specs.Tables.{many}
-use Rattle.spec_tables.proofs.Pieces.{take-over, length-singles}
-use Rattle.spec_tables.proofs.Runs.{Run, run-start, run-end}
+use Rattle.spec_tables.proofs.Runs.{Run, run-start}
 use Rattle.spec_tables.proofs.Stores.{run-store-front}
+use Rattle.case_words.proofs.Filled.{filled}
 use Rattle.replay_angles.specs.Words.{numberAt, place, numbersFrom}
 use borrow.Author.Needs.{needs}
 use Rattle.replay_angles.proofs.words.numbers_from.Statement.{statement}
 use Rattle.replay_angles.proofs.words.numbers_from.Tie as tie
-
--- a list of 720 that was filled from the front is what it was filled with
-filled : (g : ℕ → Float) (old out : List Float) (i : ℕ) → length old ≡ 720 → 720 ≤ i → Run (λ j. g j ∷ []) 0 720 old out i → out ≡ many (λ j. g j ∷ []) 720
-filled g old out i h l r =
-    sym (take-all 720 out (omega (arith, r .long)))
-    ∙ ap (take 720) (run-end (λ j. g j ∷ []) 0 720 old out i l r)
-    ∙ take-over 720 (many (λ j. g j ∷ []) 720) old (length-singles g 720)
 
 abbrev Inv-loop : tie.InvT-loop
 Inv-loop block at numbers₀ i₀ numbers i = Run (λ j. numberAt block (place at 1 j) ∷ []) 0 720 numbers₀ numbers i
@@ -55,7 +43,7 @@ loop-again c = run-store-front _ 720 _ _ _ _ (omega arith) (c .before .before .l
 
 returns : tie.Need-returns Inv-loop μ-loop
 unfolding numbersFrom
-returns c = (filled _ _ _ _ refl (c .loop-test .left) (c .before .loop .inv), c .before .loop .inv .long)
+returns c = (filled _ _ _ _ (c .loop-test .left) (c .before .loop .inv), c .before .loop .inv .long)
 
 pub numbers-from-spec : {M : Type 1} → statement M
 numbers-from-spec =
