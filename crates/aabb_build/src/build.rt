@@ -1,71 +1,25 @@
 // The build: a triangle list and settings become a tree in the lent lists, or a refusal that changes nothing.
 ghost use mathlib.Core.Path.{_≡_};
-ghost use Prim.Native.Nat.{_-_, _≤_};
+ghost use Prim.Native.Nat.{_-_};
 ghost use lib.ListN.{length};
 ghost use lib.Ieee.{binary32};
 ghost use Rattle.lists.specs.Values as Lists;
-ghost use Rattle.spec_tables.specs.Tables.{over};
 ghost use Rattle.spec_lists.specs.Refusals.{passes};
-ghost use Rattle.spec_tree.specs.Order.{upTo};
 ghost use Rattle.spec_build.specs.Build.{buildRefusal, BuildIs, Asked};
 ghost use Rattle.aabb_build.specs.Values as Values;
 use aabb_grow::grow::grow;
 use build_tables::put_bounds;
 use build_tables::put_centres;
+use build_tables::put_order;
+use build_tests::build_refusal;
 use lists::limits::MOST_TRIANGLES;
 use lists::refusal::Verdict;
-use lists::refusal::room_refusal;
 use lists::settings::Settings;
-use lists::settings::settings_refusal;
 use lists::triangles::triangle_count;
-use lists::triangles::triangles_refusal;
 
 pub enum Built {
     Tree { nodes: usize, depth: usize },
     Refused { number: usize, place: usize },
-}
-
-// Tests 1 to 6, of outputs of these lengths.
-fn build_refusal(
-    triangles: &[f32],
-    settings: Settings,
-    order: usize,
-    links: usize,
-    boxes: usize,
-) -> Verdict
-    ensures { λ r. ⌜ Lists.asVerdict r ≡ buildRefusal (now (triangles .entry)) (Lists.asSettings settings) order links boxes ⌝ }
-{
-    let bad_triangles = triangles_refusal(triangles);
-    if bad_triangles.refuses() {
-        return bad_triangles;
-    }
-    let bad_settings = settings_refusal(settings);
-    if bad_settings.refuses() {
-        return bad_settings;
-    }
-    let count = triangle_count(triangles);
-    let short_order = room_refusal(order, count);
-    if short_order.refuses() {
-        return short_order;
-    }
-    let most_nodes = 2 * count - 1;
-    let short_links = room_refusal(links, 3 * most_nodes);
-    if short_links.refuses() {
-        return short_links;
-    }
-    room_refusal(boxes, 6 * most_nodes)
-}
-
-// 0, 1 and so on at the front of the order list.
-fn put_order(count: usize, order: &mut [u32])
-    requires { ⌜ (count ≤ 4096) × (count ≤ length (now order)) ⌝ }
-    ensures { λ _. ⌜ now (order .exit) ≡ over 0 (upTo count) (now (order .entry)) ⌝ }
-{
-    let mut t = 0;
-    while t < count {
-        order[t] = t as u32;
-        t += 1;
-    }
 }
 
 // Depth starts at 1: so many levels are left below the root.

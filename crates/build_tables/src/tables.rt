@@ -1,4 +1,5 @@
-// The tables that are made once a build: the box of each triangle, and the centre of each box on each axis.
+// The tables that are made once a build: the box of each triangle, the centre of each box on each axis, and the
+// numbers of the triangles.
 ghost use mathlib.Core.Path.{_≡_};
 ghost use mathlib.Core.List.{[], _∷_};
 ghost use Prim.Native.Nat.{_+_, _*_, _≤_};
@@ -8,6 +9,7 @@ ghost use Rattle.box3.specs.Values as Shapes;
 ghost use Rattle.spec_tables.specs.Tables.{over, many};
 ghost use Rattle.spec_lists.specs.Limits.{mostTriangles};
 ghost use Rattle.spec_lists.specs.Reading as Reading;
+ghost use Rattle.spec_tree.specs.Order.{upTo};
 ghost use Rattle.spec_tree.specs.Trees as Trees;
 ghost use Rattle.spec_tree.specs.Splits.{place, boxIn};
 ghost use Rattle.spec_build.specs.Tries.{centreOn};
@@ -89,4 +91,16 @@ pub fn put_centres(bounds: &[f32], count: usize, centres: &mut [f32])
     put_axis(bounds, Axis::X, count, centres);
     put_axis(bounds, Axis::Y, count, centres);
     put_axis(bounds, Axis::Z, count, centres);
+}
+
+// 0, 1 and so on at the front of the order list.
+pub fn put_order(count: usize, order: &mut [u32])
+    requires { ⌜ (count ≤ 4096) × (count ≤ length (now order)) ⌝ }
+    ensures { λ _. ⌜ now (order .exit) ≡ over 0 (upTo count) (now (order .entry)) ⌝ }
+{
+    let mut number = 0;
+    while number < count {
+        order[number] = number as u32;
+        number += 1;
+    }
 }

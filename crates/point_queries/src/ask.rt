@@ -1,12 +1,12 @@
 // The answers of a query at all points: tests 7, 8 and 9, then 24 bytes a point.
 use aabb_tree::refusals::tree_refusal;
+use answer_bytes::put_answer_bytes;
 use list_queries::Query;
 use list_queries::answer_at;
 use lists::points::distance_refusal;
 use lists::refusal::Verdict;
 use point_bytes::point_bytes_refusal;
 use point_bytes::point_in;
-use point_bytes::put_answer_bytes;
 ghost use mathlib.Core.Path.{_≡_};
 ghost use Prim.Native.Nat.{_*_, _/_, _≤_};
 ghost use lib.ListN.{length};

@@ -1,10 +1,10 @@
 // The winding numbers about all points: tests 2 to 4, 6 and 8, then four bytes a point.
+use answer_bytes::put_winding_bytes;
 use lists::refusal::Verdict;
 use lists::refusal::room_refusal;
 use lists::triangles::triangles_refusal;
 use point_bytes::point_bytes_refusal;
 use point_bytes::point_in;
-use point_bytes::put_winding_bytes;
 use winding_numbers::winding_number::winding_number;
 ghost use mathlib.Core.Path.{_≡_};
 ghost use Prim.Native.Nat.{_*_, _/_, _≤_};

@@ -10,8 +10,8 @@ use Rattle.spec_lists.specs.Refusals.{isCoordinate, firstBad}
 use Rattle.spec_lists.proofs.Coordinates.{bad-here, good-here, none-left}
 use Rattle.spec_host.specs.Build.{numbersOf}
 use Rattle.spec_host.proofs.Build.{numbers-long}
-use Rattle.point_bytes.proofs.points.first_bad_in.Statement.{statement}
-use Rattle.point_bytes.proofs.points.first_bad_in.Tie as tie
+use Rattle.point_bytes.proofs.first_bad_in.Statement.{statement}
+use Rattle.point_bytes.proofs.first_bad_in.Tie as tie
 
 abbrev Inv-loop : tie.InvT-loop
 Inv-loop bytes count i₀ i = i + firstBad (drop i (numbersOf bytes)) ≡ firstBad (numbersOf bytes)

@@ -4,8 +4,8 @@ use mathlib.Core.Path.{ap, _∙_}
 use Rattle.spec_numbers.specs.Values.{plusZero}
 use Rattle.spec_lists.specs.Reading.{numberAt, pointAt}
 use borrow.Author.Needs.{needs}
-use Rattle.point_bytes.proofs.points.point_in.Statement.{statement}
-use Rattle.point_bytes.proofs.points.point_in.Tie as tie
+use Rattle.point_bytes.proofs.point_in.Statement.{statement}
+use Rattle.point_bytes.proofs.point_in.Tie as tie
 
 mul-first : tie.Need-mul-first
 mul-first c = search needs

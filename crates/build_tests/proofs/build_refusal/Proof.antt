@@ -1,4 +1,4 @@
--- `aabb_build::build_refusal` meets its contract: the tests in turn.
+-- `build_tests::build_refusal` meets its contract: the tests in turn.
 -- Assumes nothing.
 use mathlib.Core.Path.{ap, _∙_}
 use Prim.Native.Nat.{ℕ, _*_}
@@ -8,8 +8,8 @@ use Rattle.spec_lists.proofs.Verdicts.{stops, goes-on, ends}
 use Rattle.spec_build.specs.Build.{mostNodes, buildRefusal}
 use Rattle.spec_build.proofs.Build.{triangles-known}
 use borrow.Author.Needs.{needs}
-use Rattle.aabb_build.proofs.build.build_refusal.Statement.{statement}
-use Rattle.aabb_build.proofs.build.build_refusal.Tie as tie
+use Rattle.build_tests.proofs.build_refusal.Statement.{statement}
+use Rattle.build_tests.proofs.build_refusal.Tie as tie
 
 triangles-refusal-requires : tie.Need-triangles-refusal-requires
 triangles-refusal-requires c κs = search needs

@@ -5,8 +5,8 @@ use native.Mathlib.Omega.{arith}
 use lib.Ieee.{binary32, ofBits}
 use Rattle.spec_asked.proofs.PointBytes.{number-is}
 use borrow.Author.Needs.{needs}
-use Rattle.point_bytes.proofs.points.number_in.Statement.{statement}
-use Rattle.point_bytes.proofs.points.number_in.Tie as tie
+use Rattle.point_bytes.proofs.number_in.Statement.{statement}
+use Rattle.point_bytes.proofs.number_in.Tie as tie
 
 mul-u32-at : tie.Need-mul-u32-at
 mul-u32-at c = search needs

@@ -1,4 +1,5 @@
-// What is answered at a point, as bytes: six numbers, or a winding number.
+// What is answered at a point, as bytes: six numbers, or a winding number. Each contract is an equation with a
+// definition of `spec_asked` or `spec_records`.
 use answers::answer::Answer;
 use answers::words::put_answer;
 use floats::bits_of;

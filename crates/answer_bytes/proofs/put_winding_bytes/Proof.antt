@@ -1,4 +1,4 @@
--- `point_bytes::put_winding_bytes` meets its contract: the number's bits in four bytes.
+-- `answer_bytes::put_winding_bytes` meets its contract: the number's bits in four bytes.
 -- Assumes nothing.
 use mathlib.Core.Path.{ap, _∙_}
 use Prim.Native.Nat.{ℕ}
@@ -6,8 +6,8 @@ use denote.Ref.{now}
 use Rattle.spec_tables.specs.Tables.{over}
 use Rattle.spec_records.specs.Little.{little}
 use borrow.Author.Needs.{needs}
-use Rattle.point_bytes.proofs.answer_bytes.put_winding_bytes.Statement.{statement}
-use Rattle.point_bytes.proofs.answer_bytes.put_winding_bytes.Tie as tie
+use Rattle.answer_bytes.proofs.put_winding_bytes.Statement.{statement}
+use Rattle.answer_bytes.proofs.put_winding_bytes.Tie as tie
 
 bits-of-requires : tie.Need-bits-of-requires
 bits-of-requires c κs = search needs

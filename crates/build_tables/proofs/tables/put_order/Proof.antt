@@ -1,4 +1,4 @@
--- `aabb_build::put_order` meets its contract: a turn stores one number behind those that stand there.
+-- `build_tables::put_order` meets its contract: a turn stores one number behind those that stand there.
 -- Assumes nothing.
 use mathlib.Core.Path.{refl, ap, _∙_}
 use mathlib.Core.List.{List, [], _∷_}
@@ -9,14 +9,14 @@ use Rattle.spec_tables.proofs.Runs.{Run, run-start, run-end}
 use Rattle.spec_build.proofs.Numbering.{up-to-many}
 use Rattle.spec_tables.proofs.Stores.{run-store-front}
 use borrow.Author.Needs.{needs}
-use Rattle.aabb_build.proofs.build.put_order.Statement.{statement}
-use Rattle.aabb_build.proofs.build.put_order.Tie as tie
+use Rattle.build_tables.proofs.tables.put_order.Statement.{statement}
+use Rattle.build_tables.proofs.tables.put_order.Tie as tie
 
 abbrev Inv-loop : tie.InvT-loop
-Inv-loop count order₀ t₀ order t = Run (λ k. k ∷ []) 0 count order₀ order t
+Inv-loop count order₀ number₀ order number = Run (λ k. k ∷ []) 0 count order₀ order number
 
 abbrev μ-loop : tie.MeasureT-loop
-μ-loop count order₀ t₀ order t = count - t
+μ-loop count order₀ number₀ order number = count - number
 
 loop-holds : tie.Need-loop-holds Inv-loop μ-loop
 loop-holds c = run-start _ 1 0 _ _
@@ -30,8 +30,8 @@ mul-order c = search needs
 slice-write-order : tie.Need-slice-write-order Inv-loop μ-loop
 slice-write-order c = omega (arith, c .before .loop .inv .long)
 
-add-t : tie.Need-add-t Inv-loop μ-loop
-add-t c = search needs
+add-number : tie.Need-add-number Inv-loop μ-loop
+add-number c = search needs
 
 loop-less : tie.Need-loop-less Inv-loop μ-loop
 loop-less c = search needs
@@ -55,7 +55,7 @@ put-order-spec =
     cast-order
     mul-order
     slice-write-order
-    add-t
+    add-number
     loop-less
     loop-again
     same-length

@@ -6,8 +6,8 @@ use Rattle.spec_lists.proofs.Verdicts.{stops, goes-on, ends}
 use Rattle.spec_asked.specs.PointBytes.{pointBytesRefusal}
 use Rattle.spec_host.proofs.Build.{numbers-long}
 use borrow.Author.Needs.{needs}
-use Rattle.point_bytes.proofs.points.point_bytes_refusal.Statement.{statement}
-use Rattle.point_bytes.proofs.points.point_bytes_refusal.Tie as tie
+use Rattle.point_bytes.proofs.point_bytes_refusal.Statement.{statement}
+use Rattle.point_bytes.proofs.point_bytes_refusal.Tie as tie
 
 refused-if-requires : tie.Need-refused-if-requires
 refused-if-requires c κs = search needs

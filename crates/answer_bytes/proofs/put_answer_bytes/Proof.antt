@@ -1,4 +1,4 @@
--- `point_bytes::put_answer_bytes` meets its contract: the six words of the answer, as bytes.
+-- `answer_bytes::put_answer_bytes` meets its contract: the six words of the answer, as bytes.
 -- Assumes nothing.
 use mathlib.Core.Path.{refl, ap, _∙_}
 use mathlib.Core.List.{List}
@@ -9,8 +9,8 @@ use Rattle.spec_records.specs.Entries.{numberBytes}
 use Rattle.spec_asked.proofs.PointBytes.{six-bytes}
 use Rattle.answers.specs.Values.{asAnswer}
 use borrow.Author.Needs.{needs}
-use Rattle.point_bytes.proofs.answer_bytes.put_answer_bytes.Statement.{statement}
-use Rattle.point_bytes.proofs.answer_bytes.put_answer_bytes.Tie as tie
+use Rattle.answer_bytes.proofs.put_answer_bytes.Statement.{statement}
+use Rattle.answer_bytes.proofs.put_answer_bytes.Tie as tie
 
 slice-aggregate-put-answer : tie.Need-slice-aggregate-put-answer
 slice-aggregate-put-answer c = search needs
