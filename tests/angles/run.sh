@@ -10,11 +10,11 @@ mkdir -p $copy/crates/angles_run/src
 cp -r crates crates.txt $copy/
 mkdir -p $copy/target
 for kept in rlib stamp; do [ -d target/$kept ] && cp -r target/$kept $copy/target/; done
-echo 'angles_run: winding_numbers solid_angle arc_tangent square_root lists vec3 triangle3 floats' >> $copy/crates.txt
+echo 'angles_run: winding_numbers solid_angle arc_tangent square_root verdicts lists vec3 triangle3 floats' >> $copy/crates.txt
 cat > $copy/crates/angles_run/src/lib.rt <<'RT'
 // Roots, angles and winding numbers for a Rust program to call.
 ghost use mathlib.Core.Path.{_≡_};
-use lists::refusal::Verdict;
+use verdicts::refusal::Verdict;
 
 #[no_mangle]
 pub extern "C" fn angles_root(x: f32) -> f32 {

@@ -3,7 +3,7 @@ ghost use mathlib.Core.Path.{_≡_};
 ghost use Prim.Native.Nat.{_-_};
 ghost use lib.ListN.{length};
 ghost use lib.Ieee.{binary32};
-ghost use Rattle.lists.specs.Values as Lists;
+ghost use Rattle.verdicts.specs.Values as Lists;
 ghost use Rattle.spec_lists.specs.Refusals.{passes};
 ghost use Rattle.spec_build.specs.Build.{buildRefusal, BuildIs, Asked};
 ghost use Rattle.aabb_build.specs.Values as Values;
@@ -12,10 +12,10 @@ use build_tables::put_bounds;
 use build_tables::put_centres;
 use build_tables::put_order;
 use build_tests::build_refusal;
-use lists::limits::MOST_TRIANGLES;
-use lists::refusal::Verdict;
-use lists::settings::Settings;
-use lists::triangles::triangle_count;
+use list_tests::triangles::triangle_count;
+use verdicts::limits::MOST_TRIANGLES;
+use verdicts::refusal::Verdict;
+use verdicts::settings::Settings;
 
 pub enum Built {
     Tree { nodes: usize, depth: usize },

@@ -13,8 +13,7 @@ ghost use Rattle.aabb_tree.specs.Asked as Asked;
 use crate::boxes::joined;
 use box3::Box3;
 use floats::same;
-use lists::limits;
-use lists::triangles::triangle_count;
+use list_tests::triangles::triangle_count;
 use tree_lists::nodes::is_left_before;
 use tree_lists::nodes::is_right_before;
 use tree_lists::nodes::kind_at;
@@ -23,6 +22,7 @@ use tree_lists::nodes::node_box;
 use tree_lists::nodes::right_at;
 use tree_lists::permutation::is_permutation;
 use vec3::Vec3;
+use verdicts::limits;
 
 // What a subtree is found to be: wrong, or a listing with this first node, whose triangles begin at this entry of the order list, under this box.
 pub enum Finding {

@@ -1,14 +1,14 @@
 // The tree check as a refusal, and as a call over any lists at all.
 ghost use mathlib.Core.Path.{_≡_};
 ghost use Prim.Native.Nat.{_≤_};
-ghost use Rattle.lists.specs.Values as Verdicts;
+ghost use Rattle.verdicts.specs.Values as Verdicts;
 ghost use Rattle.spec_lists.specs.Limits as Limits;
 ghost use Rattle.spec_lists.specs.Reading as Reading;
 ghost use Rattle.spec_tree.specs.Refusals as Refusals;
 use crate::check::is_accepted;
-use lists::refusal::Verdict;
-use lists::refusal::refused_if;
-use lists::triangles::triangles_refusal;
+use list_tests::triangles::triangles_refusal;
+use verdicts::refusal::Verdict;
+use verdicts::refusal::refused_if;
 
 // 7: the tree check says no.
 pub fn tree_refusal(

@@ -11,12 +11,12 @@ use crate::axes::axes_by_size;
 use area_rule::area::area_split;
 use box3::Box3;
 use build_tables::first_key;
-use lists::limits::MOST_TRIANGLES;
 use median_rule::median_split;
 use splits::split::Split;
 use splits::table::union_of;
 use stable_sort::sort_by_key;
 use vec3::Axis;
+use verdicts::limits::MOST_TRIANGLES;
 
 // The part, sorted stably by the centres on the axis.
 fn sort_on(centres: &[f32], axis: Axis, part: &mut [u32], scratch: &mut [u32])

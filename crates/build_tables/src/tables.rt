@@ -15,10 +15,10 @@ ghost use Rattle.spec_tree.specs.Splits.{place, boxIn};
 ghost use Rattle.spec_build.specs.Tries.{centreOn};
 ghost use Rattle.spec_build.specs.Growing.{CentresAsked, CentresPut, Centred};
 use box3::Box3;
-use lists::limits::MOST_TRIANGLES;
 use lists::triangles::box_at;
 use splits::table::centre_on;
 use vec3::Axis;
+use verdicts::limits::MOST_TRIANGLES;
 
 // The box in place k of a table of boxes.
 pub fn put_box(boxes: &mut [f32], k: usize, b: Box3)

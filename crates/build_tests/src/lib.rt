@@ -1,14 +1,14 @@
 // The tests of a build, in turn: the triangles, the settings, the rooms of the three lists. The contract is an equation
 // with a definition of `spec_build`.
 ghost use mathlib.Core.Path.{_≡_};
-ghost use Rattle.lists.specs.Values as Lists;
+ghost use Rattle.verdicts.specs.Values as Lists;
 ghost use Rattle.spec_build.specs.Build.{buildRefusal};
-use lists::refusal::Verdict;
-use lists::refusal::room_refusal;
-use lists::settings::Settings;
-use lists::settings::settings_refusal;
-use lists::triangles::triangle_count;
-use lists::triangles::triangles_refusal;
+use list_tests::triangles::triangle_count;
+use list_tests::triangles::triangles_refusal;
+use verdicts::refusal::Verdict;
+use verdicts::refusal::room_refusal;
+use verdicts::settings::Settings;
+use verdicts::settings::settings_refusal;
 
 // Tests 1 to 6, of outputs of these lengths.
 pub fn build_refusal(

@@ -16,10 +16,10 @@ use answers::kept::answer_of;
 use answers::kept::is_passed;
 use answers::kept::point_of;
 use leaf_hits::measure_leaf;
-use lists::limits;
 use node_links::links_of;
 use tree_lists::nodes::node_box;
 use vec3::Vec3;
+use verdicts::limits;
 
 // The squared distance from p to a node's box.
 fn node_squared(boxes: &[f32], node: usize, p: Vec3) -> f32

@@ -7,7 +7,7 @@ ghost use lib.ListN.{length};
 ghost use Rattle.spec_tables.specs.Tables.{Put};
 ghost use Rattle.spec_lists.specs.Reading.{pointCount};
 ghost use Rattle.spec_lists.specs.Refusals.{passes};
-ghost use Rattle.lists.specs.Values.{asSettings};
+ghost use Rattle.verdicts.specs.Values.{asSettings};
 ghost use Rattle.spec_search.specs.Calls.{queryRefusal};
 ghost use Rattle.spec_gauge.specs.Printed.{Fits, mostBytes, mostPrinted, askedIn, askedRefusal, treeLine, answerLines, printedRun, printed};
 use crate::asked::asked_refusal;
@@ -17,16 +17,16 @@ use answer_lines::put_answer_lines;
 use floats::from_bits;
 use image_get::settings_of;
 use list_queries::sure_query;
-use lists::points::point_count;
-use lists::refusal::Verdict;
-use lists::settings::Settings;
-use lists::triangles::triangle_count;
+use list_tests::points::point_count;
+use list_tests::triangles::triangle_count;
 use little_endian::read_f32s;
 use little_endian::u32_at;
 use printing::put_counts;
 use printing::put_refused;
 use records::GaugeLayout;
 use records::gauge_layout;
+use verdicts::refusal::Verdict;
+use verdicts::settings::Settings;
 
 // A line a point, by sure queries over a tree that passes the tree check.
 fn put_answers(

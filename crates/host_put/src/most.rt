@@ -2,7 +2,7 @@
 ghost use mathlib.Core.Path.{_≡_};
 ghost use Rattle.spec_host.specs.Build.{imageMost};
 use image_put::image_size;
-use lists::limits;
+use verdicts::limits;
 
 // Of so many triangles; 0 where no list of so many passes.
 pub fn image_most(triangles: usize) -> u64

@@ -1,11 +1,11 @@
 // An image put for a C host, where there is room for it.
 use image_put::image_size;
 use image_put::put_image;
-use lists::refusal::Verdict;
-use lists::settings::Settings;
-use lists::triangles::triangle_count;
+use list_tests::triangles::triangle_count;
 use told::tell;
 use told::tell_refusal;
+use verdicts::refusal::Verdict;
+use verdicts::settings::Settings;
 ghost use lib.ListN.{length};
 ghost use Rattle.spec_records.specs.Layouts.{version1};
 ghost use Rattle.spec_lists.specs.Refusals.{roomRefusal};

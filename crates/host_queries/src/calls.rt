@@ -2,15 +2,15 @@
 use crate::ask::ask;
 use crate::wind::wind;
 use list_queries::Query;
-use lists::refusal::Verdict;
 use records::ImageLayout;
 use records::image_layout;
 use told::tell;
+use verdicts::refusal::Verdict;
 ghost use mathlib.Core.Path.{_≡_};
 ghost use Prim.Native.Nat.{_/_};
 ghost use lib.ListN.{length};
 ghost use Rattle.spec_lists.specs.Reading.{triangleCount};
-ghost use Rattle.lists.specs.Values.{asVerdict};
+ghost use Rattle.verdicts.specs.Values.{asVerdict};
 ghost use Rattle.spec_host.specs.Told.{told, InPlace};
 ghost use Rattle.spec_asked.specs.PointBytes.{answerBytes, windingBytes, afterBytes};
 ghost use Rattle.list_queries.specs.Values.{asQuery};

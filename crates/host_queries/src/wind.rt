@@ -1,16 +1,16 @@
 // Winding numbers over an image: its layout, its triangles, and nothing of its tree.
 use image_tests::count_refusal;
-use lists::limits::MOST_TRIANGLES;
-use lists::refusal::Verdict;
 use little_endian::read_f32s;
 use point_windings::wind_lists;
 use records::ImageLayout;
 use records::image_layout;
+use verdicts::limits::MOST_TRIANGLES;
+use verdicts::refusal::Verdict;
 ghost use mathlib.Core.Path.{_≡_};
 ghost use lib.ListN.{length};
 ghost use Rattle.spec_records.specs.Layouts.{version1, imageSize};
 ghost use Rattle.spec_image.specs.Image.{imageIn};
-ghost use Rattle.lists.specs.Values.{asVerdict};
+ghost use Rattle.verdicts.specs.Values.{asVerdict};
 ghost use Rattle.spec_asked.specs.PointBytes.{windingBytes, afterBytes};
 ghost use Rattle.spec_asked.specs.Asked.{contents, woundRefusal, windingVerdict};
 

@@ -8,7 +8,7 @@ use Rattle.spec_records.specs.Layouts.{version1}
 use Rattle.spec_image.specs.Image.{Image}
 use Rattle.spec_image.specs.Reading as Reading
 use Rattle.spec_image.specs.Writing as Writing
-use Rattle.lists.specs.Values.{asSettings}
+use Rattle.verdicts.specs.Values.{asSettings}
 use Rattle.image_get.specs.Values.{ListsRead}
 use Rattle.image.specs.declared.read.Rooms.{Rooms}
 use Rattle.image.specs.declared.read.ImageRead.{ImageRead}

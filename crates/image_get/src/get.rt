@@ -1,15 +1,15 @@
 // What an image holds: its settings, its triangles, its tree.
-use lists::settings::Settings;
 use little_endian::read_f32s;
 use little_endian::read_u16s;
 use little_endian::u16_at;
+use verdicts::settings::Settings;
 ghost use mathlib.Core.Path.{_≡_};
 ghost use Prim.Native.Nat.{_+_, _*_, _≤_};
 ghost use lib.ListN.{length};
 ghost use Rattle.spec_tables.specs.Tables.{over, many};
 ghost use Rattle.spec_records.specs.Layouts.{version1, imageSize};
 ghost use Rattle.spec_image.specs.Image.{settingsIn, linksIn, sidesIn, imageIn};
-ghost use Rattle.lists.specs.Values.{asSettings};
+ghost use Rattle.verdicts.specs.Values.{asSettings};
 ghost use Rattle.image_get.specs.Values.{TreeFilled, ListsRead};
 
 // The numbers of record 1, which stands at the front.

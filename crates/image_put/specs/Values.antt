@@ -3,8 +3,8 @@ use Prim.Native.Nat.{ℕ}
 use mathlib.Core.List.{List}
 use lib.Ieee.{Float}
 use Rattle.spec_image.specs.Image.{Image}
-use Rattle.lists.specs.declared.settings.Settings.{Settings}
-use Rattle.lists.specs.Values.{asSettings}
+use Rattle.verdicts.specs.declared.settings.Settings.{Settings}
+use Rattle.verdicts.specs.Values.{asSettings}
 
 abbrev pub imageOf : Settings → List Float → List ℕ → List ℕ → List Float → ℕ → Image
 imageOf s triangles order links boxes nodes = record {

@@ -1,9 +1,9 @@
 // The records of an image, each put behind the other.
-use lists::settings::Settings;
 use little_endian::put_f32s;
 use little_endian::put_u16;
 use little_endian::put_u16s;
 use little_endian::put_u32;
+use verdicts::settings::Settings;
 ghost use mathlib.Core.Path.{_≡_};
 ghost use Prim.Native.Nat.{_+_, _*_, _≤_};
 ghost use lib.ListN.{length};
@@ -14,7 +14,7 @@ ghost use Rattle.spec_records.specs.Records.{header, recordOf};
 ghost use Rattle.spec_records.specs.Layouts.{version1, imageSize};
 ghost use Rattle.spec_image.specs.Image.{settingsBytes, nodeBytes, imageBytes};
 ghost use Rattle.spec_image.specs.Stored.{Complete};
-ghost use Rattle.lists.specs.Values.{asSettings};
+ghost use Rattle.verdicts.specs.Values.{asSettings};
 ghost use Rattle.image_put.specs.Values.{imageOf};
 
 fn put_header(out: &mut [u8], at: usize, size: usize, kind: usize) -> usize

@@ -1,13 +1,13 @@
 // How many bytes an image has, and whether so many have room for it.
-use lists::refusal::Verdict;
-use lists::refusal::refused_if;
+use verdicts::refusal::Verdict;
+use verdicts::refusal::refused_if;
 ghost use mathlib.Core.Path.{_≡_};
 ghost use Prim.Native.Nat.{_≤_, _<_, _^_};
 ghost use lib.Dec.{ltb};
 ghost use Rattle.spec_records.specs.Layouts.{version1, imageSize};
 ghost use Rattle.spec_lists.specs.Limits.{mostTriangles};
 ghost use Rattle.spec_lists.specs.Refusals as Refusals;
-ghost use Rattle.lists.specs.Values.{asVerdict};
+ghost use Rattle.verdicts.specs.Values.{asVerdict};
 
 // How many bytes the image of so many triangles and nodes has.
 pub fn image_size(triangles: usize, nodes: usize) -> usize

@@ -4,9 +4,9 @@
 // of its own, `stdout`.
 use image::ImageRead;
 use image::ImageWritten;
-use lists::settings::Settings;
 use records::GaugeLayout;
 use records::ImageLayout;
+use verdicts::settings::Settings;
 ghost use mathlib.Core.Path.{_≡_};
 ghost use Prim.Native.Nat.{_*_, _≤_};
 ghost use lib.ListN.{length};

@@ -1,14 +1,14 @@
 // The tests of an image in turn: its counts, and what comes before its tree.
-use lists::limits;
-use lists::refusal::Verdict;
-use lists::refusal::refused_if;
-use lists::refusal::room_refusal;
-use lists::settings::Settings;
-use lists::settings::settings_refusal;
-use lists::triangles::triangles_refusal;
+use list_tests::triangles::triangles_refusal;
+use verdicts::limits;
+use verdicts::refusal::Verdict;
+use verdicts::refusal::refused_if;
+use verdicts::refusal::room_refusal;
+use verdicts::settings::Settings;
+use verdicts::settings::settings_refusal;
 ghost use mathlib.Core.Path.{_≡_};
 ghost use Prim.Native.Nat.{_/_};
-ghost use Rattle.lists.specs.Values.{asVerdict, asSettings};
+ghost use Rattle.verdicts.specs.Values.{asVerdict, asSettings};
 ghost use Rattle.spec_asked.specs.Loading.{countRefusal, earlyRefusal};
 ghost use Rattle.image_tests.specs.Nodes.{nodesRefusal};
 

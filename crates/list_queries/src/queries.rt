@@ -4,7 +4,7 @@ ghost use Prim.Native.Nat.{_*_, _≤_};
 ghost use lib.ListN.{length};
 ghost use lib.Ieee.{binary32};
 ghost use Rattle.spec_lists.specs.Reading as Reading;
-ghost use Rattle.lists.specs.Values as Verdicts;
+ghost use Rattle.verdicts.specs.Values as Verdicts;
 ghost use Rattle.spec_tables.specs.Tables as Tables;
 ghost use Rattle.spec_search.specs.Calls as Calls;
 ghost use Rattle.list_queries.specs.Values as Values;
@@ -12,13 +12,13 @@ use crate::query::Query;
 use crate::query::answer_at;
 use aabb_tree::refusals::tree_refusal;
 use answers::words::put_answer;
-use lists::points::distance_refusal;
+use list_tests::points::distance_refusal;
+use list_tests::points::point_count;
+use list_tests::points::points_refusal;
+use list_tests::triangles::triangles_refusal;
 use lists::points::point_at;
-use lists::points::point_count;
-use lists::points::points_refusal;
-use lists::refusal::Verdict;
-use lists::refusal::room_refusal;
-use lists::triangles::triangles_refusal;
+use verdicts::refusal::Verdict;
+use verdicts::refusal::room_refusal;
 
 // The first of the tests 1 to 4, 6, 7, 8 and 9 that refuses.
 fn query_refusal(

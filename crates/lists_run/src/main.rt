@@ -1,13 +1,13 @@
-// Prints what the tests of `lists` say of inputs at the edges of what passes. The file `stdout`
-// beside src/ was written by hand from the table of refusals.
+// Prints what the tests of lists, settings and rooms say of inputs at the edges of what passes. The file
+// `stdout` beside src/ was written by hand from the table of refusals.
 ghost use Prim.Native.Nat.{_≤_, _<_};
-use lists::points::distance_refusal;
-use lists::points::points_refusal;
-use lists::refusal::Verdict;
-use lists::refusal::room_refusal;
-use lists::settings::Settings;
-use lists::settings::settings_refusal;
-use lists::triangles::triangles_refusal;
+use list_tests::points::distance_refusal;
+use list_tests::points::points_refusal;
+use list_tests::triangles::triangles_refusal;
+use verdicts::refusal::Verdict;
+use verdicts::refusal::room_refusal;
+use verdicts::settings::Settings;
+use verdicts::settings::settings_refusal;
 
 fn put_number(n: usize) {
     io::print_decimal(1, n as u64);

@@ -2,11 +2,11 @@
 // a definition of `spec_asked`, `spec_lists` or `spec_host`.
 use floats::from_bits;
 use floats::plus_zero;
-use lists::coordinates::is_coordinate;
-use lists::refusal::Verdict;
-use lists::refusal::refused_if;
 use little_endian::u32_at;
 use vec3::Vec3;
+use verdicts::coordinates::is_coordinate;
+use verdicts::refusal::Verdict;
+use verdicts::refusal::refused_if;
 ghost use mathlib.Core.Path.{_≡_};
 ghost use Prim.Native.Nat.{_+_, _*_, _≤_};
 ghost use lib.ListN.{length, getD};
@@ -14,7 +14,7 @@ ghost use lib.Ieee.{nan};
 ghost use Rattle.vec3.specs.Values.{asPoint};
 ghost use Rattle.spec_lists.specs.Reading.{pointAt};
 ghost use Rattle.spec_lists.specs.Refusals.{firstBad};
-ghost use Rattle.lists.specs.Values.{asVerdict};
+ghost use Rattle.verdicts.specs.Values.{asVerdict};
 ghost use Rattle.spec_host.specs.Build.{numbersOf};
 ghost use Rattle.spec_asked.specs.PointBytes.{pointBytesRefusal};
 

@@ -1,16 +1,16 @@
 // The winding numbers about all points: tests 2 to 4, 6 and 8, then four bytes a point.
 use answer_bytes::put_winding_bytes;
-use lists::refusal::Verdict;
-use lists::refusal::room_refusal;
-use lists::triangles::triangles_refusal;
+use list_tests::triangles::triangles_refusal;
 use point_bytes::point_bytes_refusal;
 use point_bytes::point_in;
+use verdicts::refusal::Verdict;
+use verdicts::refusal::room_refusal;
 use winding_numbers::winding_number::winding_number;
 ghost use mathlib.Core.Path.{_≡_};
 ghost use Prim.Native.Nat.{_*_, _/_, _≤_};
 ghost use lib.ListN.{length};
 ghost use Rattle.spec_tables.specs.Tables.{over};
-ghost use Rattle.lists.specs.Values.{asVerdict};
+ghost use Rattle.verdicts.specs.Values.{asVerdict};
 ghost use Rattle.spec_asked.specs.PointBytes.{windingBytes, afterBytes};
 ghost use Rattle.spec_asked.specs.Asked.{woundRefusal};
 

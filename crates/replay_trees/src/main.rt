@@ -6,7 +6,7 @@ use case_words::fill_floats;
 use case_words::fill_numbers;
 use case_words::more;
 use case_words::pattern_at;
-use lists::refusal::Verdict;
+use verdicts::refusal::Verdict;
 
 // The first eight words of a case.
 struct Head {

@@ -15,9 +15,9 @@ use answers::answer::Sought;
 use answers::kept::answer_of;
 use answers::kept::point_of;
 use leaf_hits::measure_leaf;
-use lists::limits;
 use node_links::links_of;
 use tree_lists::nodes::node_box;
+use verdicts::limits;
 
 // Whether a child enters: its box holds the point, or is nearer than the limit.
 fn does_enter(boxes: &[f32], node: usize, asked: &[f32; 4]) -> bool

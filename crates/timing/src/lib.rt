@@ -2,7 +2,7 @@
 ghost use mathlib.Core.Path.{_≡_};
 ghost use lib.ListN.{length};
 ghost use lib.Ieee.{binary32};
-ghost use Rattle.lists.specs.Values as Lists;
+ghost use Rattle.verdicts.specs.Values as Lists;
 ghost use Rattle.vec3.specs.Values as Shapes;
 ghost use Rattle.aabb_build.specs.Values as Builds;
 ghost use Rattle.spec_tree.specs.Refusals as Trees;
@@ -14,11 +14,11 @@ use aabb_build::build::Built;
 use aabb_tree::check::is_accepted;
 use answers::answer::Asked;
 use closest::sure::search;
+use list_tests::triangles::triangles_refusal;
 use lists::points::point_at;
-use lists::refusal::Verdict;
 use lists::triangles::triangle_at;
-use lists::triangles::triangles_refusal;
 use vec3::Vec3;
+use verdicts::refusal::Verdict;
 
 fn one_passed(verdict: Verdict) -> u32
     ensures { λ r. ⌜ r ≡ Told.onePassed (Lists.asVerdict verdict) ⌝ }

@@ -1,8 +1,8 @@
 // What a C host's call answers in one number: done, with a count, or a refusal's number and place.
 ghost use mathlib.Core.Path.{_≡_};
 ghost use Rattle.spec_host.specs.Told as Told;
-ghost use Rattle.lists.specs.Values as Values;
-use lists::refusal::Verdict;
+ghost use Rattle.verdicts.specs.Values as Values;
+use verdicts::refusal::Verdict;
 
 const TOP_BIT: u64 = 9223372036854775808;
 

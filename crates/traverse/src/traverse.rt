@@ -10,11 +10,11 @@ use aabb_tree::refusals::check;
 use box3::Box3;
 use leaf_reader::EntryFound;
 use leaf_reader::entry_of;
-use lists::refusal::Verdict;
 use tree_lists::nodes::kind_at;
 use tree_lists::nodes::left_at;
 use tree_lists::nodes::node_box;
 use tree_lists::nodes::right_at;
+use verdicts::refusal::Verdict;
 
 // A leaf's triangles are the order list's entries from `first` to `last`, the end not included.
 pub enum LeafFound {

@@ -5,7 +5,7 @@ ghost use Rattle.spec_tree.specs.Depth as Depth;
 use crate::nodes::kind_at;
 use crate::nodes::left_at;
 use crate::nodes::right_at;
-use lists::limits;
+use verdicts::limits;
 
 fn deeper(a: usize, b: usize) -> usize
     ensures { λ r. ⌜ r ≡ max a b ⌝ }

@@ -5,7 +5,7 @@ ghost use lib.ListN.{length};
 ghost use Rattle.spec_lists.specs.Limits as Limits;
 ghost use Rattle.spec_tree.specs.Order as Order;
 use crate::nodes::wide;
-use lists::limits;
+use verdicts::limits;
 
 // Marks each entry in `seen`, until one is too large or marked already.
 fn marks_all(n: usize, order: &[u32], seen: &mut [bool]) -> bool

@@ -4,7 +4,7 @@
 ghost use Prim.Native.Nat.{_<_, _≤_};
 use aabb_tree::check::is_accepted;
 use aabb_tree::refusals::check;
-use lists::refusal::Verdict;
+use verdicts::refusal::Verdict;
 
 struct Lists {
     order: [u32; 2],

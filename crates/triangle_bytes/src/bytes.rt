@@ -1,14 +1,14 @@
 // A triangle list in bytes: the tests that need no number of it, and its numbers.
-use lists::limits::MOST_TRIANGLES;
-use lists::refusal::Verdict;
-use lists::refusal::refused_if;
 use little_endian::read_f32s;
+use verdicts::limits::MOST_TRIANGLES;
+use verdicts::refusal::Verdict;
+use verdicts::refusal::refused_if;
 ghost use mathlib.Core.Path.{_≡_};
 ghost use Prim.Native.Nat.{_/_, _≤_};
 ghost use lib.ListN.{length};
 ghost use Rattle.spec_tables.specs.Tables.{over};
 ghost use Rattle.spec_host.specs.Build.{numbersOf};
-ghost use Rattle.lists.specs.Values.{asVerdict};
+ghost use Rattle.verdicts.specs.Values.{asVerdict};
 ghost use Rattle.triangle_bytes.specs.Length.{lengthRefusal};
 
 // Of a triangle list that passes test 3.

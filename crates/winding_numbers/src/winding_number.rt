@@ -4,19 +4,19 @@ ghost use Prim.Native.Nat.{_≤_};
 ghost use lib.ListN.{length};
 ghost use lib.Ieee.{binary32};
 ghost use Rattle.vec3.specs.Values as Shapes;
-ghost use Rattle.lists.specs.Values as Values;
+ghost use Rattle.verdicts.specs.Values as Values;
 ghost use Rattle.spec_lists.specs.Reading as Reading;
 ghost use Rattle.spec_angles.specs.Windings as Windings;
+use list_tests::points::point_count;
+use list_tests::points::points_refusal;
+use list_tests::triangles::triangle_count;
+use list_tests::triangles::triangles_refusal;
 use lists::points::point_at;
-use lists::points::point_count;
-use lists::points::points_refusal;
-use lists::refusal::Verdict;
-use lists::refusal::room_refusal;
 use lists::triangles::triangle_at;
-use lists::triangles::triangle_count;
-use lists::triangles::triangles_refusal;
 use solid_angle::solid_angle;
 use vec3::Vec3;
+use verdicts::refusal::Verdict;
+use verdicts::refusal::room_refusal;
 
 // The sum of the triangles' solid angles, in the list's order, over 4 * PI.
 pub fn winding_number(triangles: &[f32], q: Vec3) -> f32

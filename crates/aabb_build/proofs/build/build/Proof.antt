@@ -2,7 +2,7 @@
 -- Assumes nothing.
 use mathlib.Core.Path.{sym, ap, _∙_}
 use lib.Ieee.{binary32}
-use Rattle.lists.specs.Values.{asVerdict}
+use Rattle.verdicts.specs.Values.{asVerdict}
 use Rattle.spec_build.proofs.Building.{refusal-gives}
 use borrow.Author.Needs.{needs}
 use Rattle.aabb_build.proofs.build.build.Statement.{statement}

@@ -3,7 +3,7 @@
 use mathlib.Core.Path.{refl, sym, ap, _∙_}
 use native.Mathlib.Omega.{arith}
 use lib.Seq.{length-take-le}
-use Rattle.lists.specs.Values.{asVerdict}
+use Rattle.verdicts.specs.Values.{asVerdict}
 use Rattle.spec_host.proofs.Build.{put-nothing, put-as, bytes-whole, numbers-read}
 use Rattle.triangle_bytes.proofs.Length.{length-refused, length-told, length-passed}
 use borrow.Author.Needs.{needs}

@@ -4,7 +4,7 @@ use denote.Ref.{now}
 use mathlib.Core.Path.{refl, sym}
 use native.Mathlib.Omega.{arith}
 use lib.Seq.{length-take-le}
-use Rattle.lists.specs.Values.{asSettings}
+use Rattle.verdicts.specs.Values.{asSettings}
 use Rattle.spec_host.proofs.Build.{put-nothing, put-as, build-refused, build-told, listed-few, listed-puttable, listed-bytes, listed-size, listed-refusal}
 use borrow.Author.Needs.{needs}
 use Rattle.host_build.proofs.build.build_list.Statement.{statement}

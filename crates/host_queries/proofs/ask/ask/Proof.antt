@@ -1,6 +1,6 @@
 -- `host_queries::ask` meets its contract: the layout, and then what the image holds.
 -- Assumes nothing.
-use Rattle.lists.specs.Values.{asVerdict}
+use Rattle.verdicts.specs.Values.{asVerdict}
 use mathlib.Core.Path.{refl, sym, ap, _∙_}
 use lib.ListN.{length}
 use Rattle.spec_image.specs.Image.{Image}

@@ -1,6 +1,6 @@
 -- `host_queries::ask_tree` meets its contract: what is loaded is what the image holds.
 -- Assumes nothing.
-use Rattle.lists.specs.Values.{asVerdict}
+use Rattle.verdicts.specs.Values.{asVerdict}
 use mathlib.Core.Path.{sym, ap, _∙_}
 use native.Mathlib.Omega.{arith}
 use lib.Seq.{length-take-le}

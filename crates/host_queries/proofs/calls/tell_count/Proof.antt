@@ -1,7 +1,7 @@
 -- `host_queries::tell_count` meets its contract: a refusal is told whatever the count.
 -- Assumes nothing.
 use mathlib.Core.Path.{sym, _∙_}
-use Rattle.lists.specs.Values.{asVerdict}
+use Rattle.verdicts.specs.Values.{asVerdict}
 use Rattle.spec_asked.proofs.Told.{told-refused, told-done}
 use borrow.Author.Needs.{needs}
 use Rattle.host_queries.proofs.calls.tell_count.Statement.{statement}

@@ -1,6 +1,6 @@
 -- `host_queries::wind_laid` meets its contract: the count, and the triangles.
 -- Assumes nothing.
-use Rattle.lists.specs.Values.{asVerdict}
+use Rattle.verdicts.specs.Values.{asVerdict}
 use mathlib.Core.Path.{sym, ap, _∙_}
 use mathlib.Core.List.{List}
 use native.Mathlib.Omega.{arith}

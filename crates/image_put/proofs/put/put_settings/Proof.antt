@@ -6,7 +6,7 @@ use Rattle.spec_records.specs.Layouts.{version1}
 use Rattle.spec_records.proofs.Records.{record-put}
 use Rattle.spec_image.specs.Image.{settingsBytes}
 use Rattle.spec_image.proofs.Sizes.{length-settings}
-use Rattle.lists.specs.Values.{asSettings}
+use Rattle.verdicts.specs.Values.{asSettings}
 use borrow.Author.Needs.{needs}
 use Rattle.image_put.proofs.put.put_settings.Statement.{statement}
 use Rattle.image_put.proofs.put.put_settings.Tie as tie

@@ -1,7 +1,7 @@
 -- `traverse::leaf` meets its contract: the refusal, or the k-th leaf of lists that pass.
 -- Assumes nothing.
 use mathlib.Core.Path.{sym, ap, _∙_}
-use Rattle.lists.specs.Values.{asVerdict}
+use Rattle.verdicts.specs.Values.{asVerdict}
 use Rattle.spec_tree.proofs.Leaves.{passed-there, leaf-refused, leaf-sought}
 use borrow.Author.Needs.{needs}
 use Rattle.traverse.proofs.traverse.leaf.Statement.{statement}

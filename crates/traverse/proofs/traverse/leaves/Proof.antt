@@ -1,7 +1,7 @@
 -- `traverse::leaves` meets its contract: the refusal, or the count over lists that pass.
 -- Assumes nothing.
 use mathlib.Core.Path.{sym, ap, _∙_}
-use Rattle.lists.specs.Values.{asVerdict}
+use Rattle.verdicts.specs.Values.{asVerdict}
 use Rattle.spec_tree.proofs.Leaves.{passed-there, count-refused, count-made}
 use borrow.Author.Needs.{needs}
 use Rattle.traverse.proofs.traverse.leaves.Statement.{statement}
