@@ -1,13 +1,15 @@
--- Three and six stores one behind the other are one write; a store a turn, from the front of a list. Assumes nothing.
-use mathlib.Core.Path.{_≡_, subst}
+-- Three and six stores one behind the other are one write; a store a turn, from the front of a list, and to its end. Assumes nothing.
+use mathlib.Core.Path.{_≡_, sym, ap, _∙_, subst}
 use mathlib.Core.List.{List, [], _∷_}
 use Prim.Native.Nat.{ℕ, suc, _+_, _≤_, _<_}
 use native.Mathlib.Nat.{zero-add}
 use native.Mathlib.Omega.{arith}
-use lib.ListN.{length, set}
-use Rattle.spec_tables.specs.Tables.{over}
+use lib.ListN.{length, set, take}
+use lib.Seq.{take-all}
+use Rattle.spec_tables.specs.Tables.{over, many}
 use Rattle.spec_tables.proofs.Tables.{sets-over}
-use Rattle.spec_tables.proofs.Runs.{Run, run-store}
+use Rattle.spec_tables.proofs.Pieces.{take-over, length-singles}
+use Rattle.spec_tables.proofs.Runs.{Run, run-store, run-end}
 
 module _ {A : Type 0} (at : ℕ) (old : List A) where
   pub three-stores : (a b c : A) → at + 3 ≤ length old → set (set (set old at a) (at + 1) b) (at + 2) c ≡ over at (a ∷ b ∷ c ∷ []) old
@@ -30,3 +32,10 @@ pub run-store-front : {A : Type 0} (g : ℕ → A) (n : ℕ) (old out : List A) 
     → Run (λ j. g j ∷ []) 0 n old out i → v ≡ g i → Run (λ j. g j ∷ []) 0 n old (set out i v) (i + 1)
 run-store-front {A} g n old out i v room l r e =
     subst (λ (k : ℕ). Run (λ j. g j ∷ []) 0 n old (set out k v) (i + 1)) (zero-add i) (run-store g 0 n old out i v (omega arith) l r e)
+
+-- what is stored to from its front to its end is what was stored
+pub run-whole : {A : Type 0} (g : ℕ → A) (old out : List A) (i : ℕ) → length old ≤ i → Run (λ j. g j ∷ []) 0 (length old) old out i → out ≡ many (λ j. g j ∷ []) (length old)
+run-whole g old out i l r =
+    sym (take-all (length old) out (omega (arith, r .long)))
+    ∙ ap (take (length old)) (run-end (λ j. g j ∷ []) 0 (length old) old out i l r)
+    ∙ take-over (length old) (many (λ j. g j ∷ []) (length old)) old (length-singles g (length old))

@@ -6,9 +6,8 @@ use borrow.Author.Needs.{needs}
 use lib.Ieee.{binary32, ofBits}
 use lib.ListN.{length, length-set}
 use Rattle.spec_tables.proofs.Runs.{Run, run-start}
-use Rattle.spec_tables.proofs.Stores.{run-store-front}
+use Rattle.spec_tables.proofs.Stores.{run-store-front, run-whole}
 use Rattle.case_words.specs.Words.{wordAt, more, floatsFrom}
-use Rattle.case_words.proofs.Filled.{filled}
 use Rattle.case_words.proofs.fill_floats.Statement.{statement}
 use Rattle.case_words.proofs.fill_floats.Tie as tie
 
@@ -53,7 +52,7 @@ same-length c = c .before .loop .inv .long
 
 returns : tie.Need-returns Inv-loop μ-loop
 unfolding floatsFrom
-returns c = filled _ _ _ _ (omega (arith, c .loop-test .left, c .before .loop .inv .long)) (c .before .loop .inv)
+returns c = run-whole _ _ _ _ (omega (arith, c .loop-test .left, c .before .loop .inv .long)) (c .before .loop .inv)
 
 pub fill-floats-spec : {M : Type 1} → statement M
 fill-floats-spec =

@@ -5,9 +5,8 @@ use native.Mathlib.Omega.{arith}
 use borrow.Author.Needs.{needs}
 use lib.ListN.{length, length-set}
 use Rattle.spec_tables.proofs.Runs.{Run, run-start}
-use Rattle.spec_tables.proofs.Stores.{run-store-front}
+use Rattle.spec_tables.proofs.Stores.{run-store-front, run-whole}
 use Rattle.case_words.specs.Words.{wordAt, more, numbersFrom}
-use Rattle.case_words.proofs.Filled.{filled}
 use Rattle.case_words.proofs.fill_numbers.Statement.{statement}
 use Rattle.case_words.proofs.fill_numbers.Tie as tie
 
@@ -49,7 +48,7 @@ same-length c = c .before .loop .inv .long
 
 returns : tie.Need-returns Inv-loop μ-loop
 unfolding numbersFrom
-returns c = filled _ _ _ _ (omega (arith, c .loop-test .left, c .before .loop .inv .long)) (c .before .loop .inv)
+returns c = run-whole _ _ _ _ (omega (arith, c .loop-test .left, c .before .loop .inv .long)) (c .before .loop .inv)
 
 pub fill-numbers-spec : {M : Type 1} → statement M
 fill-numbers-spec =
