@@ -1,7 +1,8 @@
-//! Makes crates/replay_large/stdout: the Rust's trees of up to 4,096 triangles, as counts and digests.
+//! Makes crates/build_run/stdout but for its last four lines: the Rust's trees of up to 4,096 triangles, as counts
+//! and digests.
 //! Put it into the oracle's src/bin/ and run it there:
 //!
-//!     cargo run --release --offline --bin large > crates/replay_large/stdout
+//!     cargo run --release --offline --bin large | diff - <(head -n -4 crates/build_run/stdout)
 
 use shark::{
     request::{Settings, P},

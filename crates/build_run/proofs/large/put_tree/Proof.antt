@@ -1,10 +1,10 @@
--- `replay_large::put_tree` is safe and ends: each part lies in its list.
+-- `build_run::large::put_tree` is safe and ends: each part lies in its list.
 -- Assumes nothing.
 use native.Mathlib.Omega.{arith}
 use lib.ListN.{length-take}
 use borrow.Author.Needs.{needs}
-use Rattle.replay_large.proofs.put_tree.Statement.{statement}
-use Rattle.replay_large.proofs.put_tree.Tie as tie
+use Rattle.build_run.proofs.large.put_tree.Statement.{statement}
+use Rattle.build_run.proofs.large.put_tree.Tie as tie
 
 put-requires : tie.Need-put-requires
 put-requires c κs = search needs

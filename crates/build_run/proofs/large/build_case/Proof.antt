@@ -1,10 +1,10 @@
--- `replay_large::build_case` is safe and ends: each part lies in its list.
+-- `build_run::large::build_case` is safe and ends: each part lies in its list.
 -- Assumes nothing.
 use native.Mathlib.Omega.{arith}
 use lib.ListN.{length-take}
 use borrow.Author.Needs.{needs}
-use Rattle.replay_large.proofs.build_case.Statement.{statement}
-use Rattle.replay_large.proofs.build_case.Tie as tie
+use Rattle.build_run.proofs.large.build_case.Statement.{statement}
+use Rattle.build_run.proofs.large.build_case.Tie as tie
 
 array-borrow-prefix-all : tie.Need-array-borrow-prefix-all
 array-borrow-prefix-all c = search needs

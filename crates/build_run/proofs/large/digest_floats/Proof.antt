@@ -1,10 +1,10 @@
--- `replay_large::digest_numbers` is safe and ends: it goes through the list.
+-- `build_run::large::digest_floats` is safe and ends: it goes through the list.
 -- Assumes nothing.
 use Prim.Native.Nat.{_≤_, _-_}
 use lib.ListN.{length}
 use borrow.Author.Needs.{needs}
-use Rattle.replay_large.proofs.digest_numbers.Statement.{statement}
-use Rattle.replay_large.proofs.digest_numbers.Tie as tie
+use Rattle.build_run.proofs.large.digest_floats.Statement.{statement}
+use Rattle.build_run.proofs.large.digest_floats.Tie as tie
 
 abbrev Inv-loop : tie.InvT-loop
 Inv-loop list digest₀ i₀ digest i = i ≤ length list
@@ -15,11 +15,14 @@ abbrev μ-loop : tie.MeasureT-loop
 loop-holds : tie.Need-loop-holds Inv-loop μ-loop
 loop-holds c = search needs
 
-mul-with-word : tie.Need-mul-with-word Inv-loop μ-loop
-mul-with-word c = search needs
+mul-bits-of : tie.Need-mul-bits-of Inv-loop μ-loop
+mul-bits-of c = search needs
 
-shared-slice-read-with-word : tie.Need-shared-slice-read-with-word Inv-loop μ-loop
-shared-slice-read-with-word c = search needs
+shared-slice-read-bits-of : tie.Need-shared-slice-read-bits-of Inv-loop μ-loop
+shared-slice-read-bits-of c = search needs
+
+bits-of-requires : tie.Need-bits-of-requires Inv-loop μ-loop
+bits-of-requires c κs = search needs
 
 with-word-requires : tie.Need-with-word-requires Inv-loop μ-loop
 with-word-requires c κs = search needs
@@ -36,15 +39,16 @@ loop-again c = search needs
 returns : tie.Need-returns Inv-loop μ-loop
 returns c = search needs
 
-pub digest-numbers-spec : {M : Type 1} → statement M
-digest-numbers-spec =
+pub digest-floats-spec : {M : Type 1} → statement M
+digest-floats-spec =
     tie.close
     (tie.spec
     Inv-loop
     μ-loop
     loop-holds
-    mul-with-word
-    shared-slice-read-with-word
+    mul-bits-of
+    shared-slice-read-bits-of
+    bits-of-requires
     with-word-requires
     add-i
     loop-less

@@ -1,5 +1,4 @@
-// Builds trees of up to 4,096 triangles that are made by a rule of numbers, and prints their counts
-// and digests. The file `stdout` beside src/ is made of the Rust's trees, by tests/oracle/large.rs.
+// Trees of up to 4,096 triangles that are made by a rule of numbers, as counts and digests.
 use aabb_build::build::Built;
 
 struct Case {
@@ -143,7 +142,7 @@ fn run_both(triangles: usize, leaf_minimum: usize, maximum_depth: usize, range: 
     });
 }
 
-fn main() {
+pub fn put_all() {
     run_both(4096, 1, 64, 1000);
     run_both(4096, 10, 40, 100000);
     run_both(4095, 1, 12, 15);

@@ -1,12 +1,12 @@
--- `replay_large::fill` is safe and ends: the list keeps its length.
+-- `build_run::large::fill` is safe and ends: the list keeps its length.
 -- Assumes nothing.
 use Prim.Native.Nat.{_≤_, _-_}
 use mathlib.Core.Path.{_≡_}
 use native.Mathlib.Omega.{arith}
 use lib.ListN.{length, length-set}
 use borrow.Author.Needs.{needs}
-use Rattle.replay_large.proofs.fill.Statement.{statement}
-use Rattle.replay_large.proofs.fill.Tie as tie
+use Rattle.build_run.proofs.large.fill.Statement.{statement}
+use Rattle.build_run.proofs.large.fill.Tie as tie
 
 abbrev Inv-loop : tie.InvT-loop
 Inv-loop triangles₀ range state₀ i₀ triangles state i = (i ≤ length triangles) × (length triangles ≡ length triangles₀)

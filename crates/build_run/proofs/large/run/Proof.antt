@@ -1,10 +1,10 @@
--- `replay_large::run` is safe and ends: each part lies in its list.
+-- `build_run::large::run` is safe and ends: each part lies in its list.
 -- Assumes nothing.
 use native.Mathlib.Omega.{arith}
 use lib.ListN.{length-take}
 use borrow.Author.Needs.{needs}
-use Rattle.replay_large.proofs.run.Statement.{statement}
-use Rattle.replay_large.proofs.run.Tie as tie
+use Rattle.build_run.proofs.large.run.Statement.{statement}
+use Rattle.build_run.proofs.large.run.Tie as tie
 
 put-case-requires : tie.Need-put-case-requires
 put-case-requires c κs = search needs
