@@ -1,23 +1,63 @@
 -- `host_build::build_list` meets its contract: the lists that are lent to the build have room, so what is left is to put what it made.
 -- Assumes nothing.
 use denote.Ref.{now}
-use mathlib.Core.Path.{refl, sym}
+use mathlib.Core.Path.{_≡_, _∙_, sym}
+use mathlib.Core.List.{List}
+use Prim.Native.Nat.{ℕ, _≤_}
 use native.Mathlib.Omega.{arith}
+use lib.Ieee.{Float, binary32, ofBits}
+use lib.ListN.{length, replicate, length-replicate}
 use lib.Seq.{length-take-le}
+use Rattle.spec_build.specs.Build.{BuildIs}
+use Rattle.verdicts.specs.declared.settings.Settings.{Settings}
 use Rattle.verdicts.specs.Values.{asSettings}
+use Rattle.aabb_build.specs.declared.build.Built.{Built}
+use Rattle.aabb_build.specs.Values.{asBuilt}
 use Rattle.spec_host.proofs.Build.{put-nothing, put-as, build-refused, build-told, listed-few, listed-puttable, listed-bytes, listed-size, listed-refusal}
 use borrow.Author.Needs.{needs}
 use Rattle.host_build.proofs.build.build_list.Statement.{statement}
 use Rattle.host_build.proofs.build.build_list.Tie as tie
 
+-- the lists that are lent. Their lengths are had by the law of `replicate`: computed, each costs by its length
+abbrev lent-order : List ℕ
+lent-order = replicate 4096 0
+
+abbrev lent-links : List ℕ
+lent-links = replicate 24573 0
+
+abbrev lent-boxes : List Float
+lent-boxes = replicate 49146 (ofBits binary32 0)
+
+order-long : length lent-order ≡ 4096
+order-long = length-replicate {A = ℕ} 4096 0
+
+links-long : length lent-links ≡ 24573
+links-long = length-replicate {A = ℕ} 24573 0
+
+boxes-long : length lent-boxes ≡ 49146
+boxes-long = length-replicate 49146 (ofBits binary32 0)
+
+-- a count of no more than the order's length is within it
+within : {count n long : ℕ} → count ≡ n → long ≡ 4096 → n ≤ 4096 → count ≤ long
+within e l h = omega arith
+
+-- what the build did with them, by the arm that was taken: written out once, and over any lists where it is rewritten, since each look at it counts those that are lent
+as-told : (t : List Float) (s : Settings) (order links : List ℕ) (boxes : List Float) {order′ links′ : List ℕ} {boxes′ : List Float} {r told : Built} → r ≡ told
+    → BuildIs binary32 t (asSettings s) order links boxes (asBuilt r) order′ links′ boxes′ → BuildIs binary32 t (asSettings s) order links boxes (asBuilt told) order′ links′ boxes′
+as-told t s order links boxes e b = rw e at b
+
+built : (c : tie.After-build) {told : Built} → c .build .result ≡ told
+    → BuildIs binary32 (now (c .before .before .before .before .before .before .args .triangles)) (asSettings (c .before .before .before .before .before .before .args .settings)) lent-order lent-links lent-boxes (asBuilt told) (c .build .last .1 .1 .1 .1 .0) (c .build .last .1 .1 .1 .1 .1 .0) (c .build .last .1 .1 .1 .1 .1 .1 .0)
+built c e = as-told (now (c .before .before .before .before .before .before .args .triangles)) (c .before .before .before .before .before .before .args .settings) lent-order lent-links lent-boxes e (c .build .ensures)
+
 slice-aggregate-build : tie.Need-slice-aggregate-build
-slice-aggregate-build c = search needs
+slice-aggregate-build c = sym order-long
 
 slice-aggregate-build-2 : tie.Need-slice-aggregate-build-2
-slice-aggregate-build-2 c = search needs
+slice-aggregate-build-2 c = sym links-long
 
 slice-aggregate-build-3 : tie.Need-slice-aggregate-build-3
-slice-aggregate-build-3 c = search needs
+slice-aggregate-build-3 c = sym boxes-long
 
 build-requires : tie.Need-build-requires
 build-requires c κs = search needs
@@ -28,7 +68,7 @@ enum-known-built c = search needs
 tell-refusal-requires : tie.Need-tell-refusal-requires
 tell-refusal-requires c κs =
     let a = c .before .before .before .before .before .before .before .before .before .before .before .before .args in
-    build-told (now (a .triangles)) (asSettings (a .settings)) _ _ _ refl refl refl (rw (c .before .built .given .1) at (c .before .before .before .before .before .before .build .ensures))
+    build-told (now (a .triangles)) (asSettings (a .settings)) lent-order lent-links lent-boxes order-long links-long boxes-long (built (c .before .before .before .before .before .before) (c .before .built .given .1))
 
 enum-known-built-2 : tie.Need-enum-known-built-2
 enum-known-built-2 c = search needs
@@ -39,28 +79,26 @@ triangle-count-requires c κs = search needs
 array-share-prefix-order : tie.Need-array-share-prefix-order
 array-share-prefix-order c =
     let a = c .before .before .before .before .before .before .before .before .before .before .before .before .before .args in
-    omega (arith, c .triangle-count .ensures, c .before .before .before .before .before .before .order2 .given, listed-few (now (a .triangles)) (asSettings (a .settings)) _ _ _ refl refl refl (rw (c .before .before .built2 .given .1) at (c .before .before .before .before .before .before .before .build .ensures)))
+    within (c .triangle-count .ensures) (c .before .before .before .before .before .before .order2 .given ∙ order-long) (listed-few (now (a .triangles)) (asSettings (a .settings)) lent-order lent-links lent-boxes order-long links-long boxes-long (built (c .before .before .before .before .before .before .before) (c .before .before .built2 .given .1)))
 
 slice-aggregate-put-built : tie.Need-slice-aggregate-put-built
-slice-aggregate-put-built c =
-    let a = c .before .before .before .before .before .before .before .before .before .before .before .before .before .before .args in
-    sym (length-take-le _ _ (omega (arith, c .before .triangle-count .ensures, c .before .before .before .before .before .before .before .order2 .given, listed-few (now (a .triangles)) (asSettings (a .settings)) _ _ _ refl refl refl (rw (c .before .before .before .built2 .given .1) at (c .before .before .before .before .before .before .before .before .build .ensures)))))
+slice-aggregate-put-built c = sym (length-take-le _ _ (array-share-prefix-order (c .before)))
 
 slice-aggregate-put-built-2 : tie.Need-slice-aggregate-put-built-2
-slice-aggregate-put-built-2 c = search needs
+slice-aggregate-put-built-2 c = sym (c .before .before .before .before .before .before .before .links2 .given ∙ links-long)
 
 slice-aggregate-put-built-3 : tie.Need-slice-aggregate-put-built-3
-slice-aggregate-put-built-3 c = search needs
+slice-aggregate-put-built-3 c = sym (c .before .before .before .before .before .before .before .boxes2 .given ∙ boxes-long)
 
 put-built-requires : tie.Need-put-built-requires
 put-built-requires c κs =
     let a = c .before .before .before .before .before .before .before .before .before .before .before .before .before .before .before .before .before .args in
-    rw (c .before .before .before .before .triangle-count .ensures) (listed-puttable (now (a .triangles)) (asSettings (a .settings)) _ _ _ refl refl refl (rw (c .before .before .before .before .before .before .built2 .given .1) at (c .before .before .before .before .before .before .before .before .before .before .before .build .ensures)))
+    rw (c .before .before .before .before .triangle-count .ensures) (listed-puttable (now (a .triangles)) (asSettings (a .settings)) lent-order lent-links lent-boxes order-long links-long boxes-long (built (c .before .before .before .before .before .before .before .before .before .before .before) (c .before .before .before .before .before .before .built2 .given .1)))
 
 returns : tie.Need-returns
 returns c =
     let a = c .before .before .before .before .before .before .before .before .before .before .before .before .before .args in
-    put-nothing (build-refused (now (a .triangles)) (asSettings (a .settings)) _ _ _ refl refl refl (rw (c .before .before .built .given .1) at (c .before .before .before .before .before .before .before .build .ensures)) _) (c .tell-refusal .ensures)
+    put-nothing (build-refused (now (a .triangles)) (asSettings (a .settings)) lent-order lent-links lent-boxes order-long links-long boxes-long (built (c .before .before .before .before .before .before .before) (c .before .before .built .given .1)) _) (c .tell-refusal .ensures)
 
 same-length : tie.Need-same-length
 same-length c = search needs
@@ -70,8 +108,8 @@ returns-2 c =
     let a = c .before .before .before .before .before .before .before .before .before .before .before .before .before .before .before .before .before .before .before .before .args in
     let t = now (a .triangles) in
     let s = asSettings (a .settings) in
-    let b = rw (c .before .before .before .before .before .before .before .before .before .built2 .given .1) at (c .before .before .before .before .before .before .before .before .before .before .before .before .before .before .build .ensures) in
-    put-as (listed-refusal t s _ _ _ refl refl refl b _) (listed-bytes t s _ _ _ refl refl refl b) (listed-size t s _ _ _ refl refl refl b) (rw (c .before .before .before .before .before .before .before .triangle-count .ensures) at (c .before .before .put-built .ensures))
+    let b = built (c .before .before .before .before .before .before .before .before .before .before .before .before .before .before) (c .before .before .before .before .before .before .before .before .before .built2 .given .1) in
+    put-as (listed-refusal t s lent-order lent-links lent-boxes order-long links-long boxes-long b _) (listed-bytes t s lent-order lent-links lent-boxes order-long links-long boxes-long b) (listed-size t s lent-order lent-links lent-boxes order-long links-long boxes-long b) (rw (c .before .before .before .before .before .before .before .triangle-count .ensures) at (c .before .before .put-built .ensures))
 
 pub build-list-spec : {M : Type 1} → statement M
 build-list-spec =
