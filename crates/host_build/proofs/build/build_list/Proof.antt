@@ -79,16 +79,16 @@ triangle-count-requires c κs = search needs
 array-share-prefix-order : tie.Need-array-share-prefix-order
 array-share-prefix-order c =
     let a = c .before .before .before .before .before .before .before .before .before .before .before .before .before .args in
-    within (c .triangle-count .ensures) (c .before .before .before .before .before .before .order2 .given ∙ order-long) (listed-few (now (a .triangles)) (asSettings (a .settings)) lent-order lent-links lent-boxes order-long links-long boxes-long (built (c .before .before .before .before .before .before .before) (c .before .before .built2 .given .1)))
+    within (c .triangle-count .ensures) (c .before .before .before .before .before .before .order2 .given) (listed-few (now (a .triangles)) (asSettings (a .settings)) lent-order lent-links lent-boxes order-long links-long boxes-long (built (c .before .before .before .before .before .before .before) (c .before .before .built2 .given .1)))
 
 slice-aggregate-put-built : tie.Need-slice-aggregate-put-built
 slice-aggregate-put-built c = sym (length-take-le _ _ (array-share-prefix-order (c .before)))
 
 slice-aggregate-put-built-2 : tie.Need-slice-aggregate-put-built-2
-slice-aggregate-put-built-2 c = sym (c .before .before .before .before .before .before .before .links2 .given ∙ links-long)
+slice-aggregate-put-built-2 c = sym (c .before .before .before .before .before .before .before .links2 .given)
 
 slice-aggregate-put-built-3 : tie.Need-slice-aggregate-put-built-3
-slice-aggregate-put-built-3 c = sym (c .before .before .before .before .before .before .before .boxes2 .given ∙ boxes-long)
+slice-aggregate-put-built-3 c = sym (c .before .before .before .before .before .before .before .boxes2 .given)
 
 put-built-requires : tie.Need-put-built-requires
 put-built-requires c κs =
