@@ -4,8 +4,7 @@ use Prim.Native.Nat.{_-_}
 use mathlib.Core.List.{[], _∷_}
 use native.Mathlib.Omega.{arith}
 use Rattle.spec_tables.proofs.Runs.{Run, run-start}
-use Rattle.spec_tables.proofs.Stores.{run-store-front}
-use Rattle.case_words.proofs.Filled.{filled}
+use Rattle.spec_tables.proofs.Stores.{run-store-front, run-whole}
 use Rattle.replay_angles.specs.Words.{numberAt, place, numbersFrom}
 use borrow.Author.Needs.{needs}
 use Rattle.replay_angles.proofs.words.numbers_from.Statement.{statement}
@@ -43,7 +42,7 @@ loop-again c = run-store-front _ 720 _ _ _ _ (omega arith) (c .before .before .l
 
 returns : tie.Need-returns Inv-loop μ-loop
 unfolding numbersFrom
-returns c = (filled _ _ _ _ (c .loop-test .left) (c .before .loop .inv), c .before .loop .inv .long)
+returns c = (run-whole _ _ _ _ (c .loop-test .left) (c .before .loop .inv), c .before .loop .inv .long)
 
 pub numbers-from-spec : {M : Type 1} → statement M
 numbers-from-spec =
