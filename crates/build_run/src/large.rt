@@ -142,7 +142,7 @@ fn run_both(triangles: usize, leaf_minimum: usize, maximum_depth: usize, range: 
     });
 }
 
-pub fn put_all() {
+pub(crate) fn put_all() {
     run_both(4096, 1, 64, 1000);
     run_both(4096, 10, 40, 100000);
     run_both(4095, 1, 12, 15);

@@ -81,7 +81,7 @@ fn put_short_boxes() {
     put_built(built_in(&mut order, &mut links, &mut boxes));
 }
 
-pub fn put_all() {
+pub(crate) fn put_all() {
     put_room();
     put_short_order();
     put_short_links();
