@@ -1,5 +1,6 @@
 -- Keeping the smallest squared distance that counts, the lower number among equals, obeys the laws of `Scan`: what is kept has a number for its distance, triangles may be measured in any
--- order, and a box is passed over only where nothing in it would be kept. Assumes nothing.
+-- order, and a box is passed over only where nothing in it would be kept. What is kept only comes nearer, so a box that is passed over stays
+-- so. Assumes nothing.
 use mathlib.Core.Path.{_≡_, refl, sym, ap, subst, _∙_}
 use mathlib.Core.Bool.{Bool, true, false, not, _&&_, _||_, true≢false, false≢true}
 use mathlib.Core.Logic.{_⊎_, inl, inr, ⊎-elim}
@@ -63,6 +64,12 @@ unfolding Less
 to-better h k hn kn (inl b) = simp b
 to-better h k hn kn (inr b) = rw (equal-is (h .squared) (k .squared) hn kn) (simp (b .0, b .1, lt-ltb (h .triangle) (k .triangle) (b .2)))
 
+-- so k is not smaller than h
+no-farther : (h k : Hit) → Less h k → lt (k .squared) (h .squared) ≡ false
+unfolding Less
+no-farther h k (inl b) = less-asymmetric _ _ b
+no-farther h k (inr b) = b .1
+
 less-trans : (h k j : Hit) → Number (h .squared) → Number (k .squared) → Number (j .squared) → Less h k → Less k j → Less h j
 unfolding Less
 less-trans h k j hn kn jn (inl a) (inl b) =
@@ -112,6 +119,39 @@ module _ (limit : Float) (hit : ℕ → Hit) (named : (t : ℕ) → hit t .trian
   is-better : (h : Hit) (k : Answer) → counts limit (h .squared) ≡ true → better h k ≡ true → offered limit h k ≡ found h
   unfolding offered
   is-better h k c e = simp (c, e)
+
+  -- what is passed over once is passed over whatever is offered: what is kept only comes nearer
+  pub still-passed : (d : Float) (t : ℕ) (k : Answer) → isPassed limit d k ≡ true → isPassed limit d (took t k) ≡ true
+  unfolding isPassed
+  still-passed d t k over =
+      ⊎-elim
+      (λ c. ⊎-elim
+      (λ b. subst Over (sym (is-better (hit t) k c b)) (nearer-kept k c b over))
+      (λ b. subst Over (sym (not-better (hit t) k b)) over)
+      (either (better (hit t) k)))
+      (λ c. subst Over (sym (not-counted (hit t) k c)) over)
+      (either (counts limit (hit t .squared)))
+    where
+      Over : Answer → Type 0
+      Over j = isPassed limit d j ≡ true
+
+      -- what is better is no farther, so what is above the one is above the other
+      still-above : (j : Hit) → Number (hit t .squared) → better (hit t) (found j) ≡ true → lt (j .squared) d ≡ true
+          → lt (hit t .squared) d ≡ true
+      still-above j n b a =
+          ⊎-elim
+          (λ c. both-ways (lt (j .squared) (hit t .squared)) c (no-farther (hit t) j (of-better (hit t) j n (less-number (j .squared) d a) b)))
+          (λ c. c)
+          (less-between (j .squared) (hit t .squared) d n a)
+
+      by-count : (x : Bool) (j : Answer) → counts limit (hit t .squared) ≡ true → better (hit t) j ≡ true → (not x || above d j) ≡ true
+          → (not x || lt (hit t .squared) d) ≡ true
+      by-count false j c b o = refl
+      by-count true nothing c b o = absurd (false≢true o)
+      by-count true (found j) c b o = still-above j (counts-number limit (hit t .squared) c) b o
+
+      nearer-kept : (j : Answer) → counts limit (hit t .squared) ≡ true → better (hit t) j ≡ true → Over j → Over (found (hit t))
+      nearer-kept j c b o = by-count (counts limit d) j c b o
 
   pub stays : (t : ℕ) (k : Answer) → Good k → Good (took t k)
   stays t k g =

@@ -1,5 +1,5 @@
 -- One step of a walk, over plain lists: what each call asks, and what its answer makes of the node's or the pair's. The proofs of the cycles of calls only apply these. Assumes nothing.
-use mathlib.Core.Path.{_≡_, sym, ap, _∙_}
+use mathlib.Core.Path.{_≡_, refl, sym, ap, _∙_}
 use mathlib.Core.Bool.{Bool, true, false}
 use mathlib.Core.List.{List}
 use Prim.Native.Nat.{ℕ, suc, _+_, _-_, _^_, _≤_, _<_}
@@ -19,9 +19,10 @@ use Rattle.spec_tree.proofs.Standing.{part-length}
 use Rattle.spec_tree.proofs.Trees.{levels-least}
 use Rattle.spec_search.specs.Walk.{Search, Sought, isLeaf, tookAll, nodeWalk, pairWalk, rootWalk}
 use Rattle.spec_search.specs.Answers.{Answer}
-use Rattle.spec_search.specs.Sure.{isPassed, nodeSquared, passedSure, rightNearer}
+use Rattle.spec_search.specs.Sure.{isPassed, nodeSquared, passedSure, rightNearer, hit, tookSure}
 use Rattle.spec_search.specs.Safe.{NodeSafe, PairSafe, LinksAre}
-use Rattle.spec_search.proofs.Walked.{walk-leaf, walk-branch, root-leaf, root-branch, pair-right, pair-left, counted-most}
+use Rattle.spec_search.proofs.Smallest.{still-passed}
+use Rattle.spec_search.proofs.Walked.{walk-passed, walk-leaf, walk-branch, root-leaf, root-branch, pair-right, pair-left, walk-keeps, counted-most}
 
 -- a part of a list of triangle numbers is one
 pub part-below : (n : ℕ) (order : List ℕ) (first last : ℕ) → first ≤ last → last ≤ length order → EntriesBelow n order → EntriesBelow n (part order first (last - first))
@@ -133,6 +134,23 @@ module _ {S : Type 0} (how : Search S) (order links : List ℕ) (d l r : ℕ) (s
   pub left-answers : how .rightFirst l r ≡ false → first ≡ nodeWalk how order links d l s → next ≡ nodeWalk how order links d r first → next ≡ pairWalk how order links d l r s
   left-answers e a b = b ∙ ap (nodeWalk how order links d r) a ∙ sym (pair-left how order links d l r s e)
 
+-- ---- a pair whose farther child is passed over before the nearer one is walked: where what is passed over stays so, nothing is left
+-- to do after the nearer one
+module _ {S : Type 0} (how : Search S) (stays : (node t : ℕ) (k : S) → how .passed node k ≡ true → how .passed node (how .took t k) ≡ true)
+    (order links : List ℕ) (d l r : ℕ) (s next : Sought S) where
+  passed-after : (near far : ℕ) → how .passed far (s .best) ≡ true
+      → nodeWalk how order links d near s ≡ nodeWalk how order links d far (nodeWalk how order links d near s)
+  passed-after near far h =
+      sym (walk-passed how order links d far _ (walk-keeps how order links (λ (k : S). how .passed far k ≡ true) (stays far) d near s h))
+
+  pub right-alone : how .rightFirst l r ≡ true → how .passed l (s .best) ≡ true
+      → next ≡ nodeWalk how order links d r s → next ≡ pairWalk how order links d l r s
+  right-alone e h a = a ∙ passed-after r l h ∙ sym (pair-right how order links d l r s e)
+
+  pub left-alone : how .rightFirst l r ≡ false → how .passed r (s .best) ≡ true
+      → next ≡ nodeWalk how order links d l s → next ≡ pairWalk how order links d l r s
+  left-alone e h a = a ∙ passed-after l r h ∙ sym (pair-left how order links d l r s e)
+
 -- ---- what the tests of the sure walk say, of distances that were measured
 module _ (f : Format) (boxes : List Float) (p : Point) where
   pub passed-here : (limit squared : Float) (node : ℕ) (k : Answer) (b flag : Bool) → squared ≡ nodeSquared f boxes p node → b ≡ isPassed limit squared k → b ≡ flag → passedSure f boxes p limit node k ≡ flag
@@ -142,3 +160,9 @@ module _ (f : Format) (boxes : List Float) (p : Point) where
   pub right-first-here : (l r : ℕ) (toLeft toRight : Float) (flag : Bool) → toLeft ≡ nodeSquared f boxes p l → toRight ≡ nodeSquared f boxes p r → lt toRight toLeft ≡ flag → rightNearer f boxes p l r ≡ flag
   unfolding rightNearer
   right-first-here l r toLeft toRight flag s t h = rw (← s, ← t) h
+
+-- The sure search is one in which what is passed over stays so.
+pub sure-stays : (f : Format) (triangles boxes : List Float) (p : Point) (limit : Float) (node t : ℕ) (k : Answer)
+    → passedSure f boxes p limit node k ≡ true → passedSure f boxes p limit node (tookSure f triangles p limit t k) ≡ true
+unfolding passedSure tookSure hit
+sure-stays f triangles boxes p limit node t k = still-passed limit (hit f triangles p) (λ u. refl) (nodeSquared f boxes p node) t k

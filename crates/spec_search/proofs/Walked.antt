@@ -1,4 +1,5 @@
--- The walk's equations, one for each way through a node and a pair, and how many triangles it measures at most: those of the tree that hangs at the node. Assumes nothing.
+-- The walk's equations, one for each way through a node and a pair; what a walk keeps true; and how many triangles it measures at most:
+-- those of the tree that hangs at the node. Assumes nothing.
 use mathlib.Core.Path.{_≡_, refl, _∙_}
 use mathlib.Core.Bool.{Bool, true, false}
 use mathlib.Core.List.{List, [], _∷_}
@@ -55,6 +56,41 @@ module _ {S : Type 0} (how : Search S) (order links : List ℕ) where
   pub pair-left : (d l r : ℕ) (s : Sought S) → how .rightFirst l r ≡ false → pairWalk how order links d l r s ≡ nodeWalk how order links d r (nodeWalk how order links d l s)
   unfolding pairWalk
   pair-left d l r s e = simp e
+
+-- ---- what measuring a triangle keeps true of what is kept, a walk keeps true
+module _ {S : Type 0} (how : Search S) (order links : List ℕ) (Holds : S → Type 0) (keeps : (t : ℕ) (k : S) → Holds k → Holds (how .took t k)) where
+  all-keep : (ts : List ℕ) (s : Sought S) → Holds (s .best) → Holds (tookAll (how .took) ts s .best)
+  unfolding tookAll
+  all-keep [] s h = h
+  all-keep (t ∷ ts) s h = all-keep ts (tookOne (how .took) t s) (keeps t (s .best) h)
+
+  -- a walk of two nodes that keeps it true
+  PairKeeps : (ℕ → ℕ → Sought S → Sought S) → Type 0
+  PairKeeps pair = (l r : ℕ) (s : Sought S) → Holds (s .best) → Holds (pair l r s .best)
+
+  turn-keeps : (first : Bool) (walk : ℕ → Sought S → Sought S) → ((n : ℕ) (s : Sought S) → Holds (s .best) → Holds (walk n s .best))
+      → (l r : ℕ) (s : Sought S) → Holds (s .best) → Holds (inTurn first walk l r s .best)
+  turn-keeps true walk w l r s h = w l (walk r s) (w r s h)
+  turn-keeps false walk w l r s h = w r (walk l s) (w l s h)
+
+  looked-keeps : (leaf? : Bool) (pair : ℕ → ℕ → Sought S → Sought S) (node : ℕ) (s : Sought S) → PairKeeps pair
+      → Holds (s .best) → Holds (lookedAt how order links leaf? pair node s .best)
+  unfolding PairKeeps
+  looked-keeps true pair node s w h = all-keep (leafPart order links node) s h
+  looked-keeps false pair node s w h = w (leftAt links node) (rightAt links node) s h
+
+  visited-keeps : (over : Bool) (pair : ℕ → ℕ → Sought S → Sought S) (node : ℕ) (s : Sought S) → PairKeeps pair
+      → Holds (s .best) → Holds (visited how order links over pair node s .best)
+  visited-keeps true pair node s w h = h
+  visited-keeps false pair node s w h = looked-keeps (isLeaf links node) pair node s w h
+
+  -- so that a walk need not be followed to know that what held before it holds after it
+  pub walk-keeps : (d node : ℕ) (s : Sought S) → Holds (s .best) → Holds (nodeWalk how order links d node s .best)
+  unfolding nodeWalk PairKeeps
+  walk-keeps zero node s h = visited-keeps (how .passed node (s .best)) (λ l r s′. s′) node s (λ l r s′ k. k) h
+  walk-keeps (suc d) node s h =
+      visited-keeps (how .passed node (s .best)) (λ l r s′. inTurn (how .rightFirst l r) (nodeWalk how order links d) l r s′) node s
+      (λ l r s′ k. turn-keeps (how .rightFirst l r) (nodeWalk how order links d) (walk-keeps d) l r s′ k) h
 
 -- ---- the kind of the node at which a tree hangs
 module _ (boxAt : ℕ → Box) (order links : List ℕ) (boxes : List Float) (node : ℕ) where
