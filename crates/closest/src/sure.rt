@@ -1,5 +1,6 @@
 // The sure query's walk: the nearer child first, a box passed over where it does not count or is above
-// the best so far. `asked` is the point and the limit squared.
+// the best so far. `asked` is the point and the limit squared. The lists are lent by a reference to
+// each: that is one word, handed on as it is, where a list's own reference is copied at each call.
 ghost use mathlib.Core.Path.{_≡_};
 ghost use lib.Ieee.{binary32};
 ghost use Prim.Native.Nat.{_+_, _*_, _≤_};
@@ -18,24 +19,23 @@ use answers::kept::point_of;
 use leaf_hits::measure_leaf;
 use node_links::links_of;
 use tree_lists::nodes::node_box;
-use vec3::Vec3;
 use verdicts::limits;
 
-// The squared distance from p to a node's box.
-fn node_squared(boxes: &[f32], node: usize, p: Vec3) -> f32
+// The squared distance from the point to a node's box.
+fn node_squared(boxes: &[f32], node: usize, asked: &[f32; 4]) -> f32
     requires { ⌜ 6 * node + 6 ≤ length (now boxes) ⌝ }
-    ensures { λ r. ⌜ r ≡ Sure.nodeSquared binary32 (now (boxes .entry)) (Shapes.asPoint p) node ⌝ }
+    ensures { λ r. ⌜ r ≡ Sure.nodeSquared binary32 (now (boxes .entry)) (Values.pointOf (now (asked .entry))) node ⌝ }
 {
-    node_box(boxes, node).held_squared(p)
+    node_box(boxes, node).held_squared(point_of(asked))
 }
 
 // Looks at a node whose box is at this squared distance, with `depth` levels of branches left to
 // open.
 pub fn node_walk(
-    triangles: &[f32],
-    order: &[u32],
-    links: &[u32],
-    boxes: &[f32],
+    triangles: &&[f32],
+    order: &&[u32],
+    links: &&[u32],
+    boxes: &&[f32],
     asked: &[f32; 4],
     depth: usize,
     node: usize,
@@ -44,18 +44,18 @@ pub fn node_walk(
     best: &mut [f32; 4],
     number: &mut u32,
 ) -> usize
-    requires { ⌜ Safe.NodeSafe (now triangles) (now order) (now links) (now boxes) depth node measured ⌝ }
-    requires { ⌜ squared ≡ Sure.nodeSquared binary32 (now boxes) (Values.pointOf (now asked)) node ⌝ }
-    ensures { λ r. ⌜ Values.soughtOf (now (best .exit)) (now (number .exit)) r ≡ Walk.nodeWalk (Sure.sureSearch binary32 (now (triangles .entry)) (now (boxes .entry)) (Values.pointOf (now (asked .entry))) (Values.fourthOf (now (asked .entry)))) (now (order .entry)) (now (links .entry)) depth node (Values.soughtOf (now (best .entry)) (now (number .entry)) measured) ⌝ }
+    requires { ⌜ Safe.NodeSafe (now (now triangles)) (now (now order)) (now (now links)) (now (now boxes)) depth node measured ⌝ }
+    requires { ⌜ squared ≡ Sure.nodeSquared binary32 (now (now boxes)) (Values.pointOf (now asked)) node ⌝ }
+    ensures { λ r. ⌜ Values.soughtOf (now (best .exit)) (now (number .exit)) r ≡ Walk.nodeWalk (Sure.sureSearch binary32 (now (now (triangles .entry))) (now (now (boxes .entry))) (Values.pointOf (now (asked .entry))) (Values.fourthOf (now (asked .entry)))) (now (now (order .entry))) (now (now (links .entry))) depth node (Values.soughtOf (now (best .entry)) (now (number .entry)) measured) ⌝ }
 {
     if is_passed(asked[3], squared, best, *number) {
         return measured;
     }
-    let here = links_of(links, node);
+    let here = links_of(*links, node);
     if here.kind == 1 {
         return measure_leaf(
-            triangles,
-            order,
+            *triangles,
+            *order,
             here.left,
             here.right,
             asked,
@@ -81,13 +81,14 @@ pub fn node_walk(
 }
 
 // Looks at two children, the nearer box first and the left one among equals. Each box is measured
-// here, once, and its squared distance handed down. The farther box is mostly passed over by then: a
-// test here is cheaper than a call.
+// here, once, and its squared distance handed down. Where the farther box is passed over before the
+// nearer child is walked, as it mostly is, it stays so, since what is kept only comes nearer: then the
+// nearer child is all that is left, and its walk is a last step, which needs no frame of its own.
 pub fn pair_walk(
-    triangles: &[f32],
-    order: &[u32],
-    links: &[u32],
-    boxes: &[f32],
+    triangles: &&[f32],
+    order: &&[u32],
+    links: &&[u32],
+    boxes: &&[f32],
     asked: &[f32; 4],
     depth: usize,
     left: usize,
@@ -96,13 +97,27 @@ pub fn pair_walk(
     best: &mut [f32; 4],
     number: &mut u32,
 ) -> usize
-    requires { ⌜ Safe.PairSafe (now triangles) (now order) (now links) (now boxes) depth left right measured ⌝ }
-    ensures { λ r. ⌜ Values.soughtOf (now (best .exit)) (now (number .exit)) r ≡ Walk.pairWalk (Sure.sureSearch binary32 (now (triangles .entry)) (now (boxes .entry)) (Values.pointOf (now (asked .entry))) (Values.fourthOf (now (asked .entry)))) (now (order .entry)) (now (links .entry)) depth left right (Values.soughtOf (now (best .entry)) (now (number .entry)) measured) ⌝ }
+    requires { ⌜ Safe.PairSafe (now (now triangles)) (now (now order)) (now (now links)) (now (now boxes)) depth left right measured ⌝ }
+    ensures { λ r. ⌜ Values.soughtOf (now (best .exit)) (now (number .exit)) r ≡ Walk.pairWalk (Sure.sureSearch binary32 (now (now (triangles .entry))) (now (now (boxes .entry))) (Values.pointOf (now (asked .entry))) (Values.fourthOf (now (asked .entry)))) (now (now (order .entry))) (now (now (links .entry))) depth left right (Values.soughtOf (now (best .entry)) (now (number .entry)) measured) ⌝ }
 {
-    let p = point_of(asked);
-    let to_left = node_squared(boxes, left, p);
-    let to_right = node_squared(boxes, right, p);
+    let to_left = node_squared(*boxes, left, asked);
+    let to_right = node_squared(*boxes, right, asked);
     if to_right < to_left {
+        if is_passed(asked[3], to_left, best, *number) {
+            return node_walk(
+                triangles,
+                order,
+                links,
+                boxes,
+                asked,
+                depth,
+                right,
+                to_right,
+                measured,
+                best,
+                number,
+            );
+        }
         let then = node_walk(
             triangles,
             order,
@@ -116,9 +131,6 @@ pub fn pair_walk(
             best,
             number,
         );
-        if is_passed(asked[3], to_left, best, *number) {
-            return then;
-        }
         return node_walk(
             triangles,
             order,
@@ -129,6 +141,21 @@ pub fn pair_walk(
             left,
             to_left,
             then,
+            best,
+            number,
+        );
+    }
+    if is_passed(asked[3], to_right, best, *number) {
+        return node_walk(
+            triangles,
+            order,
+            links,
+            boxes,
+            asked,
+            depth,
+            left,
+            to_left,
+            measured,
             best,
             number,
         );
@@ -146,9 +173,6 @@ pub fn pair_walk(
         best,
         number,
     );
-    if is_passed(asked[3], to_right, best, *number) {
-        return then;
-    }
     node_walk(
         triangles,
         order,
@@ -177,15 +201,15 @@ pub fn search(
     ensures { λ r. ⌜ Values.asSought r ≡ Sure.sureWalk binary32 (now (triangles .entry)) (now (order .entry)) (now (links .entry)) (now (boxes .entry)) nodes (Shapes.asPoint (asked .point)) (asked .limit) ⌝ }
 {
     let root = nodes - 1;
-    let squared = node_squared(boxes, root, asked.point);
     let four = [asked.point.x, asked.point.y, asked.point.z, asked.limit];
+    let squared = node_squared(boxes, root, &four);
     let mut best = [0.0, 0.0, 0.0, 1.0 / 0.0];
     let mut number: u32 = 0;
     let measured = node_walk(
-        triangles,
-        order,
-        links,
-        boxes,
+        &triangles,
+        &order,
+        &links,
+        &boxes,
         &four,
         limits::DEEPEST - 1,
         root,

@@ -1,9 +1,5 @@
 -- `closest::node_squared` meets its contract: the node's box, measured.
 -- Assumes nothing.
-use mathlib.Core.Path.{ap, _∙_}
-use lib.Ieee.{binary32}
-use Rattle.vec3.specs.Values.{asPoint}
-use Rattle.spec_shapes.specs.Boxes.{Box, heldSquared}
 use Rattle.spec_search.specs.Sure.{nodeSquared}
 use borrow.Author.Needs.{needs}
 use Rattle.closest.proofs.sure.node_squared.Statement.{statement}
@@ -12,12 +8,15 @@ use Rattle.closest.proofs.sure.node_squared.Tie as tie
 node-box-requires : tie.Need-node-box-requires
 node-box-requires c κs = search needs
 
+point-of-requires : tie.Need-point-of-requires
+point-of-requires c κs = search needs
+
 held-squared-requires : tie.Need-held-squared-requires
 held-squared-requires c κs = search needs
 
 returns : tie.Need-returns
 unfolding nodeSquared
-returns c = c .held-squared .ensures ∙ ap (λ (b : Box). heldSquared binary32 b (asPoint (c .before .before .before .args .p))) (c .before .node-box .ensures)
+returns c = rw (← c .before .before .node-box .ensures, ← c .before .point-of .ensures) (c .held-squared .ensures)
 
 pub node-squared-spec : {M : Type 1} → statement M
-node-squared-spec = tie.close (tie.spec node-box-requires held-squared-requires returns)
+node-squared-spec = tie.close (tie.spec node-box-requires point-of-requires held-squared-requires returns)
