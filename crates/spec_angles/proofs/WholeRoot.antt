@@ -1,11 +1,14 @@
 -- The root of a whole number: cut, digit by digit (`whole-root`), and no other number is (`whole-root-unique`); to the nearest whole number (`nearer-root`), since it is never half way
--- between two. Assumes nothing.
-use mathlib.Core.Path.{_≡_}
+-- between two; and two tests that only the nearest one passes (`tested-nearer`). Assumes nothing.
+use mathlib.Core.Path.{_≡_, sym, _∙_}
 use mathlib.Core.Bool.{Bool, true, false, not, cond}
 use Prim.Native.Nat.{ℕ, zero, suc, _+_, _-_, _*_, _/_, _^_, _≤_, _<_}
 use native.Mathlib.Nat.{lt-of-le-of-lt, lt-of-lt-of-le, pow-suc}
+use native.Mathlib.Numerals.{add-one}
 use native.Mathlib.Omega.{arith}
-use lib.Dec.{T, leb, ltb, leb→le, nleb→lt, ltb→lt, nltb→le}
+use lib.Dec.{T, leb, ltb, leb→le, nleb→lt, ltb→lt, nltb→le, lt→ltb}
+use lib.Arith.{le→nltb}
+use lib.Ieee.Bits.{is-true, is-false}
 use Rattle.spec_angles.specs.Root.{square, digit, wholeRoot, nearer, WholeRoot, Near}
 use Rattle.spec_angles.proofs.Powers.{square-lt, square-reflects}
 
@@ -48,3 +51,28 @@ nearer-between n r = go (ltb r (n - r * r))
     go : (b : Bool) → (r ≤ cond b (r + 1) r) × (cond b (r + 1) r ≤ r + 1)
     go true = omega arith
     go false = omega arith
+
+-- ---- which way the cut root goes
+pub root-below : (n r : ℕ) → r * r ≤ n → n ≤ r * r + r → nearer n r ≡ r
+root-below n r l h = simp (is-false (ltb r (n - r * r)) (le→nltb r (n - r * r) (omega arith)))
+
+pub root-above : (n r : ℕ) → r * r + r < n → nearer n r ≡ r + 1
+root-above n r h = simp (is-true (ltb r (n - r * r)) (lt→ltb r (n - r * r) (omega arith)))
+
+-- A number that passes both tests is the nearest root, however it was come by: g² - g < n ≤ g² + g says of whole numbers that g - 1/2 < √n < g + 1/2.
+pub tested-nearer : (d n g : ℕ) → n < 2 ^ d * 2 ^ d → g * g < n + g → n ≤ g * g + g → g ≡ nearer n (wholeRoot d n)
+tested-nearer d n zero few over under = absurd (omega arith)
+tested-nearer d n (suc q) few over under = go (ltb n (suc q * suc q)) (ltb→lt n (suc q * suc q)) (nltb→le n (suc q * suc q))
+  where
+    cut : WholeRoot n (wholeRoot d n)
+    cut = whole-root d n few
+
+    go : (b : Bool) → (T b → n < suc q * suc q) → (T (not b) → suc q * suc q ≤ n) → suc q ≡ nearer n (wholeRoot d n)
+    go true h k =
+        let below : n < suc q * suc q = h tt in
+        let r : q ≡ wholeRoot d n = whole-root-unique record { low = omega arith; high = omega arith } cut in
+        rw (← r) (sym (add-one q) ∙ sym (root-above n q (omega arith)))
+    go false h k =
+        let above : suc q * suc q ≤ n = k tt in
+        let r : suc q ≡ wholeRoot d n = whole-root-unique record { low = above; high = omega arith } cut in
+        rw (← r) (sym (root-below n (suc q) above under))
