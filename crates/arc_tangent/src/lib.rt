@@ -2,7 +2,7 @@
 ghost use mathlib.Core.Path.{_≡_};
 ghost use Prim.Native.Nat.{_+_, _^_, _≤_, _<_};
 ghost use lib.Ieee.{binary32, round};
-ghost use Rattle.spec_angles.specs.Table.{entry};
+ghost use Rattle.spec_angles.specs.Table.{arcs, entry};
 ghost use Rattle.spec_angles.specs.Angle as Angle;
 
 // The arc tangents of k / 1024, times 2^30, to the nearest whole number, for k from 0 to 1024.
@@ -1041,29 +1041,43 @@ struct Entries {
     to: u64,
 }
 
-// The entry k and the next. A constant array is laid out anew wherever it is named, so both are
-// read from one.
-fn entries_at(k: usize) -> Entries
+// The table. A constant array is laid out anew, entry by entry, wherever it is named: so whoever asks
+// for many angles names it once, here, and lends it to each.
+pub fn arc_table() -> [u32; 1025]
+    ensures { λ r. ⌜ r ≡ arcs ⌝ }
+{
+    ARCS
+}
+
+fn wide(entry: u32) -> u64
+    ensures { λ r. ⌜ r ≡ entry ⌝ }
+{
+    entry as u64
+}
+
+// The entry k and the next.
+fn entries_at(table: &[u32; 1025], k: usize) -> Entries
+    requires { ⌜ now table ≡ arcs ⌝ }
     requires { ⌜ k < 1024 ⌝ }
     ensures { λ r. ⌜ ((r .from) ≡ entry k) × ((r .to) ≡ entry (k + 1)) ⌝ }
 {
-    let arcs = ARCS;
     Entries {
-        from: arcs[k] as u64,
-        to: arcs[k + 1] as u64,
+        from: wide(table[k]),
+        to: wide(table[k + 1]),
     }
 }
 
 // The arc tangent of u / 2^30, in units of 2^-30.
-fn arc_of(u: u64) -> u64
+fn arc_of(table: &[u32; 1025], u: u64) -> u64
+    requires { ⌜ now table ≡ arcs ⌝ }
     requires { ⌜ u ≤ 2 ^ 30 ⌝ }
     ensures { λ r. ⌜ r ≡ Angle.arc u ⌝ }
 {
     let k = (u / 0x100000) as usize;
     if k == 1024 {
-        return entries_at(1023).to;
+        return entries_at(table, 1023).to;
     }
-    let e = entries_at(k);
+    let e = entries_at(table, k);
     e.from + (e.to - e.from) * (u % 0x100000) / 0x100000
 }
 
@@ -1093,11 +1107,12 @@ fn mirrored(turn: u64, back: bool, a: u64) -> u64
 }
 
 // The size of the angle, in units of 2^-30, before it is rounded.
-fn angle_of(n: f32, d: f32) -> u64
+fn angle_of(table: &[u32; 1025], n: f32, d: f32) -> u64
+    requires { ⌜ now table ≡ arcs ⌝ }
     requires { ⌜ Angle.Askable n d ⌝ }
     ensures { λ r. ⌜ r ≡ Angle.angle binary32 n d ⌝ }
 {
-    let arc = arc_of(units_of(ratio_of(n, d)));
+    let arc = arc_of(table, units_of(ratio_of(n, d)));
     let steep = floats::absolute(n) > floats::absolute(d);
     mirrored(3373259426, d < 0.0, mirrored(1686629713, steep, arc))
 }
@@ -1111,20 +1126,31 @@ fn rounded(negative: bool, a: u32) -> f32
 }
 
 // The arc tangent of n / d, in the quadrant of the point (d, n), within 2^-20.
-pub fn arc_tangent(n: f32, d: f32) -> f32
+pub fn arc_tangent(table: &[u32; 1025], n: f32, d: f32) -> f32
+    requires { ⌜ now table ≡ arcs ⌝ }
     requires { ⌜ Angle.Askable n d ⌝ }
     ensures { λ r. ⌜ r ≡ Angle.arcTangent binary32 n d ⌝ }
 {
-    rounded(n < 0.0, angle_of(n, d) as u32)
+    rounded(n < 0.0, angle_of(table, n, d) as u32)
 }
 
-// The arc tangent of n / d where it may be asked for, and no number elsewhere.
-pub fn angle_or_nan(n: f32, d: f32) -> f32
+// The arc tangent of n / d where it may be asked for, and no number elsewhere, by the table that is
+// lent.
+pub fn angle_by(table: &[u32; 1025], n: f32, d: f32) -> f32
+    requires { ⌜ now table ≡ arcs ⌝ }
     ensures { λ r. ⌜ r ≡ Angle.angleOrNan binary32 n d ⌝ }
 {
     if floats::is_finite(n) & floats::is_finite(d) & (n != 0.0) {
-        arc_tangent(n, d)
+        arc_tangent(table, n, d)
     } else {
         0.0 / 0.0
     }
+}
+
+// The same, with a table of its own.
+pub fn angle_or_nan(n: f32, d: f32) -> f32
+    ensures { λ r. ⌜ r ≡ Angle.angleOrNan binary32 n d ⌝ }
+{
+    let table = arc_table();
+    angle_by(&table, n, d)
 }

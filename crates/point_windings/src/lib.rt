@@ -1,11 +1,12 @@
 // The winding numbers about all points: tests 2 to 4, 6 and 8, then four bytes a point.
 use answer_bytes::put_winding_bytes;
+use arc_tangent::arc_table;
 use list_tests::triangles::triangles_refusal;
 use point_bytes::point_bytes_refusal;
 use point_bytes::point_in;
 use verdicts::refusal::Verdict;
 use verdicts::refusal::room_refusal;
-use winding_numbers::winding_number::winding_number;
+use winding_numbers::winding_number::winding_number_by;
 ghost use mathlib.Core.Path.{_≡_};
 ghost use Prim.Native.Nat.{_*_, _/_, _≤_};
 ghost use lib.ListN.{length};
@@ -29,15 +30,17 @@ fn wound_refusal(triangles: &[f32], points: &[u8], room: usize) -> Verdict
     point_bytes_refusal(points)
 }
 
-// The winding number about each point, from the front of the bytes.
+// The winding number about each point, from the front of the bytes. The table of arc tangents is laid
+// out once for all of them.
 fn put_windings(triangles: &[f32], points: &[u8], out: &mut [u8])
     requires { ⌜ 4 * (length (now points) / 12) ≤ length (now out) ⌝ }
     ensures { λ _. ⌜ now (out .exit) ≡ over 0 (windingBytes (now (triangles .entry)) (now (points .entry))) (now (out .entry)) ⌝ }
 {
     let count = points.len() / 12;
+    let table = arc_table();
     let mut k = 0;
     while k < count {
-        let winding = winding_number(triangles, point_in(points, k));
+        let winding = winding_number_by(&table, triangles, point_in(points, k));
         put_winding_bytes(out, 4 * k, winding);
         k += 1;
     }

@@ -2,8 +2,10 @@
 ghost use mathlib.Core.Path.{_≡_};
 ghost use lib.Ieee.{binary32};
 ghost use Rattle.triangle3.specs.Values as Values;
+ghost use Rattle.spec_angles.specs.Table.{arcs};
 ghost use Rattle.spec_angles.specs.Winding as Winding;
-use arc_tangent::angle_or_nan;
+use arc_tangent::angle_by;
+use arc_tangent::arc_table;
 use square_root::root_or_nan;
 use triangle3::Triangle3;
 use vec3::Vec3;
@@ -38,18 +40,20 @@ fn denominator_of(t: Triangle3) -> f32
 }
 
 // The solid angle of a triangle whose corners are directions, of length 1, from the origin.
-fn unit_angle(t: Triangle3) -> f32
+fn unit_angle(table: &[u32; 1025], t: Triangle3) -> f32
+    requires { ⌜ now table ≡ arcs ⌝ }
     ensures { λ r. ⌜ r ≡ Winding.unitAngle binary32 (Values.asTriangle t) ⌝ }
 {
     let numerator = numerator_of(t);
     if numerator == 0.0 {
         return 0.0;
     }
-    angle_or_nan(numerator, denominator_of(t)) * 2.0
+    angle_by(table, numerator, denominator_of(t)) * 2.0
 }
 
 // The solid angle of any triangle from the origin.
-fn origin_angle(t: Triangle3) -> f32
+fn origin_angle(table: &[u32; 1025], t: Triangle3) -> f32
+    requires { ⌜ now table ≡ arcs ⌝ }
     ensures { λ r. ⌜ r ≡ Winding.originAngle binary32 (Values.asTriangle t) ⌝ }
 {
     let a = norm_of(t.a);
@@ -58,15 +62,28 @@ fn origin_angle(t: Triangle3) -> f32
     if (a == 0.0) | (b == 0.0) | (c == 0.0) {
         return 0.0;
     }
-    unit_angle(Triangle3 {
-        a: t.a.over(a),
-        b: t.b.over(b),
-        c: t.c.over(c),
-    })
+    unit_angle(
+        table,
+        Triangle3 {
+            a: t.a.over(a),
+            b: t.b.over(b),
+            c: t.c.over(c),
+        },
+    )
 }
 
+// The solid angle of any triangle from q, by the table of arc tangents that is lent.
+pub fn solid_angle_by(table: &[u32; 1025], t: Triangle3, q: Vec3) -> f32
+    requires { ⌜ now table ≡ arcs ⌝ }
+    ensures { λ r. ⌜ r ≡ Winding.solidAngle binary32 (Values.asTriangle t) (Values.asPoint q) ⌝ }
+{
+    origin_angle(table, seen_from(q, t))
+}
+
+// The same, with a table of its own.
 pub fn solid_angle(t: Triangle3, q: Vec3) -> f32
     ensures { λ r. ⌜ r ≡ Winding.solidAngle binary32 (Values.asTriangle t) (Values.asPoint q) ⌝ }
 {
-    origin_angle(seen_from(q, t))
+    let table = arc_table();
+    solid_angle_by(&table, t, q)
 }

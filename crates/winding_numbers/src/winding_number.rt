@@ -6,42 +6,55 @@ ghost use lib.Ieee.{binary32};
 ghost use Rattle.vec3.specs.Values as Shapes;
 ghost use Rattle.verdicts.specs.Values as Values;
 ghost use Rattle.spec_lists.specs.Reading as Reading;
+ghost use Rattle.spec_angles.specs.Table.{arcs};
 ghost use Rattle.spec_angles.specs.Windings as Windings;
+use arc_tangent::arc_table;
 use list_tests::points::point_count;
 use list_tests::points::points_refusal;
 use list_tests::triangles::triangle_count;
 use list_tests::triangles::triangles_refusal;
 use lists::points::point_at;
 use lists::triangles::triangle_at;
-use solid_angle::solid_angle;
+use solid_angle::solid_angle_by;
 use vec3::Vec3;
 use verdicts::refusal::Verdict;
 use verdicts::refusal::room_refusal;
 
-// The sum of the triangles' solid angles, in the list's order, over 4 * PI.
-pub fn winding_number(triangles: &[f32], q: Vec3) -> f32
+// The sum of the triangles' solid angles, in the list's order, over 4 * PI, by the table of arc tangents
+// that is lent.
+pub fn winding_number_by(table: &[u32; 1025], triangles: &[f32], q: Vec3) -> f32
+    requires { ⌜ now table ≡ arcs ⌝ }
     ensures { λ r. ⌜ r ≡ Windings.windingAbout binary32 (now (triangles .entry)) (Shapes.asPoint q) ⌝ }
 {
     let count = triangle_count(triangles);
     let mut sum: f32 = 0.0;
     let mut t = 0;
     while t < count {
-        sum = sum + solid_angle(triangle_at(triangles, t), q);
+        sum = sum + solid_angle_by(table, triangle_at(triangles, t), q);
         t += 1;
     }
     // PI is 40490fdb
     sum / (4.0 * 3.14159274101257324)
 }
 
-// A winding number a point, from the front of `out`.
+// The same, with a table of its own.
+pub fn winding_number(triangles: &[f32], q: Vec3) -> f32
+    ensures { λ r. ⌜ r ≡ Windings.windingAbout binary32 (now (triangles .entry)) (Shapes.asPoint q) ⌝ }
+{
+    let table = arc_table();
+    winding_number_by(&table, triangles, q)
+}
+
+// A winding number a point, from the front of `out`. The table is laid out once for all of them.
 fn write_windings(triangles: &[f32], points: &[f32], out: &mut [f32])
     requires { ⌜ Reading.pointCount (now points) ≤ length (now out) ⌝ }
     ensures { λ _. ⌜ now (out .exit) ≡ Windings.written binary32 (now (triangles .entry)) (now (points .entry)) (now (out .entry)) ⌝ }
 {
     let count = point_count(points);
+    let table = arc_table();
     let mut k = 0;
     while k < count {
-        out[k] = winding_number(triangles, point_at(points, 3 * k));
+        out[k] = winding_number_by(&table, triangles, point_at(points, 3 * k));
         k += 1;
     }
 }

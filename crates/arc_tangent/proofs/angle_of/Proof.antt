@@ -39,10 +39,10 @@ ratio-of-requires : tie.Need-ratio-of-requires
 ratio-of-requires c κs = search needs
 
 units-of-requires : tie.Need-units-of-requires
-units-of-requires c κs = at-most-one _ _ _ (c .before .pre) (c .ratio-of .ensures)
+units-of-requires c κs = at-most-one _ _ _ (c .before .pre .1) (c .ratio-of .ensures)
 
 arc-of-requires : tie.Need-arc-of-requires
-arc-of-requires c κs = few _ _ _ (c .before .before .pre) (c .before .ratio-of .ensures) _ (c .units-of .ensures)
+arc-of-requires c κs = (c .before .before .pre .0, few _ _ _ (c .before .before .pre .1) (c .before .ratio-of .ensures) _ (c .units-of .ensures))
 
 absolute-requires : tie.Need-absolute-requires
 absolute-requires c κs = search needs
@@ -53,19 +53,19 @@ absolute-requires-2 c κs = search needs
 mirrored-requires : tie.Need-mirrored-requires
 mirrored-requires c κs =
     let arc = c .before .before in
-    in-quarter _ _ _ (arc .before .before .before .pre) (arc .before .before .ratio-of .ensures) _ (arc .before .units-of .ensures) _ (arc .arc-of .ensures)
+    in-quarter _ _ _ (arc .before .before .before .pre .1) (arc .before .before .ratio-of .ensures) _ (arc .before .units-of .ensures) _ (arc .arc-of .ensures)
 
 mirrored-requires-2 : tie.Need-mirrored-requires-2
 mirrored-requires-2 c κs =
     let arc = c .before .before .before in
-    in-half _ _ _ (arc .before .before .before .pre) (arc .before .before .ratio-of .ensures) _ (arc .before .units-of .ensures) _ (arc .arc-of .ensures) _ _ (c .mirrored .ensures)
+    in-half _ _ _ (arc .before .before .before .pre .1) (arc .before .before .ratio-of .ensures) _ (arc .before .units-of .ensures) _ (arc .arc-of .ensures) _ _ (c .mirrored .ensures)
 
 returns : tie.Need-returns
 unfolding ofBits
 returns c =
     let sizes = c .before .before in
     let arc = sizes .before .before in
-    all _ _ _ (arc .before .before .before .pre) (arc .before .before .ratio-of .ensures) _ (arc .before .units-of .ensures) _ (arc .arc-of .ensures) _ _ (c .before .mirrored .ensures)
+    all _ _ _ (arc .before .before .before .pre .1) (arc .before .before .ratio-of .ensures) _ (arc .before .units-of .ensures) _ (arc .arc-of .ensures) _ _ (c .before .mirrored .ensures)
     _ _ _ (sizes .before .absolute .ensures) (sizes .absolute2 .ensures) refl (c .mirrored2 .ensures)
 
 pub angle-of-spec : {M : Type 1} → statement M

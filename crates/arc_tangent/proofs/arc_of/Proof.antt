@@ -18,16 +18,25 @@ entries-at-requires-2 : tie.Need-entries-at-requires-2
 entries-at-requires-2 c κs = search needs
 
 sub-result : tie.Need-sub-result
-sub-result c = le-of-lt (rises _ _ _ (c .before .before .before .pre) (c .before .before .if1 .left) (c .before .entries-at2 .ensures .0) (c .before .entries-at2 .ensures .1))
+sub-result c =
+    let read = c .before in
+    le-of-lt (rises _ _ _ (read .before .before .pre .1) (read .before .if1 .left) (read .entries-at2 .ensures .0) (read .entries-at2 .ensures .1))
 
 mul-result : tie.Need-mul-result
-mul-result c = record { fits = product-fits _ _ _ (c .before .before .before .pre) (c .before .before .if1 .left) (c .before .entries-at2 .ensures .0) (c .before .entries-at2 .ensures .1) }
+mul-result c =
+    let read = c .before in
+    record { fits = product-fits _ _ _ (read .before .before .pre .1) (read .before .if1 .left) (read .entries-at2 .ensures .0) (read .entries-at2 .ensures .1) }
 
 add-result : tie.Need-add-result
-add-result c = record { fits = lt-of-le-of-lt (line-most _ _ _ (c .before .before .before .before .pre) (c .before .before .before .if1 .left) (c .before .before .entries-at2 .ensures .0) (c .before .before .entries-at2 .ensures .1)) (lit< tt) }
+add-result c =
+    let read = c .before .before in
+    let most = line-most _ _ _ (read .before .before .pre .1) (read .before .if1 .left) (read .entries-at2 .ensures .0) (read .entries-at2 .ensures .1) in
+    record { fits = lt-of-le-of-lt most (lit< tt) }
 
 returns-2 : tie.Need-returns-2
-returns-2 c = on-the-line _ _ _ (c .before .before .before .before .pre) (c .before .before .before .if1 .left) (c .before .before .entries-at2 .ensures .0) (c .before .before .entries-at2 .ensures .1)
+returns-2 c =
+    let read = c .before .before in
+    on-the-line _ _ _ (read .before .before .pre .1) (read .before .if1 .left) (read .entries-at2 .ensures .0) (read .entries-at2 .ensures .1)
 
 pub arc-of-spec : {M : Type 1} → statement M
 arc-of-spec =

@@ -12,7 +12,7 @@ angle-of-requires : tie.Need-angle-of-requires
 angle-of-requires c κs = search needs
 
 cast-rounded : tie.Need-cast-rounded
-cast-rounded c = omega (arith, angle-most binary32 _ _ (c .before .pre), c .angle-of .ensures)
+cast-rounded c = omega (arith, angle-most binary32 _ _ (c .before .pre .1), c .angle-of .ensures)
 
 rounded-requires : tie.Need-rounded-requires
 rounded-requires c κs = search needs

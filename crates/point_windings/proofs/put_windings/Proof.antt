@@ -11,25 +11,31 @@ use Rattle.point_windings.proofs.put_windings.Statement.{statement}
 use Rattle.point_windings.proofs.put_windings.Tie as tie
 
 abbrev Inv-loop : tie.InvT-loop
-Inv-loop triangles points out₀ count k₀ out k = Wound triangles points out₀ count out k
+Inv-loop triangles points out₀ count table k₀ out k = Wound triangles points out₀ count out k
 
 abbrev μ-loop : tie.MeasureT-loop
-μ-loop triangles points out₀ count k₀ out k = count - k
+μ-loop triangles points out₀ count table k₀ out k = count - k
+
+arc-table-requires : tie.Need-arc-table-requires Inv-loop μ-loop
+arc-table-requires c κs = search needs
 
 loop-holds : tie.Need-loop-holds Inv-loop μ-loop
-loop-holds c = let a = c .before .before .before .args in wound-start (a .triangles .now) (a .points .now) (a .out .now) _
+loop-holds c = let a = c .before .before .before .before .args in wound-start (a .triangles .now) (a .points .now) (a .out .now) _
 
 point-in-requires : tie.Need-point-in-requires Inv-loop μ-loop
-point-in-requires c κs = omega (arith, c .loop-test .taken)
+point-in-requires c κs = omega (arith, c .before .loop-test .taken)
 
-winding-number-requires : tie.Need-winding-number-requires Inv-loop μ-loop
-winding-number-requires c κs = search needs
+winding-number-by-requires : tie.Need-winding-number-by-requires Inv-loop μ-loop
+winding-number-by-requires c κs = c .before .before .before .before .arc-table .ensures
 
 mul-put-winding-bytes : tie.Need-mul-put-winding-bytes Inv-loop μ-loop
-mul-put-winding-bytes c = omega (arith, c .before .before .before .loop-test .taken)
+mul-put-winding-bytes c = omega (arith, c .before .before .before .before .loop-test .taken)
 
 put-winding-bytes-requires : tie.Need-put-winding-bytes-requires Inv-loop μ-loop
-put-winding-bytes-requires c κs = omega (arith, c .before .before .before .before .before .before .before .before .pre, c .before .before .before .before .loop .inv .long, c .before .before .before .loop-test .taken)
+put-winding-bytes-requires c κs =
+    let turn = c .before .before .before .before in
+    let laid = turn .before .before in
+    omega (arith, laid .before .before .before .before .pre, turn .before .loop .inv .long, turn .loop-test .taken)
 
 add-k : tie.Need-add-k Inv-loop μ-loop
 add-k c = omega arith
@@ -40,15 +46,24 @@ loop-less c = omega arith
 loop-again : tie.Need-loop-again Inv-loop μ-loop
 unfolding windingAt
 loop-again c =
-    let a = c .before .before .before .before .before .before .before .before .before .before .before .args in
-    wound-more (a .triangles .now) (a .points .now) (a .out .now) _ _ _ _ _ (c .before .before .before .before .before .before .before .before .before .before .before .pre) (c .before .before .before .before .before .before .loop-test .taken) (c .before .before .before .before .before .before .before .loop .inv)
-    (ap (toBits binary32) (c .before .before .before .before .winding-number .ensures ∙ ap (windingAbout binary32 (a .triangles .now)) (c .before .before .before .before .before .point-in .ensures))) (c .before .before .put-winding-bytes .ensures)
+    let put = c .before .before in
+    let wound = put .before .before in
+    let turn = wound .before .before .before in
+    let laid = turn .before .before in
+    let start = laid .before .before .before .before in
+    let a = start .args in
+    let about = wound .winding-number-by .ensures ∙ ap (windingAbout binary32 (a .triangles .now)) (wound .before .point-in .ensures) in
+    wound-more (a .triangles .now) (a .points .now) (a .out .now) _ _ _ _ _ (start .pre) (turn .loop-test .taken) (turn .before .loop .inv)
+    (ap (toBits binary32) about) (put .put-winding-bytes .ensures)
 
 same-length : tie.Need-same-length Inv-loop μ-loop
 same-length c = c .before .loop .inv .long
 
 returns : tie.Need-returns Inv-loop μ-loop
-returns c = let a = c .before .before .before .before .before .args in wound-end (a .triangles .now) (a .points .now) (a .out .now) _ _ _ refl (c .loop-test .left) (c .before .loop .inv)
+returns c =
+    let laid = c .before .before in
+    let a = laid .before .before .before .before .args in
+    wound-end (a .triangles .now) (a .points .now) (a .out .now) _ _ _ refl (c .loop-test .left) (c .before .loop .inv)
 
 pub put-windings-spec : {M : Type 1} → statement M
 put-windings-spec =
@@ -56,9 +71,10 @@ put-windings-spec =
     (tie.spec
     Inv-loop
     μ-loop
+    arc-table-requires
     loop-holds
     point-in-requires
-    winding-number-requires
+    winding-number-by-requires
     mul-put-winding-bytes
     put-winding-bytes-requires
     add-k

@@ -16,12 +16,12 @@ returns c = rw (rw (c .before .numerator-of .ensures) at (c .if1 .taken))
 denominator-of-requires : tie.Need-denominator-of-requires
 denominator-of-requires c κs = search needs
 
-angle-or-nan-requires : tie.Need-angle-or-nan-requires
-angle-or-nan-requires c κs = search needs
+angle-by-requires : tie.Need-angle-by-requires
+angle-by-requires c κs = search needs
 
 returns-2 : tie.Need-returns-2
 unfolding unitAngle ofBits
-returns-2 c = rw (c .angle-or-nan .ensures, c .before .denominator-of .ensures, rw (c .before .before .before .numerator-of .ensures) at (c .before .before .if1 .left), c .before .before .before .numerator-of .ensures)
+returns-2 c = rw (c .angle-by .ensures, c .before .denominator-of .ensures, rw (c .before .before .before .numerator-of .ensures) at (c .before .before .if1 .left), c .before .before .before .numerator-of .ensures)
 
 pub unit-angle-spec : {M : Type 1} → statement M
 unit-angle-spec =
@@ -30,5 +30,5 @@ unit-angle-spec =
     numerator-of-requires
     returns
     denominator-of-requires
-    angle-or-nan-requires
+    angle-by-requires
     returns-2)

@@ -1,9 +1,9 @@
--- `solid_angle::solid_angle` meets its contract: the triangle seen from the point, then its angle.
+-- `solid_angle::solid_angle_by` meets its contract: the triangle seen from the point, then its angle.
 -- Assumes nothing.
 use Rattle.spec_angles.specs.Winding.{solidAngle}
 use borrow.Author.Needs.{needs}
-use Rattle.solid_angle.proofs.solid_angle.Statement.{statement}
-use Rattle.solid_angle.proofs.solid_angle.Tie as tie
+use Rattle.solid_angle.proofs.solid_angle_by.Statement.{statement}
+use Rattle.solid_angle.proofs.solid_angle_by.Tie as tie
 
 seen-from-requires : tie.Need-seen-from-requires
 seen-from-requires c κs = search needs
@@ -15,5 +15,5 @@ returns : tie.Need-returns
 unfolding solidAngle
 returns c = rw (c .origin-angle .ensures, c .before .seen-from .ensures)
 
-pub solid-angle-spec : {M : Type 1} → statement M
-solid-angle-spec = tie.close (tie.spec seen-from-requires origin-angle-requires returns)
+pub solid-angle-by-spec : {M : Type 1} → statement M
+solid-angle-by-spec = tie.close (tie.spec seen-from-requires origin-angle-requires returns)

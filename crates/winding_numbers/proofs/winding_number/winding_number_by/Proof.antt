@@ -1,4 +1,4 @@
--- `winding_numbers::winding_number::winding_number` meets its contract. The invariant: `sum` is that of the first t solid angles. The measure is how many are left.
+-- `winding_numbers::winding_number::winding_number_by` meets its contract. The invariant: `sum` is that of the first t solid angles. The measure is how many are left.
 -- Assumes nothing.
 use Prim.Native.Nat.{_-_}
 use native.Mathlib.Omega.{arith}
@@ -7,14 +7,14 @@ use borrow.Author.Needs.{needs}
 use Rattle.vec3.specs.Values.{asPoint}
 use Rattle.spec_lists.specs.Reading.{triangleCount}
 use Rattle.spec_angles.proofs.Windings.{Summed, sum-start, sum-more, sum-end}
-use Rattle.winding_numbers.proofs.winding_number.winding_number.Statement.{statement}
-use Rattle.winding_numbers.proofs.winding_number.winding_number.Tie as tie
+use Rattle.winding_numbers.proofs.winding_number.winding_number_by.Statement.{statement}
+use Rattle.winding_numbers.proofs.winding_number.winding_number_by.Tie as tie
 
 abbrev Inv-loop : tie.InvT-loop
-Inv-loop triangles q count sum₀ t₀ sum t = Summed binary32 triangles (asPoint q) count sum t
+Inv-loop table triangles q count sum₀ t₀ sum t = Summed binary32 triangles (asPoint q) count sum t
 
 abbrev μ-loop : tie.MeasureT-loop
-μ-loop triangles q count sum₀ t₀ sum t = count - t
+μ-loop table triangles q count sum₀ t₀ sum t = count - t
 
 triangle-count-requires : tie.Need-triangle-count-requires Inv-loop μ-loop
 triangle-count-requires c κs = search needs
@@ -27,8 +27,8 @@ triangle-at-requires : tie.Need-triangle-at-requires Inv-loop μ-loop
 unfolding triangleCount
 triangle-at-requires c κs = omega (arith, c .before .before .triangle-count .ensures)
 
-solid-angle-requires : tie.Need-solid-angle-requires Inv-loop μ-loop
-solid-angle-requires c κs = search needs
+solid-angle-by-requires : tie.Need-solid-angle-by-requires Inv-loop μ-loop
+solid-angle-by-requires c κs = search needs
 
 add-t : tie.Need-add-t Inv-loop μ-loop
 add-t c = omega arith
@@ -37,14 +37,14 @@ loop-less : tie.Need-loop-less Inv-loop μ-loop
 loop-less c = omega arith
 
 loop-again : tie.Need-loop-again Inv-loop μ-loop
-loop-again c = sum-more _ _ _ _ _ _ _ _ (c .before .before .loop-test .taken) (c .before .before .before .loop .inv) (c .before .triangle-at .ensures) (c .solid-angle .ensures)
+loop-again c = sum-more _ _ _ _ _ _ _ _ (c .before .before .loop-test .taken) (c .before .before .before .loop .inv) (c .before .triangle-at .ensures) (c .solid-angle-by .ensures)
 
 returns : tie.Need-returns Inv-loop μ-loop
 unfolding ofBits
 returns c = sum-end _ _ _ _ _ _ (c .before .before .triangle-count .ensures) (c .loop-test .left) (c .before .loop .inv)
 
-pub winding-number-spec : {M : Type 1} → statement M
-winding-number-spec =
+pub winding-number-by-spec : {M : Type 1} → statement M
+winding-number-by-spec =
     tie.close
     (tie.spec
     Inv-loop
@@ -52,7 +52,7 @@ winding-number-spec =
     triangle-count-requires
     loop-holds
     triangle-at-requires
-    solid-angle-requires
+    solid-angle-by-requires
     add-t
     loop-less
     loop-again

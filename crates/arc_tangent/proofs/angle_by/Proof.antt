@@ -1,4 +1,4 @@
--- `arc_tangent::angle_or_nan` meets its contract: its test is `askable`. Assumes nothing.
+-- `arc_tangent::angle_by` meets its contract: its test is `askable`. Assumes nothing.
 use mathlib.Core.Path.{_≡_, refl}
 use mathlib.Core.Bool.{Bool, true, _&&_}
 use lib.Ieee.{Float, ne, ofBits, div}
@@ -8,8 +8,8 @@ use Rattle.spec_numbers.specs.Values.{zero}
 use Rattle.spec_numbers.proofs.Tests.{passed}
 use Rattle.spec_angles.specs.Angle.{askable, angleOrNan}
 use Rattle.spec_angles.proofs.Asked.{asked}
-use Rattle.arc_tangent.proofs.angle_or_nan.Statement.{statement}
-use Rattle.arc_tangent.proofs.angle_or_nan.Tie as tie
+use Rattle.arc_tangent.proofs.angle_by.Statement.{statement}
+use Rattle.arc_tangent.proofs.angle_by.Tie as tie
 
 is-finite-requires : tie.Need-is-finite-requires
 is-finite-requires c κs = search needs
@@ -26,7 +26,9 @@ arc-tangent-requires : tie.Need-arc-tangent-requires
 unfolding ofBits
 arc-tangent-requires c κs =
     let start = c .before .before .before in
-    asked (start .args .n) (start .args .d) (passed (tested (start .args .n) (start .args .d) _ _ true (c .before .before .is-finite .ensures) (c .before .is-finite2 .ensures) (c .if1 .taken)))
+    let n = start .args .n in
+    let d = start .args .d in
+    (start .pre, asked n d (passed (tested n d _ _ true (c .before .before .is-finite .ensures) (c .before .is-finite2 .ensures) (c .if1 .taken))))
 
 returns : tie.Need-returns
 unfolding ofBits angleOrNan
@@ -40,7 +42,7 @@ returns-2 c =
     let start = c .before .before .before in
     rw (tested (start .args .n) (start .args .d) _ _ _ (c .before .before .is-finite .ensures) (c .before .is-finite2 .ensures) (c .if1 .left)) refl
 
-pub angle-or-nan-spec : {M : Type 1} → statement M
-angle-or-nan-spec =
+pub angle-by-spec : {M : Type 1} → statement M
+angle-by-spec =
     tie.close
     (tie.spec is-finite-requires is-finite-requires-2 arc-tangent-requires returns returns-2)
