@@ -56,10 +56,10 @@ impl Random {
     }
 }
 
+/// Of every finite number that is not below zero.
 fn roots() {
-    let mut random = Random(0x9e37_79b9_7f4a_7c15);
     let (mut tried, mut wrong) = (0u64, 0u64);
-    let mut check = |bits| {
+    for bits in 0..f32::INFINITY.to_bits() {
         let x = f32::from_bits(bits);
         tried += 1;
         if root(x).to_bits() != x.sqrt().to_bits() {
@@ -68,16 +68,6 @@ fn roots() {
                 println!("root of {bits:08x}: {:08x}, not {:08x}", root(x).to_bits(), x.sqrt().to_bits());
             }
         }
-    };
-    // whole exponents: the subnormal numbers, the least and the largest normal ones, and those about 1
-    for field in [0u32, 1, 126, 127, 128, 254] {
-        (0..1 << 23).for_each(|fraction| check(field << 23 | fraction));
-    }
-    for field in 0..255u32 {
-        for fraction in [0, 1, 2, 0x3f_ffff, 0x40_0000, 0x40_0001, 0x7f_fffe, 0x7f_ffff] {
-            check(field << 23 | fraction);
-        }
-        (0..100_000).for_each(|_| check(field << 23 | random.next() & 0x7f_ffff));
     }
     println!("roots: {tried} tried, {wrong} differ from f32::sqrt");
     println!("root of 2: {:08x}; of the least subnormal: {:08x}; of -0: {:08x}", root(2.0).to_bits(), root(f32::from_bits(1)).to_bits(), root(-0.0).to_bits());
