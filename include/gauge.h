@@ -90,7 +90,7 @@
 
 /* A thread whose whole stack is so many bytes is enough for the call. Measured, not proved: on
  * the largest and the deepest inputs, with the toolchain that the library was made by,
- * tests/host/stack.c found 4 to 9 bytes in a hundred left. gauge_image_most takes next to none. */
+ * tests/host/stack.c found 7 to 9 bytes in a hundred left. gauge_image_most takes next to none. */
 #define GAUGE_STACK_BUILD (704 * 1024)
 #define GAUGE_STACK_CHECK (512 * 1024)
 #define GAUGE_STACK_SURE (512 * 1024)
