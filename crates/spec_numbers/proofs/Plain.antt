@@ -4,8 +4,8 @@ use mathlib.Core.Path.{_≡_, sym, subst, _∙_}
 use Prim.Native.Nat.{zero as none, suc}
 use mathlib.Core.Bool.{Bool, true, false, not, cond}
 use lib.Dec.{T}
-use lib.Ieee.{Float, nan, inf, fin, Format, isNan, lt, le, eq, fits}
-use Rattle.spec_numbers.specs.Values.{zero, Number, plusZero}
+use lib.Ieee.{Float, nan, inf, fin, Format, binary32, binary64, isNan, lt, le, eq, fits}
+use Rattle.spec_numbers.specs.Values.{zero, largest, least, Number, plusZero}
 use Rattle.spec_numbers.specs.Hold.{smaller, larger}
 use Rattle.spec_numbers.specs.Plain.{Plain}
 use Rattle.spec_numbers.proofs.Order.{transitive, antisymmetric}
@@ -13,6 +13,18 @@ use Rattle.spec_numbers.proofs.Hold.{larger-first, larger-second, large
 use Rattle.spec_numbers.proofs.Unique.{unique, signs-agree}
 use Rattle.spec_numbers.proofs.PlusZero.{plus-zero-no-minus-zero}
 
+-- ---- the ends of a format's finite numbers
+pub largest-number-plain : (f : Format) → Plain f (largest f)
+unfolding fits eq isNan
+largest-number-plain binary32 = record { fitting = tt; number = tt; plus = λ h. absurd h }
+largest-number-plain binary64 = record { fitting = tt; number = tt; plus = λ h. absurd h }
+
+pub least-number-plain : (f : Format) → Plain f (least f)
+unfolding fits eq isNan
+least-number-plain binary32 = record { fitting = tt; number = tt; plus = λ h. absurd h }
+least-number-plain binary64 = record { fitting = tt; number = tt; plus = λ h. absurd h }
+
+-- ---- the smaller and the larger
 module _ (f : Format) where
   pub plain-antisymmetric : (x y : Float) → Plain f x → Plain f y → T (le x y) → T (le y x) → x ≡ y
   plain-antisymmetric x y P Q h k = go (eq x zero) (λ (e : T (eq x zero)). e) (λ (n : T (not (eq x zero))). n)

@@ -1,13 +1,14 @@
 -- Boxes of plain numbers may be joined in any order and any grouping. Assumes nothing.
-use mathlib.Core.Path.{_≡_}
+use mathlib.Core.Path.{_≡_, sym, ap, _∙_}
 use lib.Ieee.{Format}
+use Rattle.spec_numbers.specs.Values as Values
 use Rattle.spec_numbers.specs.Axes.{Axis, X, Y, Z}
-use Rattle.spec_numbers.proofs.Plain.{smaller-plain, larger-plain, smaller-comm, larger-comm, smaller-assoc, larger-assoc}
+use Rattle.spec_numbers.proofs.Plain.{largest-number-plain, least-number-plain, smaller-plain, larger-plain, smaller-comm, larger-comm, smaller-assoc, larger-assoc}
 use Rattle.spec_shapes.specs.Points.{Point, on, smallest, largest}
-use Rattle.spec_shapes.specs.Boxes.{Box, union}
+use Rattle.spec_shapes.specs.Boxes.{Box, empty, union}
 use Rattle.spec_shapes.specs.Triangles.{Triangle, boxOf}
 use Rattle.spec_shapes.specs.Plain.{PlainPoint, PlainBox}
-use Rattle.spec_shapes.proofs.OnAxes.{smallest-on, largest-on}
+use Rattle.spec_shapes.proofs.OnAxes.{on-by-axis, smallest-on, largest-on}
 
 -- points that agree on each axis are the same
 pub same-on-each : (a b : Point) → ((i : Axis) → on i a ≡ on i b) → a ≡ b
@@ -49,6 +50,18 @@ module _ (f : Format) where
     pub union-assoc : (c : Box) → PlainBox f c → union (union a b) c ≡ union a (union b c)
     unfolding union
     union-assoc c C = λ j. record { min = smallest-assoc _ _ _ (A .min) (B .min) (C .min) j; max = largest-assoc _ _ _ (A .max) (B .max) (C .max) j }
+
+  -- two that are joined in turn may change places
+  pub union-swap : (a b c : Box) → PlainBox f a → PlainBox f b → PlainBox f c → union (union a b) c ≡ union (union a c) b
+  union-swap a b c A B C = union-assoc a b A B c C ∙ ap (union a) (union-comm b c B C) ∙ sym (union-assoc a c A C b B)
+
+  -- what stands for no box is plain: a fold of unions may begin with it
+  pub empty-plain : PlainBox f (empty f)
+  unfolding empty
+  empty-plain = record {
+    min = λ i. rw (on-by-axis (λ (j : Axis). Values.largest f) i) (largest-number-plain f);
+    max = λ i. rw (on-by-axis (λ (j : Axis). Values.least f) i) (least-number-plain f);
+  }
 
   pub box-plain : (t : Triangle) → PlainPoint f (t .a) → PlainPoint f (t .b) → PlainPoint f (t .c) → PlainBox f (boxOf t)
   unfolding boxOf
