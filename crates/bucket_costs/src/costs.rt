@@ -35,28 +35,37 @@ fn cost_of(parent: Box3, left: Bucket, right: Bucket) -> f32
     0.125 + (weight_of(left) + weight_of(right)) / parent.area()
 }
 
-// What each of the 11 cuts costs: the cut after bucket i has the buckets up to i on its left. One
-// function holds the source's three loops, since the buckets, handed on by value, would be copied
-// for every side of every cut.
+// The side behind the cut after each bucket: going down, each bucket is merged once.
+fn right_sides(buckets: Buckets) -> Buckets
+    requires { ⌜ Spec.AreSmall binary32 (Values.asBuckets buckets) ⌝ }
+    ensures { λ r. ⌜ Values.asBuckets r ≡ Spec.sidesDown binary32 (Values.asBuckets buckets) ⌝ }
+{
+    let mut sides = Buckets::empty();
+    let mut right = Bucket::empty();
+    let mut i = 11;
+    while i > 0 {
+        right = right.merged(buckets.each[i]);
+        i -= 1;
+        sides.each[i] = right;
+    }
+    sides
+}
+
+// What each of the 11 cuts costs: the cut after bucket i has the buckets up to i on its left, merged
+// going up, and those behind on its right. The source merges all twelve anew for each cut; plain
+// boxes give the same sides either way.
 pub fn costs_of(buckets: Buckets, parent: Box3) -> [f32; 11]
     requires { ⌜ Spec.AreSmall binary32 (Values.asBuckets buckets) ⌝ }
+    requires { ⌜ Spec.ArePlain binary32 (Values.asBuckets buckets) ⌝ }
     ensures { λ r. ⌜ r ≡ Area.costs binary32 (Shapes.asBox parent) (Values.asBuckets buckets) ⌝ }
 {
+    let rights = right_sides(buckets);
     let mut costs = [0.0; 11];
+    let mut left = Bucket::empty();
     let mut i = 0;
     while i < 11 {
-        let mut left = Bucket::empty();
-        let mut j = 0;
-        while j < i + 1 {
-            left = left.merged(buckets.each[j]);
-            j += 1;
-        }
-        let mut right = Bucket::empty();
-        while j < Buckets::COUNT {
-            right = right.merged(buckets.each[j]);
-            j += 1;
-        }
-        costs[i] = cost_of(parent, left, right);
+        left = left.merged(buckets.each[i]);
+        costs[i] = cost_of(parent, left, rights.each[i]);
         i += 1;
     }
     costs

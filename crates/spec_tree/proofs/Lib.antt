@@ -21,5 +21,6 @@ pub mod SplitTurns
 pub mod SplitTable
 pub mod SplitMedian
 pub mod SplitBuckets
+pub mod SplitSweeps
 pub mod SplitArea
 pub mod SplitInside

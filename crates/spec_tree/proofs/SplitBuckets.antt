@@ -1,15 +1,14 @@
--- Boxes put into buckets: no count is above the number of boxes put. Buckets merged: a loop over one side of a cut. Assumes nothing.
+-- Boxes put into buckets: no count is above the number of boxes put, and plain boxes make plain buckets. Assumes nothing.
 use mathlib.Core.Path.{_≡_, sym, ap, subst, _∙_}
 use mathlib.Core.List.{List, [], _∷_, map, foldl}
-use Prim.Native.Nat.{ℕ, zero, suc, _+_, _*_, _^_, _≤_, _<_}
-use native.Mathlib.Nat.{le-antisymm}
-use native.Mathlib.Numerals.{add-one}
+use Prim.Native.Nat.{ℕ, zero, suc, _+_, _^_, _≤_, _<_}
 use native.Mathlib.Omega.{arith}
 use lib.ListN.{length, getD, drop, set, replicate, length-map, length-set}
-use lib.Seq.{slice, slice-cons, slice-empty}
 use lib.Ieee.{Format}
 use Rattle.spec_shapes.specs.Boxes.{Box}
-use Rattle.spec_tree.specs.Buckets.{Bucket, bucketCount, emptyBucket, emptyBuckets, bucketAt, withBox, merged, putIn, sideOf, AreSmall}
+use Rattle.spec_shapes.specs.Plain.{PlainBox}
+use Rattle.spec_shapes.proofs.Plain.{empty-plain, union-plain}
+use Rattle.spec_tree.specs.Buckets.{Bucket, bucketCount, emptyBucket, emptyBuckets, bucketAt, withBox, putIn, AreSmall, ArePlain}
 use Rattle.spec_tree.specs.Area.{putBox, filled}
 use Rattle.spec_tree.proofs.SplitTable.{map-set, at-map}
 use Rattle.spec_tree.proofs.SplitTurns.{fold-on-named, fold-ended-named}
@@ -22,6 +21,12 @@ stored P (a ∷ l) zero (suc j) v d p q = q
 stored P (a ∷ l) (suc k) zero v d p q = q
 stored P (a ∷ l) (suc k) (suc j) v d p q = stored P l k j v d p q
 
+-- what each of many copies is
+copied : {A : Type 0} (P : A → Type 0) (a : A) → P a → (n j : ℕ) → P (getD (replicate n a) j a)
+copied P a p zero j = p
+copied P a p (suc n) zero = p
+copied P a p (suc n) (suc j) = copied P a p n j
+
 -- ---- no count is above n
 abbrev pub CountsAtMost : Format → List Bucket → ℕ → Type 0
 CountsAtMost f buckets n = (j : ℕ) → bucketAt f buckets j .count ≤ n
@@ -29,12 +34,7 @@ CountsAtMost f buckets n = (j : ℕ) → bucketAt f buckets j .count ≤ n
 module _ (f : Format) where
   pub counts-none : CountsAtMost f (emptyBuckets f) 0
   unfolding emptyBuckets emptyBucket
-  counts-none j = none bucketCount j
-    where
-      none : (n j : ℕ) → getD (replicate n (emptyBucket f)) j (emptyBucket f) .count ≤ 0
-      none zero j = omega arith
-      none (suc n) zero = omega arith
-      none (suc n) (suc j) = none n j
+  counts-none j = copied (λ (s : Bucket). s .count ≤ 0) (emptyBucket f) (omega arith) bucketCount j
 
   module _ (bucket : Box → ℕ) where
     pub counts-put : (b : Box) (buckets : List Bucket) (n : ℕ) → CountsAtMost f buckets n → CountsAtMost f (putBox f bucket buckets b) (n + 1)
@@ -49,6 +49,30 @@ module _ (f : Format) where
     pub filled-small : (bs : List Box) → length bs < 2 ^ 28 → AreSmall f (filled f bucket bs)
     unfolding filled
     filled-small bs h j = omega (arith, counts-all bs (emptyBuckets f) 0 counts-none j)
+
+-- ---- no box has a NaN or a -0
+module _ (f : Format) where
+  plain-none : ArePlain f (emptyBuckets f)
+  unfolding emptyBuckets emptyBucket
+  plain-none j = copied (λ (s : Bucket). PlainBox f (s .bounds)) (emptyBucket f) (empty-plain f) bucketCount j
+
+  module _ (bucket : Box → ℕ) (box : ℕ → Box) where
+    plain-put : (b : Box) (buckets : List Bucket) → PlainBox f b → ArePlain f buckets → ArePlain f (putBox f bucket buckets b)
+    unfolding putBox putIn withBox
+    plain-put b buckets B h j =
+        stored (λ (s : Bucket). PlainBox f (s .bounds)) buckets (bucket b) j _ (emptyBucket f) (union-plain f _ _ (h (bucket b)) B) (h j)
+
+    plain-all : (part : List ℕ) (buckets : List Bucket) → ((i : ℕ) → i < length part → PlainBox f (box (getD part i 0))) → ArePlain f buckets
+        → ArePlain f (foldl (putBox f bucket) buckets (map box part))
+    plain-all [] buckets all h = h
+    plain-all (t ∷ part) buckets all h =
+        plain-all part _ (λ (i : ℕ) (k : i < length part). all (suc i) (omega arith)) (plain-put (box t) buckets (all 0 (omega arith)) h)
+
+    -- what the costs ask of the buckets that a part of the order list is put into
+    pub filled-plain : (part : List ℕ) → ((i : ℕ) → i < length part → PlainBox f (box (getD part i 0)))
+        → ArePlain f (filled f bucket (map box part))
+    unfolding filled
+    filled-plain part all = plain-all part (emptyBuckets f) all plain-none
 
 -- ---- a loop that puts the boxes of a part into buckets; g is what a stored bucket stands for, and `box` what a number of the part does
 module _ {A : Type 0} (g : A → Bucket) (f : Format) (bucket : Box → ℕ) (box : ℕ → Box) (part : List ℕ) where
@@ -90,40 +114,3 @@ module _ {A : Type 0} (g : A → Bucket) (f : Format) (bucket : Box → ℕ) (bo
 
   pub filling-ends : (each : List A) (i : ℕ) → length part ≤ i → Filling each i → map g each ≡ filled f bucket (map box part)
   filling-ends each i h now = fold-ended-named (putBox f bucket) box part i (map g each) _ h (now .fills)
-
--- ---- a loop that merges the buckets of one side of a cut; g is what a stored bucket stands for
-module _ {A : Type 0} (g : A → Bucket) (f : Format) (each : List A) (first last : ℕ) where
-  -- those from j on are left
-  pub record Merging (now : Bucket) (j : ℕ) : Type 0 where
-    pub within : j ≤ last
-    pub small : now .count ≤ j * 2 ^ 28
-    pub merges : foldl merged now (slice j last (map g each)) ≡ sideOf f (slice first last (map g each))
-
-  pub merging-starts : (now : Bucket) (j : ℕ) → now ≡ emptyBucket f → j ≡ first → first ≤ last → Merging now j
-  unfolding sideOf emptyBucket
-  merging-starts now j e same h = record {
-    within = omega arith;
-    small = let none : now .count ≡ 0 = ap (λ (s : Bucket). s .count) e in omega arith;
-    merges = rw (e, same);
-  }
-
-  module _ (now : Bucket) (j : ℕ) (d : A) (so-far : Merging now j) (full : length each ≡ bucketCount) (small : AreSmall f (map g each)) (h : j < last) (k : last ≤ bucketCount) where
-    here : bucketAt f (map g each) j ≡ g (getD each j d)
-    here = at-map g each j d (emptyBucket f) (omega arith)
-
-    pub merging-fits : now .count + g (getD each j d) .count < 2 ^ 32
-    merging-fits = omega (arith, ap (λ (s : Bucket). s .count) here, small j, so-far .small)
-
-    pub merging-goes-on : (next : Bucket) → next ≡ merged now (g (getD each j d)) → Merging next (j + 1)
-    unfolding merged
-    merging-goes-on next e =
-        let long : length (map g each) ≡ bucketCount = length-map each g ∙ full in
-        record {
-          within = omega arith;
-          small = let sum : next .count ≡ now .count + g (getD each j d) .count = ap (λ (s : Bucket). s .count) e in omega (arith, ap (λ (s : Bucket). s .count) here, small j, so-far .small);
-          merges = rw (add-one, e, ← here) (sym (ap (λ (m : List Bucket). foldl merged now m) (slice-cons j last (map g each) (emptyBucket f) h (omega arith))) ∙ so-far .merges);
-        }
-
-  pub merging-ends : (now : Bucket) (j : ℕ) → last ≤ j → Merging now j → now ≡ sideOf f (slice first last (map g each))
-  merging-ends now j h so-far =
-      sym (ap (λ (n : ℕ). foldl merged now (slice n last (map g each))) (le-antisymm (so-far .within) h) ∙ ap (λ (m : List Bucket). foldl merged now m) (slice-empty last (map g each))) ∙ so-far .merges

@@ -1,9 +1,10 @@
 -- Twelve buckets of boxes: how many fell into each, and their union. Definitions only.
-use mathlib.Core.List.{List, foldl}
+use mathlib.Core.List.{List, [], _∷_, foldl}
 use Prim.Native.Nat.{ℕ, _+_, _^_, _<_}
 use lib.ListN.{getD, set, replicate}
 use lib.Ieee.{Format}
 use Rattle.spec_shapes.specs.Boxes.{Box, empty, union}
+use Rattle.spec_shapes.specs.Plain.{PlainBox}
 
 abbrev pub bucketCount : ℕ
 bucketCount = 12
@@ -36,6 +37,22 @@ putIn f buckets k b = set buckets k (withBox (bucketAt f buckets k) b)
 unfoldable pub sideOf : Format → List Bucket → Bucket
 sideOf f buckets = foldl merged (emptyBucket f) buckets
 
+-- ---- by two sweeps
+-- one side gathered going down: its last bucket first
+unfoldable pub sideDown : Format → List Bucket → Bucket
+sideDown f [] = emptyBucket f
+sideDown f (b ∷ bs) = merged (sideDown f bs) b
+
+-- the side behind each bucket, gathered going down
+unfoldable pub sidesDown : Format → List Bucket → List Bucket
+sidesDown f [] = []
+sidesDown f (b ∷ bs) = sideDown f bs ∷ sidesDown f bs
+
+-- ---- what is asked of buckets
 -- no count is so large that twelve of them would not fit
 abbrev pub AreSmall : Format → List Bucket → Type 0
 AreSmall f buckets = (k : ℕ) → bucketAt f buckets k .count < 2 ^ 28
+
+-- no box has a NaN or a -0
+abbrev pub ArePlain : Format → List Bucket → Type 0
+ArePlain f buckets = (k : ℕ) → PlainBox f (bucketAt f buckets k .bounds)

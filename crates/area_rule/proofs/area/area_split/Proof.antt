@@ -1,11 +1,12 @@
--- `area_rule::area_split` meets its contract: what each call ensures, put in. The buckets' counts are small, since the part is short.
+-- `area_rule::area_split` meets its contract: what each call ensures, put in. The buckets' counts are small, since the part is short, and their
+-- boxes plain, since the triangles' are.
 -- Assumes nothing.
 use lib.ListN.{length-map}
 use lib.Ieee.{binary32}
 use Rattle.vec3.specs.Values.{asAxis}
-use Rattle.spec_tree.specs.Splits.{boxesIn}
+use Rattle.spec_tree.specs.Splits.{boxIn, boxesIn}
 use Rattle.spec_tree.specs.Area.{areaSplit}
-use Rattle.spec_tree.proofs.SplitBuckets.{filled-small}
+use Rattle.spec_tree.proofs.SplitBuckets.{filled-small, filled-plain}
 use Rattle.spec_tree.proofs.SplitArea.{bucket-on-axis}
 use borrow.Author.Needs.{needs}
 use Rattle.area_rule.proofs.area.area_split.Statement.{statement}
@@ -19,8 +20,12 @@ fill-requires c κs = search needs
 
 costs-of-requires : tie.Need-costs-of-requires
 costs-of-requires c κs =
-    let args = c .before .before .before .before .args in
-    rw (c .fill .ensures) (filled-small binary32 _ (boxesIn (args .bounds .now) (args .part .now)) (rw length-map (c .before .before .before .before .pre .0)))
+    let start = c .before .before .before .before in
+    let args = start .args in
+    rw (c .fill .ensures) (
+      filled-small binary32 _ (boxesIn (args .bounds .now) (args .part .now)) (rw length-map (start .pre .0)),
+      filled-plain binary32 _ (boxIn (args .bounds .now)) (args .part .now) (start .pre .1 .plain),
+    )
 
 cheapest-of-requires : tie.Need-cheapest-of-requires
 cheapest-of-requires c κs = search needs
