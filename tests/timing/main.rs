@@ -1,67 +1,107 @@
-//! Times this engine beside the Rust, in one process, on the oracle's sphere, soup and grid of 4,096
-//! triangles and its sphere of 256. Put it into the oracle's src/bin/ as timing.rs, make the library by
-//! `rt staticlib timing`, and run there:
+//! Times this engine beside the Rust on 4,096 triangles of each of the oracle's kinds of shape: builds by
+//! both strategies, and the source query on their trees. All in one process, turn about; the least
+//! processor time of 50 turns. Prints the rows of docs/PERFORMANCE.md's tables, as ratios. Put it into the
+//! oracle's src/bin/ as timing.rs, make the library by `rt staticlib timing`, and run there (10 is the leaf
+//! minimum where none is given):
 //!
-//!     RUSTFLAGS="-L native=TARGET/staticlib -l static=timing" cargo run --release --offline --bin timing
+//!     RUSTFLAGS="-L native=TARGET/staticlib -l static=timing" cargo run --release --offline --bin timing [LEAF]
+//!
+//! With `-l static=was --cfg before` in RUSTFLAGS it also times the build of another library, libwas.a, whose
+//! exports are renamed from timing_ to was_ (objcopy --redefine-syms), and compares its trees with this one's
+//! entry by entry.
+#![allow(unexpected_cfgs)]
 
 use shark::{
-    cases::{make, Wish},
+    cases::{make, Wish, KINDS},
     request::{Request, Settings},
     run,
 };
-use std::time::Instant;
+
+type Build = unsafe extern "C" fn(*const f32, usize, usize, usize, usize, *mut u32, usize, *mut u32, usize, *mut f32, usize) -> usize;
 
 extern "C" {
     fn timing_build(t: *const f32, tn: usize, strategy: usize, leaf: usize, depth: usize, o: *mut u32, on: usize, l: *mut u32, ln: usize, b: *mut f32, bn: usize) -> usize;
-    fn timing_sure(t: *const f32, tn: usize, o: *const u32, on: usize, l: *const u32, ln: usize, b: *const f32, bn: usize, nodes: usize, p: *const f32, pn: usize, d: f32, a: *mut u32, an: usize) -> u32;
     fn timing_source(t: *const f32, tn: usize, o: *const u32, on: usize, l: *const u32, ln: usize, b: *const f32, bn: usize, nodes: usize, p: *const f32, pn: usize, d: f32, a: *mut u32, an: usize) -> u32;
-    fn timing_check(t: *const f32, tn: usize, o: *const u32, on: usize, l: *const u32, ln: usize, b: *const f32, bn: usize, nodes: usize) -> u32;
-    fn timing_measured(t: *const f32, tn: usize, o: *const u32, on: usize, l: *const u32, ln: usize, b: *const f32, bn: usize, nodes: usize, p: *const f32, pn: usize, d: f32) -> usize;
+    #[cfg(before)]
+    fn was_build(t: *const f32, tn: usize, strategy: usize, leaf: usize, depth: usize, o: *mut u32, on: usize, l: *mut u32, ln: usize, b: *mut f32, bn: usize) -> usize;
+    fn clock_gettime(clock: i32, to: *mut [i64; 2]) -> i32;
 }
 
-fn best<T>(rounds: usize, mut f: impl FnMut() -> T) -> (f64, T) {
-    let mut least = f64::INFINITY;
-    let mut out = None;
-    for _ in 0..rounds {
-        let t0 = Instant::now();
-        out = Some(f());
-        least = least.min(t0.elapsed().as_secs_f64());
+#[cfg(before)]
+const BEFORE: Option<Build> = Some(was_build);
+#[cfg(not(before))]
+const BEFORE: Option<Build> = None;
+
+const TURNS: usize = 50;
+
+/// This process's processor time, in microseconds.
+fn processor() -> f64 {
+    let mut t = [0i64; 2];
+    assert_eq!(unsafe { clock_gettime(2, &mut t) }, 0);
+    t[0] as f64 * 1e6 + t[1] as f64 / 1e3
+}
+
+fn timed<T>(least: &mut f64, f: impl FnOnce() -> T) -> T {
+    let start = processor();
+    let out = f();
+    *least = least.min(processor() - start);
+    out
+}
+
+/// A tree's lists and how many nodes it has.
+struct Lists(Vec<u32>, Vec<u32>, Vec<f32>, usize);
+
+impl Lists {
+    fn room(n: usize) -> Self {
+        Lists(vec![0; n], vec![0; 3 * (2 * n - 1)], vec![0.0; 6 * (2 * n - 1)], 0)
     }
-    (least * 1e6, out.unwrap())
+
+    fn build(&mut self, with: Build, t: &[f32], s: Settings) {
+        let Lists(o, l, b, nodes) = self;
+        *nodes = unsafe { with(t.as_ptr(), t.len(), s.strategy as usize, s.leaf_minimum as usize, s.depth as usize, o.as_mut_ptr(), o.len(), l.as_mut_ptr(), l.len(), b.as_mut_ptr(), b.len()) };
+    }
+
+    fn same(&self, other: &Self) -> bool {
+        self.0 == other.0 && self.1 == other.1 && self.3 == other.3 && self.2.iter().zip(&other.2).all(|(x, y)| x.to_bits() == y.to_bits())
+    }
 }
 
 fn main() {
-    for (kind, size) in [("sphere", 4096), ("soup", 4096), ("grid", 4096), ("sphere", 256)] {
-        let wish = Wish { points: Some(1000), spread: Some("near".into()), share: Some(0.05), ..Wish::default() };
-        let r = Request::read(&make(kind, 1, size, &wish).write()).unwrap();
+    let leaf_minimum = std::env::args().nth(1).map_or(10, |word| word.parse().unwrap());
+    println!("| kind | build, median | build, area | source query, median | source query, area | build, now / before, median | area |");
+    println!("|---|---|---|---|---|---|---|");
+    for kind in KINDS {
+        let wish = Wish { points: Some(500), spread: Some("near".into()), share: Some(0.05), ..Wish::default() };
+        let r = Request::read(&make(kind, 1, 4096, &wish).write()).unwrap();
         let (tris, points, d) = (r.triangles.unwrap(), r.points.unwrap(), r.distance.unwrap());
         let t: Vec<f32> = tris.iter().flatten().flat_map(|p| [p.x, p.y, p.z]).collect();
         let p: Vec<f32> = points.iter().flat_map(|p| [p.x, p.y, p.z]).collect();
-        let n = tris.len();
+        let (mut builds, mut sources, mut changes) = (vec![], vec![], vec![]);
         for strategy in [1u16, 2] {
-            let s = Settings { version: 1, strategy, leaf_minimum: 10, depth: 40 };
-            let (mut o, mut l, mut b) = (vec![0u32; n], vec![0u32; 3 * (2 * n - 1)], vec![0f32; 6 * (2 * n - 1)]);
-            let (theirs, tree) = best(15, || run::nan_none::build_plain(s, &tris));
-            let (ours, nodes) = best(15, || unsafe {
-                timing_build(t.as_ptr(), t.len(), strategy as usize, 10, 40, o.as_mut_ptr(), o.len(), l.as_mut_ptr(), l.len(), b.as_mut_ptr(), b.len())
-            });
-            assert!(nodes > 0);
-            let (check, yes) = best(15, || unsafe { timing_check(t.as_ptr(), t.len(), o.as_ptr(), n, l.as_ptr(), l.len(), b.as_ptr(), b.len(), nodes) });
-            assert_eq!(yes, 1);
-            let mut a = vec![0u32; 6 * points.len()];
-            let (sure, ok) = best(7, || unsafe { timing_sure(t.as_ptr(), t.len(), o.as_ptr(), n, l.as_ptr(), l.len(), b.as_ptr(), b.len(), nodes, p.as_ptr(), p.len(), d, a.as_mut_ptr(), a.len()) });
-            assert_eq!(ok, 1);
-            let (source, ok) = best(7, || unsafe { timing_source(t.as_ptr(), t.len(), o.as_ptr(), n, l.as_ptr(), l.len(), b.as_ptr(), b.len(), nodes, p.as_ptr(), p.len(), d, a.as_mut_ptr(), a.len()) });
-            assert_eq!(ok, 1);
-            let (rust, _) = best(7, || points.iter().filter(|q| tree.closest_point(q, d).is_some()).count());
-            let sum: usize = (0..points.len())
-                .map(|k| unsafe { timing_measured(t.as_ptr(), t.len(), o.as_ptr(), n, l.as_ptr(), l.len(), b.as_ptr(), b.len(), nodes, p.as_ptr().add(3 * k), 3, d) })
-                .sum();
-            println!(
-                "{kind} {size} strategy {strategy}: build {ours:.0} us, Rust {theirs:.0} us, ratio {:.2}; check {check:.0} us; 1000 points (check included): sure {sure:.0} us, source {source:.0} us, Rust's source {rust:.0} us; measured {:.2} triangles a point",
-                ours / theirs,
-                sum as f64 / points.len() as f64
-            );
+            let s = Settings { version: 1, strategy, leaf_minimum, depth: 40 };
+            let (mut now, mut before) = (Lists::room(tris.len()), Lists::room(tris.len()));
+            let mut answers = vec![0u32; 6 * points.len()];
+            let [mut ours, mut theirs, mut was, mut source, mut rust] = [f64::INFINITY; 5];
+            for _ in 0..TURNS {
+                let tree = timed(&mut theirs, || run::nan_none::build_plain(s, &tris));
+                timed(&mut ours, || now.build(timing_build, &t, s));
+                assert!(now.3 > 0, "{kind}, strategy {strategy}: no tree");
+                if let Some(build) = BEFORE {
+                    timed(&mut was, || before.build(build, &t, s));
+                    assert!(now.same(&before), "{kind}, strategy {strategy}: the trees differ");
+                }
+                let Lists(o, l, b, nodes) = &now;
+                let ok = timed(&mut source, || unsafe {
+                    timing_source(t.as_ptr(), t.len(), o.as_ptr(), o.len(), l.as_ptr(), l.len(), b.as_ptr(), b.len(), *nodes, p.as_ptr(), p.len(), d, answers.as_mut_ptr(), answers.len())
+                });
+                assert_eq!(ok, 1);
+                let found = timed(&mut rust, || points.iter().filter(|q| tree.closest_point(q, d).is_some()).count());
+                assert_eq!(found, answers.chunks_exact(6).filter(|a| a[0] == 1).count(), "{kind}, strategy {strategy}");
+            }
+            builds.push(format!("{:.2}", ours / theirs));
+            sources.push(format!("{:.2}", source / rust));
+            changes.push(if BEFORE.is_some() { format!("{:.2}", ours / was) } else { String::new() });
         }
+        println!("| {kind} | {} | {} | {} |", builds.join(" | "), sources.join(" | "), changes.join(" | "));
     }
 }
