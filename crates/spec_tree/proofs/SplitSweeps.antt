@@ -122,6 +122,7 @@ module _ {A : Type 0} (g : A → Bucket) (f : Format) (each : List A) (d : A) (f
   none-behind : drop 12 buckets ≡ []
   none-behind = drop-of-length-le buckets {i = 12} (omega (arith, long))
 
+  -- before the first turn: nothing stands behind the last bucket
   pub down-starts : (sides : List A) (right : Bucket) → map g sides ≡ emptyBuckets f → right ≡ emptyBucket f → Down g f each sides right 11
   unfolding emptyBuckets emptyBucket sideDown sidesDown
   down-starts sides right e r = record {
@@ -133,6 +134,7 @@ module _ {A : Type 0} (g : A → Bucket) (f : Format) (each : List A) (d : A) (f
   }
 
   module _ (sides : List A) (right : Bucket) (i : ℕ) (now : Down g f each sides right i) (small : AreSmall f buckets) where
+    -- what a turn's merging asks
     pub down-fits : right .count + g (getD each i d) .count < 2 ^ 32
     down-fits = omega (arith, bucket-count i (now .within), small i, now .small)
 
@@ -154,6 +156,7 @@ module _ {A : Type 0} (g : A → Bucket) (f : Format) (each : List A) (d : A) (f
           ∙ drop-set (map g sides) j (g v) (omega (arith, length-map sides g, now .room, now .within))
           ∙ rw (is-on, rw after at (now .swept), behind j (omega (arith, now .within))) refl
 
+      -- after a turn, which merges bucket i and stores the side behind the one before it
       pub down-goes-on : Down g f each (set sides j v) (g v) j
       unfolding merged
       down-goes-on =
@@ -166,10 +169,12 @@ module _ {A : Type 0} (g : A → Bucket) (f : Format) (each : List A) (d : A) (f
             swept = swept-on;
           }
 
+  -- after the last turn every side is stored
   pub down-ends : (sides : List A) (right : Bucket) (i : ℕ) → Down g f each sides right i → i ≤ 0 → map g sides ≡ sidesDown f buckets
   down-ends sides right i now h = let none : i ≡ 0 = omega arith in rw none at (now .swept)
 
   -- ---- up
+  -- before the first turn: nothing stands before the first bucket
   pub up-starts : (left : Bucket) → left ≡ emptyBucket f → Up g f each left 0
   unfolding emptyBucket sideOf
   up-starts left e = record {
@@ -179,6 +184,7 @@ module _ {A : Type 0} (g : A → Bucket) (f : Format) (each : List A) (d : A) (f
   }
 
   module _ (left : Bucket) (i : ℕ) (now : Up g f each left i) (small : AreSmall f buckets) where
+    -- what a turn's merging asks
     pub up-fits : left .count + g (getD each i d) .count < 2 ^ 32
     up-fits = omega (arith, bucket-count i (now .within), small i, now .small, now .within)
 
@@ -191,6 +197,7 @@ module _ {A : Type 0} (g : A → Bucket) (f : Format) (each : List A) (d : A) (f
           ∙ sym (foldl-append merged (emptyBucket f) (take i buckets) (bucketAt f buckets i ∷ []))
           ∙ sym (rw (add-one i, take-suc buckets i (emptyBucket f) (omega (arith, long, now .within))) refl)
 
+      -- after a turn, which merges bucket i
       pub up-goes-on : i < 11 → Up g f each next (i + 1)
       unfolding merged
       up-goes-on h =
