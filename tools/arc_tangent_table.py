@@ -1,5 +1,5 @@
 # The table of arc tangents: entry k is arctan(k / 1024) * 2^30 to the nearest whole number, for k from 0 to 1024.
-#   python3 tools/arc_tangent_table.py rt      the lines of ARCS in crates/arc_tangent/src/lib.rt
+#   python3 tools/arc_tangent_table.py rt      the lines of ARCS in crates/angles/src/arc_tangent.rt
 #   python3 tools/arc_tangent_table.py antt    the lines of arcs in crates/spec_angles/specs/Table.antt
 #   python3 tools/arc_tangent_table.py check   that both files hold these lines
 # Plain integers, no library: Euler's series, arctan x = sum of (2 * 4 .. 2n) / (3 * 5 .. (2n + 1)) * x^(2n + 1) / (1 + x^2)^(n + 1), in units of 2^-160.
@@ -32,7 +32,7 @@ def lines(form, entries):
     return ["    " + " ∷ ".join(str(e) for e in entries[i : i + 16]) + " ∷" for i in range(0, 1025, 16)]
 
 
-FILES = {"rt": "crates/arc_tangent/src/lib.rt", "antt": "crates/spec_angles/specs/Table.antt"}
+FILES = {"rt": "crates/angles/src/arc_tangent.rt", "antt": "crates/spec_angles/specs/Table.antt"}
 
 if len(sys.argv) != 2 or sys.argv[1] not in ("rt", "antt", "check"):
     sys.exit("usage: python3 tools/arc_tangent_table.py rt | antt | check")

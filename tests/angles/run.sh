@@ -10,20 +10,20 @@ mkdir -p $copy/crates/angles_run/src
 cp -r crates crates.txt $copy/
 mkdir -p $copy/target
 for kept in rlib stamp; do [ -d target/$kept ] && cp -r target/$kept $copy/target/; done
-echo 'angles_run: winding_numbers solid_angle arc_tangent square_root verdicts lists vec3 triangle3 floats' >> $copy/crates.txt
+echo 'angles_run: angles lists shapes floats' >> $copy/crates.txt
 cat > $copy/crates/angles_run/src/lib.rt <<'RT'
 // Roots, angles and winding numbers for a Rust program to call.
 ghost use mathlib.Core.Path.{_≡_};
-use verdicts::refusal::Verdict;
+use lists::verdict::Verdict;
 
 #[no_mangle]
 pub extern "C" fn angles_root(x: f32) -> f32 {
-    square_root::root_or_nan(x)
+    angles::root::root_or_nan(x)
 }
 
 #[no_mangle]
 pub extern "C" fn angles_arc_tangent(n: f32, d: f32) -> f32 {
-    arc_tangent::angle_or_nan(n, d)
+    angles::arc_tangent::angle_or_nan(n, d)
 }
 
 // Of the first triangle from the first point.
@@ -31,7 +31,7 @@ pub extern "C" fn angles_arc_tangent(n: f32, d: f32) -> f32 {
 pub extern "C" fn angles_solid(triangle: &[f32], point: &[f32]) -> f32 {
     if triangle.len() == 9 {
         if point.len() == 3 {
-            return solid_angle::solid_angle(lists::triangles::triangle_at(triangle, 0), lists::points::point_at(point, 0));
+            return angles::solid_angle::solid_angle(lists::reading::triangle_at(triangle, 0), lists::reading::point_at(point, 0));
         }
     }
     0.0 / 0.0
@@ -40,7 +40,7 @@ pub extern "C" fn angles_solid(triangle: &[f32], point: &[f32]) -> f32 {
 // The refusal's number, 0 where there is none.
 #[no_mangle]
 pub extern "C" fn angles_winding(triangles: &[f32], points: &[f32], out: &mut [f32]) -> usize {
-    match winding_numbers::winding_number::winding(triangles, points, out) {
+    match angles::winding::winding(triangles, points, out) {
         Verdict::Passed => 0,
         Verdict::Refused { number, .. } => number,
     }

@@ -1,6 +1,6 @@
-//! Makes crates/floats_run/stdout: the same lines as that program, worked out by Rust's own f32.
+//! Makes crates/test_floats/stdout: the same lines as that program, worked out by Rust's own f32.
 //!
-//!     rustc -O tests/floats/generate.rs -o target/generate && target/generate > crates/floats_run/stdout
+//!     rustc -O tests/floats/generate.rs -o target/generate && target/generate > crates/test_floats/stdout
 
 const EACH: [u32; 24] = [
     0x0000_0000, 0x8000_0000, 0x0000_0001, 0x8000_0001, 0x007f_ffff, 0x0080_0000, 0x3f00_0000,

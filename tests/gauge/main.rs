@@ -1,4 +1,4 @@
-//! Makes the inputs of `gauge_cases` and what `gauge` must print for each, by a plain reading of the
+//! Makes the inputs of `test_gauge` and what `gauge` must print for each, by a plain reading of the
 //! scope document:  rustc -O tests/gauge/main.rs -o target/cases && target/cases CASES ANSWERS
 //! CASES holds each input behind its length (u32, little-endian), ANSWERS the printed text.
 

@@ -1,8 +1,8 @@
-//! Makes crates/replay_angles/stdin: roots by Rust's own `f32::sqrt`, angles by its `f64::atan2`, and
+//! Makes crates/test_angles/stdin: roots by Rust's own `f32::sqrt`, angles by its `f64::atan2`, and
 //! the solid angles and winding numbers of the oracle. Put it into the oracle's src/bin/ and run it there:
 //!
 //!     cargo build --release --offline
-//!     target/release/angles > crates/replay_angles/stdin 2> crates/replay_angles/stdout
+//!     target/release/angles > crates/test_angles/stdin 2> crates/test_angles/stdout
 //!     target/release/angles 200 > target/windings        (a long list, for tests/angles/run.sh)
 //!
 //! On standard error it writes what a replay must print: how many there are of each, and that none differs.

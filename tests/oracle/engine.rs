@@ -1,4 +1,4 @@
-//! This engine's exported functions (crates/timing) over plain slices, for compare.rs and hazard.rs.
+//! This engine's exported functions (crates/test_exports) over plain slices, for compare.rs and hazard.rs.
 
 extern "C" {
     fn timing_build(t: *const f32, tn: usize, strategy: usize, leaf: usize, depth: usize, o: *mut u32, on: usize, l: *mut u32, ln: usize, b: *mut f32, bn: usize) -> usize;

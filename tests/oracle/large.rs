@@ -1,8 +1,8 @@
-//! Makes crates/build_run/stdout but for its last four lines: the Rust's trees of up to 4,096 triangles, as counts
+//! Makes crates/test_build/stdout but for its last four lines: the Rust's trees of up to 4,096 triangles, as counts
 //! and digests.
 //! Put it into the oracle's src/bin/ and run it there:
 //!
-//!     cargo run --release --offline --bin large | diff - <(head -n -4 crates/build_run/stdout)
+//!     cargo run --release --offline --bin large | diff - <(head -n -4 crates/test_build/stdout)
 
 use shark::{
     request::{Settings, P},

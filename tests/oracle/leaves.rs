@@ -1,8 +1,8 @@
-//! Makes crates/leaves_run/stdin and crates/leaves_run/stdout: trees of the Rust over all of the
+//! Makes crates/test_leaves/stdin and crates/test_leaves/stdout: trees of the Rust over all of the
 //! oracle's kinds of shape, by both strategies, and the leaves that the Rust's own `traverse` visits.
 //! Put this file into the oracle's src/bin/ and run it there:
 //!
-//!     cargo run --release --offline --bin leaves crates/leaves_run/stdin crates/leaves_run/stdout
+//!     cargo run --release --offline --bin leaves crates/test_leaves/stdin crates/test_leaves/stdout
 //!
 //! A case is words, u32 little-endian: n, nodes; then 9n coordinates, n order entries, 3 links a
 //! node, 6 box numbers a node. Its lines are `leaves COUNT` and for each leaf its number, where its

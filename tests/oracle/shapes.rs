@@ -1,7 +1,7 @@
-//! Makes crates/replay_shapes/stdin: what the Rust's own Box3, Plane3 and Triangle3 answer, over all
+//! Makes crates/test_shapes/stdin: what the Rust's own Box3, Plane3 and Triangle3 answer, over all
 //! of the oracle's kinds of shape. Put it into the oracle's src/bin/ and run it there:
 //!
-//!     cargo run --release --offline --bin shapes > crates/replay_shapes/stdin
+//!     cargo run --release --offline --bin shapes > crates/test_shapes/stdin
 //!
 //! A case is 62 words, u32 little-endian: triangles T and U and a point p, then the answers in the
 //! order of `answers` below. Every NaN is written as 7fc00000.

@@ -1,9 +1,9 @@
-//! Makes crates/replay_trees/stdin: trees and source answers of the Rust, and sure answers of the
+//! Makes crates/test_trees/stdin: trees and source answers of the Rust, and sure answers of the
 //! plain scan in tests/closest/scan.rs, over all of the oracle's kinds of shape and its findings. Put
 //! this file and scan.rs into the oracle's src/bin/ (scan.rs in a folder src/bin/scan/) and run it
 //! there:
 //!
-//!     cargo run --release --offline --bin trees findings/*.bin > crates/replay_trees/stdin
+//!     cargo run --release --offline --bin trees findings/*.bin > crates/test_trees/stdin
 //!
 //! A case is words, u32 little-endian: n, strategy, leaf minimum, depth, distance bits, points,
 //! nodes, depth of the tree; then 9n coordinates, 3 a point, n order entries, 3 links a node, 6 box

@@ -2,8 +2,8 @@
 // with leaf minimum 1, 4 and 10, so that each stands beside the same tree and walk in plain C++. A query's time includes
 // the call's own check of the tree. From the folder of the contenders, which has contender.h and the Makefile:
 //
-//     rt staticlib timing          (in the engine's folder: target/staticlib/libtiming.a)
-//     make EXTRA=extra.cpp EXTRA_LIB=libtiming.a
+//     rt staticlib test_exports          (in the engine's folder: target/staticlib/libtest_exports.a)
+//     make EXTRA=extra.cpp EXTRA_LIB=libtest_exports.a
 #include "contender.h"
 #include <cstdio>
 #include <cstdlib>

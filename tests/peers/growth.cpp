@@ -3,8 +3,8 @@
 //
 //     growth STRATEGY TRIANGLES NODES BUILD_US CHECK_US QUERY_NS_A_POINT
 //
-//     rt staticlib timing          (in the engine's folder)
-//     g++ -O3 -o growth tests/peers/growth.cpp target/staticlib/libtiming.a && ./growth | tests/peers/growth.py docs/growth.svg
+//     rt staticlib test_exports          (in the engine's folder)
+//     g++ -O3 -o growth tests/peers/growth.cpp target/staticlib/libtest_exports.a && ./growth | tests/peers/growth.py docs/growth.svg
 #include <algorithm>
 #include <cmath>
 #include <cstddef>

@@ -6,7 +6,7 @@
 // From the folder of the contenders, with extra.cpp beside it:
 //
 //     cp turns.cpp main.cpp
-//     make EXTRA=extra.cpp EXTRA_LIB=libtiming.a CXXFLAGS='-O3 -DNDEBUG -DCGAL_NDEBUG -std=c++17 -w -ffp-contract=off'
+//     make EXTRA=extra.cpp EXTRA_LIB=libtest_exports.a CXXFLAGS='-O3 -DNDEBUG -DCGAL_NDEBUG -std=c++17 -w -ffp-contract=off'
 //     build/peers CASE TURNS NAME.. < request      (contenders whose names begin so)
 #include "contender.h"
 #include <algorithm>

@@ -3,8 +3,8 @@
 //
 //     winding TRIANGLES POINTS OURS PLAIN DIFFERENCE
 //
-//     rt staticlib timing          (in the engine's folder)
-//     g++ -O3 -ffp-contract=off -o winding tests/peers/winding.cpp target/staticlib/libtiming.a && ./winding
+//     rt staticlib test_exports          (in the engine's folder)
+//     g++ -O3 -ffp-contract=off -o winding tests/peers/winding.cpp target/staticlib/libtest_exports.a && ./winding
 #include <algorithm>
 #include <cmath>
 #include <cstddef>

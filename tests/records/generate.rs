@@ -1,6 +1,6 @@
-//! Makes the cases of crates/image_run and crates/host_build_run and what they must print, by a reading of the document of its own.
+//! Makes the cases of crates/test_image and crates/test_host and what they must print, by a reading of the document of its own.
 //!
-//!     rustc --edition 2021 -O tests/records/generate.rs -o target/generate && target/generate crates/image_run crates/host_build_run
+//!     rustc --edition 2021 -O tests/records/generate.rs -o target/generate && target/generate crates/test_image crates/test_host
 
 use std::fmt::Write as _;
 
@@ -346,7 +346,7 @@ fn put_build(stdout: &mut Vec<u8>, told: u64, room: usize, image: &[u8]) {
 }
 
 fn main() {
-    let folder = std::env::args().nth(1).expect("the folder of image_run");
+    let folder = std::env::args().nth(1).expect("the folder of test_image");
     let (mut stdin, mut stdout) = (Vec::new(), String::new());
     for case in cases() {
         stdin.extend((case.len() as u32).to_le_bytes());
@@ -357,7 +357,7 @@ fn main() {
     std::fs::write(format!("{folder}/stdin"), stdin).unwrap();
     std::fs::write(format!("{folder}/stdout"), stdout).unwrap();
 
-    let folder = std::env::args().nth(2).expect("the folder of host_build_run");
+    let folder = std::env::args().nth(2).expect("the folder of test_host");
     let (mut stdin, mut stdout) = (Vec::new(), Vec::new());
     for b in builds() {
         stdin.extend(b.given.iter().flat_map(|n| n.to_le_bytes()));

@@ -1,10 +1,10 @@
 //! Times this engine beside the Rust on 4,096 triangles of each of the oracle's kinds of shape: builds by
 //! both strategies, and the source query on their trees. All in one process, turn about; the least
 //! processor time of 50 turns. Prints the rows of docs/PERFORMANCE.md's tables, as ratios. Put it into the
-//! oracle's src/bin/ as timing.rs, make the library by `rt staticlib timing`, and run there (10 is the leaf
+//! oracle's src/bin/ as timing.rs, make the library by `rt staticlib test_exports`, and run there (10 is the leaf
 //! minimum where none is given):
 //!
-//!     RUSTFLAGS="-L native=TARGET/staticlib -l static=timing" cargo run --release --offline --bin timing [LEAF]
+//!     RUSTFLAGS="-L native=TARGET/staticlib -l static=test_exports" cargo run --release --offline --bin timing [LEAF]
 //!
 //! With `-l static=was --cfg before` in RUSTFLAGS it also times the build of another library, libwas.a, whose
 //! exports are renamed from timing_ to was_ (objcopy --redefine-syms), and compares its trees with this one's

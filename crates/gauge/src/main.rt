@@ -5,6 +5,6 @@ fn main() {
     let mut input = [0u8; 32769];
     let got = io::read_full(0, &mut input);
     let mut out = [0u8; 229405];
-    let size = gauge_run::print(&input[..got], &mut out);
+    let size = gauge_run::run::print(&input[..got], &mut out);
     io::write_all(1, &out[..size]);
 }

@@ -1,13 +1,13 @@
 // Which of the tests refuses what the records hold.
 ghost use mathlib.Core.Path.{_≡_};
-ghost use Rattle.verdicts.specs.Values.{asVerdict, asSettings};
+ghost use Rattle.lists.specs.Values.{asVerdict, asSettings};
 ghost use Rattle.spec_gauge.specs.Printed.{askedRefusal};
-use list_tests::points::distance_refusal;
-use list_tests::points::points_refusal;
-use list_tests::triangles::triangles_refusal;
-use verdicts::refusal::Verdict;
-use verdicts::settings::Settings;
-use verdicts::settings::settings_refusal;
+use lists::settings::Settings;
+use lists::settings::settings_refusal;
+use lists::tests::distance_refusal;
+use lists::tests::points_refusal;
+use lists::tests::triangles_refusal;
+use lists::verdict::Verdict;
 
 // The first of the tests 1 to 5, 8 and 9 that refuses.
 pub fn asked_refusal(

@@ -5,15 +5,15 @@ ghost use lib.ListN.{length};
 ghost use Rattle.spec_lists.specs.Reading.{triangleCount};
 ghost use Rattle.spec_host.specs.Told.{told};
 ghost use Rattle.spec_host.specs.Build.{imageMost, numbersOf, builtImage, bytesRefusal, ImagePut};
-ghost use Rattle.spec_asked.specs.PointBytes.{answerBytes, windingBytes, afterBytes};
+ghost use Rattle.spec_host.specs.PointBytes.{answerBytes, windingBytes, afterBytes};
 ghost use Rattle.spec_search.specs.Calls.{sure, source};
-ghost use Rattle.spec_asked.specs.Asked.{contents, checkVerdict, queryVerdict, windingVerdict, answerIn};
-use host_build::build_image;
-use host_put::image_most;
-use host_queries::check_image;
-use host_queries::source_points;
-use host_queries::sure_points;
-use host_queries::winding_points;
+ghost use Rattle.spec_host.specs.Requests.{contents, checkVerdict, queryVerdict, windingVerdict, answerIn};
+use host_ask::calls::check_image;
+use host_ask::calls::source_points;
+use host_ask::calls::sure_points;
+use host_ask::calls::winding_points;
+use host_build::build::build_image;
+use host_build::most::image_most;
 
 #[no_mangle]
 pub extern "C" fn gauge_image_most(triangles: usize) -> u64

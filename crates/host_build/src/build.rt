@@ -1,18 +1,18 @@
 // The build, from the outside in: the bytes, the list, the image.
 ghost use lib.ListN.{length};
-ghost use Rattle.verdicts.specs.Values.{asSettings};
+ghost use Rattle.lists.specs.Values.{asSettings};
 ghost use Rattle.spec_host.specs.Build.{numbersOf, builtImage, listRefusal, bytesRefusal, ImagePut};
-use aabb_build::build::Built;
-use aabb_build::build::build;
-use host_put::put_built;
-use list_tests::triangles::triangle_count;
-use told::tell_refusal;
-use triangle_bytes::length_refusal;
-use triangle_bytes::read_triangles;
-use verdicts::limits::MOST_NODES;
-use verdicts::limits::MOST_TRIANGLES;
-use verdicts::refusal::Verdict;
-use verdicts::settings::Settings;
+use crate::put::put_built;
+use build::calls::Built;
+use build::calls::build;
+use host_bytes::told::tell_refusal;
+use host_bytes::triangles::length_refusal;
+use host_bytes::triangles::read_triangles;
+use lists::limits::MOST_NODES;
+use lists::limits::MOST_TRIANGLES;
+use lists::settings::Settings;
+use lists::tests::triangle_count;
+use lists::verdict::Verdict;
 
 // Builds into lists with room for the most triangles, so that the build tests 1 to 5.
 fn build_list(settings: Settings, triangles: &[f32], image: &mut [u8]) -> u64

@@ -1,3 +1,4 @@
+pub mod Links
 pub mod Taken
 pub mod Unique
 pub mod Wrote

@@ -17,7 +17,7 @@ use Rattle.spec_image.proofs.Sizes.{image-is}
 use Rattle.records.specs.Values.{imageLaid}
 use Rattle.records.specs.declared.layout.ImageLayout.{ImageLayout}
 use Rattle.records.specs.declared.layout.ImageLayout.the-variants.{Right, Wrong}
-use Rattle.image_get.specs.Values.{ListsRead}
+use Rattle.image.specs.Values.{ListsRead}
 
 -- nothing is changed on a refusal
 pub unchanged : (number place : ℕ) (s : List ℕ) (t : List Float) (o l : List ℕ) (b : List Float) → ListsRead (filledBy version1 s (refused number place)) t o l b t o l b

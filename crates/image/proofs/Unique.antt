@@ -2,7 +2,7 @@
 use mathlib.Core.Path.{_≡_, refl, sym, ap, _∙_}
 use Rattle.spec_image.specs.Reading as Reading
 use Rattle.spec_image.specs.Writing as Writing
-use Rattle.verdicts.proofs.Unique.{backSettings}
+use Rattle.lists.proofs.Unique.{backSettings}
 use Rattle.image.specs.declared.read.ImageRead.{ImageRead}
 use Rattle.image.specs.declared.read.ImageRead.the-variants.{Refused, Read}
 use Rattle.image.specs.declared.write.ImageWritten.{ImageWritten}

@@ -10,9 +10,9 @@ use Rattle.spec_image.specs.Image.{Image, imageBytes}
 use Rattle.spec_image.specs.Stored.{Complete}
 use Rattle.spec_image.specs.Writing.{writeRefusal, imageWritten, bytesAfter}
 use Rattle.spec_image.proofs.Writing.{Good, write-passed, good-count, good-complete}
-use Rattle.verdicts.specs.Values.{asVerdict}
-use Rattle.verdicts.specs.declared.refusal.Verdict.{Verdict}
-use Rattle.verdicts.specs.declared.refusal.Verdict.the-variants.{Passed, Refused}
+use Rattle.lists.specs.Values.{asVerdict}
+use Rattle.lists.specs.declared.verdict.Verdict.{Verdict}
+use Rattle.lists.specs.declared.verdict.Verdict.the-variants.{Passed, Refused}
 use Rattle.image.specs.Values.{WrittenIs}
 use Rattle.image.specs.declared.write.ImageWritten.the-variants as Written
 

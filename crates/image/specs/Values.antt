@@ -1,20 +1,44 @@
--- The crate's values in the terms of `spec_image`, and what the calls leave in the lent lists. Definitions only.
+-- The image's values in the terms of `spec_image`, and what the calls leave in the lent lists. Definitions only.
 use Prim.Native.Nat.{ℕ}
-use mathlib.Core.Path.{_≡_}
 use mathlib.Core.List.{List}
-use lib.ListN.{length}
 use lib.Ieee.{Float}
-use Rattle.spec_records.specs.Layouts.{version1}
 use Rattle.spec_image.specs.Image.{Image}
+use Rattle.lists.specs.declared.settings.Settings.{Settings}
+use Rattle.lists.specs.Values.{asSettings}
+use mathlib.Core.Path.{_≡_}
+use Rattle.spec_tables.specs.Tables.{over}
+use lib.ListN.{length}
+use Rattle.spec_records.specs.Layouts.{version1}
 use Rattle.spec_image.specs.Reading as Reading
 use Rattle.spec_image.specs.Writing as Writing
-use Rattle.verdicts.specs.Values.{asSettings}
-use Rattle.image_get.specs.Values.{ListsRead}
 use Rattle.image.specs.declared.read.Rooms.{Rooms}
 use Rattle.image.specs.declared.read.ImageRead.{ImageRead}
 use Rattle.image.specs.declared.read.ImageRead.the-variants.{Refused, Read}
 use Rattle.image.specs.declared.write.ImageWritten.{ImageWritten}
 use Rattle.image.specs.declared.write.ImageWritten.the-variants as Written
+
+abbrev pub imageOf : Settings → List Float → List ℕ → List ℕ → List Float → ℕ → Image
+imageOf s triangles order links boxes nodes = record {
+  settings = asSettings s;
+  triangles = triangles;
+  order = order;
+  nodes = nodes;
+  links = links;
+  boxes = boxes;
+}
+
+-- the image's tree stands at the front of the lent lists, and all else is as it was
+pub record TreeFilled (x : Image) (o l : List ℕ) (b : List Float) (o′ l′ : List ℕ) (b′ : List Float) : Type 0 where
+  pub order : o′ ≡ over 0 (x .order) o
+  pub links : l′ ≡ over 0 (x .links) l
+  pub boxes : b′ ≡ over 0 (x .boxes) b
+
+-- and its triangles
+pub record ListsRead (x : Image) (t : List Float) (o l : List ℕ) (b t′ : List Float) (o′ l′ : List ℕ) (b′ : List Float) : Type 0 where
+  pub triangles : t′ ≡ over 0 (x .triangles) t
+  pub order : o′ ≡ over 0 (x .order) o
+  pub links : l′ ≡ over 0 (x .links) l
+  pub boxes : b′ ≡ over 0 (x .boxes) b
 
 abbrev pub imageFrom : (strategy leafMinimum maximumDepth : ℕ) → List Float → List ℕ → List ℕ → List Float → ℕ → Image
 imageFrom strategy leafMinimum maximumDepth triangles order links boxes nodes = record {

@@ -1,13 +1,13 @@
 // Reading an image: layout first, then room, then the lists.
-use image_get::read_lists;
-use image_get::settings_of;
-use records::ImageLayout;
-use records::image_layout;
-use verdicts::settings::Settings;
 ghost use mathlib.Core.Path.{_≡_};
 ghost use Prim.Native.Nat.{_*_, _<_, _^_};
 ghost use Rattle.spec_image.specs.Reading.{roomFor};
 ghost use Rattle.image.specs.Values.{roomsOf, ReadIs};
+use crate::get::read_lists;
+use crate::get::settings_of;
+use lists::settings::Settings;
+use records::layout::ImageLayout;
+use records::layout::image_layout;
 
 // How many entries the lent lists have.
 struct Rooms {

@@ -3,17 +3,16 @@ ghost use mathlib.Core.Path.{_≡_};
 ghost use Prim.Native.Nat.{_<_, _^_};
 ghost use Rattle.spec_records.specs.Layouts.{version1};
 ghost use Rattle.spec_image.specs.Writing.{writeRefusal};
-ghost use Rattle.verdicts.specs.Values.{asVerdict};
-ghost use Rattle.image_put.specs.Values.{imageOf};
-ghost use Rattle.image.specs.Values.{imageFrom, WrittenIs};
-use aabb_tree::refusals::tree_refusal;
-use image_put::image_room_refusal;
-use image_put::put_image;
-use list_tests::triangles::triangle_count;
-use list_tests::triangles::triangles_refusal;
-use verdicts::refusal::Verdict;
-use verdicts::settings::Settings;
-use verdicts::settings::settings_refusal;
+ghost use Rattle.lists.specs.Values.{asVerdict};
+ghost use Rattle.image.specs.Values.{imageOf, imageFrom, WrittenIs};
+use crate::put::put_image;
+use crate::size::image_room_refusal;
+use lists::settings::Settings;
+use lists::settings::settings_refusal;
+use lists::tests::triangle_count;
+use lists::tests::triangles_refusal;
+use lists::verdict::Verdict;
+use tree::calls::tree_refusal;
 
 // A refusal, or how many bytes were written.
 pub enum ImageWritten {

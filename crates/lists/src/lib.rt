@@ -1,4 +1,7 @@
-// How a list that passed is read: points, triangles and their boxes. Each contract is an equation with a definition of
-// `spec_lists`.
-pub mod points;
-pub mod triangles;
+// The lent lists: what a test answers, the limits, the tests, and how a list that passed is read. Each contract is an equation with a definition of `spec_lists`.
+pub mod coordinates;
+pub mod limits;
+pub mod reading;
+pub mod settings;
+pub mod tests;
+pub mod verdict;

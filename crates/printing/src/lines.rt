@@ -1,6 +1,4 @@
 // Lines: words and numbers with one space between, and a line feed.
-use printed_numbers::put_decimal;
-use printed_numbers::put_hex;
 ghost use mathlib.Core.Path.{_≡_};
 ghost use mathlib.Core.List.{[], _∷_};
 ghost use Prim.Native.Nat.{_+_, _≤_};
@@ -8,6 +6,8 @@ ghost use lib.ListN.{length};
 ghost use Rattle.spec_tables.specs.Tables.{Put};
 ghost use Rattle.spec_printing.specs.Printed.{spacedDecimal, spacedHex, named, countsLine, foundLine, nothingLine, refusedLine};
 ghost use Rattle.printing.specs.Values.{foundOf};
+use crate::numbers::put_decimal;
+use crate::numbers::put_hex;
 
 fn put_byte(out: &mut [u8], at: usize, byte: u8) -> usize
     requires { ⌜ at + 1 ≤ length (now out) ⌝ }

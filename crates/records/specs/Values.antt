@@ -1,10 +1,18 @@
--- What the answers say, in the terms of `spec_records`. Definitions only.
+-- What is found of records, as the definitions' own. Definitions only.
+use Prim.Native.Nat.{ℕ}
+use mathlib.Core.Bool.{Bool, cond}
+use Rattle.records.specs.declared.bodies.Body.{Body}
+use Rattle.records.specs.declared.bodies.Body.the-variants as body
 use Rattle.spec_records.specs.Records.{Layout, wrong, bodies}
 use Rattle.spec_records.specs.Layouts.{version1, imageSpans, gaugeSpans}
 use Rattle.records.specs.declared.layout.ImageLayout.{ImageLayout}
 use Rattle.records.specs.declared.layout.ImageLayout.the-variants as image
 use Rattle.records.specs.declared.layout.GaugeLayout.{GaugeLayout}
 use Rattle.records.specs.declared.layout.GaugeLayout.the-variants as gauge
+
+-- of a record that is right, the size of its body
+abbrev pub bodyIf : Bool → ℕ → Body
+bodyIf right size = cond right (body.Right size) body.Wrong
 
 abbrev pub imageLaid : ImageLayout → Layout
 imageLaid (image.Right triangles nodes) = bodies (imageSpans version1 triangles nodes)

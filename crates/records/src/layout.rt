@@ -1,12 +1,12 @@
 // The records of an image and of `gauge`'s input, one behind the other, and nothing behind the last.
-use record_bodies::Body;
-use record_bodies::has_body;
-use record_bodies::has_settings;
-use record_bodies::whole_body;
 ghost use mathlib.Core.Path.{_≡_};
 ghost use Rattle.spec_records.specs.Records.{laidOut};
 ghost use Rattle.spec_records.specs.Layouts.{version1, imageWants, gaugeWants};
 ghost use Rattle.records.specs.Values.{imageLaid, gaugeLaid};
+use crate::bodies::Body;
+use crate::bodies::has_body;
+use crate::bodies::has_settings;
+use crate::bodies::whole_body;
 
 // How many triangles and nodes there are, or the offset of the first wrong record.
 pub enum ImageLayout {

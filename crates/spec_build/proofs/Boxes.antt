@@ -7,7 +7,7 @@ use lib.ListN.{length}
 use lib.Ieee.{Format}
 use Rattle.spec_shapes.specs.Boxes.{Box, union}
 use Rattle.spec_tree.specs.Trees.{joinedTo, joined}
-use Rattle.spec_tree.specs.Splits.{unionOf}
+use Rattle.spec_splits.specs.Splits.{unionOf}
 
 joined-from : (boxAt : ℕ → Box) (b : Box) (part : List ℕ) → foldl union b (map boxAt part) ≡ joinedTo boxAt b part
 unfolding joinedTo

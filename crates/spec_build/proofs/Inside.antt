@@ -10,9 +10,9 @@ use lib.Ieee.{Format}
 use Rattle.spec_numbers.specs.Values.{Number}
 use Rattle.spec_numbers.specs.Axes.{Axis}
 use Rattle.spec_shapes.specs.Boxes.{Box}
-use Rattle.spec_tree.specs.Sort.{Each, Sorted}
-use Rattle.spec_tree.specs.Splits.{Split, cutAt, nowhere, CutsInside, NoneBelow, FirstIsLeast}
-use Rattle.spec_tree.proofs.SplitInside.{median-inside, area-inside}
+use Rattle.spec_sort.specs.Sort.{Each, Sorted}
+use Rattle.spec_splits.specs.Splits.{Split, cutAt, nowhere, CutsInside, NoneBelow, FirstIsLeast}
+use Rattle.spec_splits.proofs.Inside.{median-inside, area-inside}
 use Rattle.spec_build.specs.Grown.{CutInside, Trying}
 use Rattle.spec_build.specs.Tries.{ruleBy, rule, splitAs, centreOn, isBefore, ruled, tried}
 use Rattle.spec_build.proofs.Tries.{tried-trying}

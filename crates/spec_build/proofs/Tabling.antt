@@ -11,9 +11,9 @@ use Rattle.spec_tables.specs.Tables.{over, many, part}
 use Rattle.spec_tables.proofs.Tables.{length-many, length-over}
 use Rattle.spec_numbers.specs.Axes.{Axis, X, Y, Z}
 use Rattle.spec_lists.specs.Limits.{mostTriangles}
-use Rattle.spec_tree.specs.Splits.{place, boxIn}
+use Rattle.spec_splits.specs.Splits.{place, boxIn}
 use Rattle.spec_tree.proofs.Standing.{part-length}
-use Rattle.spec_tree.proofs.SplitTable.{place-below}
+use Rattle.spec_splits.proofs.Table.{place-below}
 use Rattle.spec_build.specs.Tries.{centreOn}
 use Rattle.spec_build.specs.Growing.{keysOn, CentresPut, Centred}
 use Rattle.spec_build.proofs.Parts.{put-back, part-written, part-in-front, part-behind, many-at, front-at}

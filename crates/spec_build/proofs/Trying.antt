@@ -9,13 +9,13 @@ use Rattle.spec_numbers.specs.Axes.{Axis}
 use Rattle.spec_lists.specs.Limits.{mostTriangles}
 use Rattle.spec_shapes.specs.Points.{on}
 use Rattle.spec_shapes.specs.Boxes.{Box, sizes}
-use Rattle.spec_tree.specs.Sort.{Each, Keyed, byKey, sorted}
-use Rattle.spec_tree.specs.Splits.{Split, cutAt, nowhere, place, boxIn, unionOf}
+use Rattle.spec_sort.specs.Sort.{Each, Keyed, byKey, sorted}
+use Rattle.spec_splits.specs.Splits.{Split, cutAt, nowhere, place, boxIn, unionOf}
 use Rattle.spec_tree.proofs.Order.{permuted-length}
 use Rattle.spec_tree.proofs.Standing.{part-length}
-use Rattle.spec_tree.proofs.SortEach.{each-weaker, each-at, each-permuted}
-use Rattle.spec_tree.proofs.SortPermutes.{sorted-permutes}
-use Rattle.spec_tree.proofs.SplitTable.{place-below}
+use Rattle.spec_sort.proofs.Each.{each-weaker, each-at, each-permuted}
+use Rattle.spec_sort.proofs.Permutes.{sorted-permutes}
+use Rattle.spec_splits.proofs.Table.{place-below}
 use Rattle.spec_build.specs.Grown.{Tried, cut, uncut, partOf}
 use Rattle.spec_build.specs.Tries.{axesBySize, rule, splitAs, orElse, isBefore, sortedOn, triedOn, triedIn, triedWithin, tried}
 use Rattle.spec_build.specs.Growing.{keysOn, Tabled, SortAsked, RuleAsked, Triable}

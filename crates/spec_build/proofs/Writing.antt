@@ -9,7 +9,7 @@ use Rattle.spec_tables.specs.Tables.{over}
 use Rattle.spec_tables.proofs.Tables.{then-over}
 use Rattle.spec_shapes.specs.Boxes.{Box, union}
 use Rattle.spec_tree.specs.Trees.{Tree, leaf, branch, numbers, nodeCount, levels, joined, rootFrom, linksFrom, sixOf, boxOver, boxesOf}
-use Rattle.spec_tree.specs.Splits.{unionOf}
+use Rattle.spec_splits.specs.Splits.{unionOf}
 use Rattle.spec_tree.proofs.Trees.{root-last, links-length, boxes-length}
 use Rattle.spec_build.specs.Growing.{BranchPut, Written}
 use Rattle.spec_build.proofs.Boxes.{union-is-joined}

@@ -12,9 +12,9 @@ use Rattle.spec_angles.specs.Angle.{arc, ratio, mirrored, angle}
 use Rattle.spec_lists.specs.Reading.{numberAt, pointAt, triangleAt, boxAt, triangleCount}
 use Rattle.spec_tree.specs.Trees.{numbers, nodeCount, joinedTo, joined, boxOver, rootFrom, linksFrom, boxesOf}
 use Rattle.spec_tree.specs.Order.{upTo}
-use Rattle.spec_tree.specs.Sort.{inserted, sorted}
-use Rattle.spec_tree.specs.Splits.{unionOf}
-use Rattle.spec_tree.specs.Median.{planeBetween, allMeet, allMeetAt, isLarge, areBothLarge, medianSplit}
+use Rattle.spec_sort.specs.Sort.{inserted, sorted}
+use Rattle.spec_splits.specs.Splits.{unionOf}
+use Rattle.spec_splits.specs.Median.{planeBetween, allMeet, allMeetAt, isLarge, areBothLarge, medianSplit}
 use Rattle.spec_build.specs.Grown.{grown}
 use Rattle.spec_build.specs.Tries.{axisInserted, axesBySize, rule, triedOn, triedIn, triedWithin, tried}
 use Rattle.spec_build.specs.Build.{builtTree}

@@ -1,2 +1,5 @@
 pub mod Told
 pub mod Build
+pub mod PointBytes
+pub mod Requests
+pub mod Loading

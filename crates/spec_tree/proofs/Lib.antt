@@ -13,14 +13,3 @@ pub mod Depth
 pub mod Joining
 pub mod Marks
 pub mod Steps
-pub mod SortEach
-pub mod SortMerges
-pub mod SortPermutes
-pub mod SortStable
-pub mod SplitTurns
-pub mod SplitTable
-pub mod SplitMedian
-pub mod SplitBuckets
-pub mod SplitSweeps
-pub mod SplitArea
-pub mod SplitInside

@@ -5,8 +5,3 @@ pub mod Hangs
 pub mod Depth
 pub mod Refusals
 pub mod Leaves
-pub mod Sort
-pub mod Splits
-pub mod Median
-pub mod Buckets
-pub mod Area

@@ -1,4 +1,8 @@
-// What both split rules stand on: the table of the triangles' boxes, and what a rule answers. Each
-// contract is an equation with a definition of `spec_tree`.
+// The two split rules, by median and by area, over the table of boxes. Each contract is an equation with a definition of `spec_splits`.
+pub mod area;
+pub mod bucketing;
+pub mod buckets;
+pub mod costs;
+pub mod median;
 pub mod split;
 pub mod table;

@@ -6,12 +6,12 @@ ghost use lib.ListN.{length};
 ghost use lib.Ieee.{binary32};
 ghost use Rattle.spec_shapes.specs.Points as Points;
 ghost use Rattle.spec_shapes.specs.Boxes as Boxes;
-ghost use Rattle.box3.specs.Values as Shapes;
-ghost use Rattle.spec_tree.specs.Splits as Splits;
+ghost use Rattle.shapes.specs.Values as Shapes;
+ghost use Rattle.spec_splits.specs.Splits as Splits;
 ghost use Rattle.spec_tree.specs.Trees as Trees;
-use box3::Box3;
-use vec3::Axis;
-use vec3::Vec3;
+use shapes::box3::Box3;
+use shapes::vec3::Axis;
+use shapes::vec3::Vec3;
 
 fn point_at(bounds: &[f32], at: usize) -> Vec3
     requires { ⌜ at + 3 ≤ length (now bounds) ⌝ }

@@ -2,7 +2,7 @@
 -- Assumes nothing.
 use mathlib.Core.Path.{sym, ap, _∙_}
 use Rattle.spec_tables.proofs.Tables.{put-same}
-use Rattle.verdicts.specs.Values.{asVerdict}
+use Rattle.lists.specs.Values.{asVerdict}
 use Rattle.spec_gauge.proofs.Printed.{refused-printed, passed-printed}
 use borrow.Author.Needs.{needs}
 use Rattle.gauge_run.proofs.run.print_asked.Statement.{statement}

@@ -5,7 +5,7 @@ use mathlib.Core.Path.{refl, sym}
 use native.Mathlib.Omega.{arith}
 use lib.Seq.{length-take-le}
 use Rattle.spec_tables.proofs.Tables.{put-same, put-then, put-long}
-use Rattle.verdicts.specs.Values.{asSettings}
+use Rattle.lists.specs.Values.{asSettings}
 use Rattle.spec_gauge.specs.Printed.{Asked}
 use Rattle.spec_gauge.proofs.Printed.{all-passed}
 use Rattle.spec_gauge.proofs.Runs.{is-built, tree-line, query-passes}

@@ -3,9 +3,9 @@
 use mathlib.Core.Path.{refl, sym, ap, _∙_}
 use native.Mathlib.Omega.{arith}
 use lib.Seq.{length-take-le}
-use Rattle.verdicts.specs.Values.{asVerdict}
+use Rattle.lists.specs.Values.{asVerdict}
 use Rattle.spec_host.proofs.Build.{put-nothing, put-as, bytes-whole, numbers-read}
-use Rattle.triangle_bytes.proofs.Length.{length-refused, length-told, length-passed}
+use Rattle.host_bytes.proofs.Length.{length-refused, length-told, length-passed}
 use borrow.Author.Needs.{needs}
 use Rattle.host_build.proofs.build.build_image.Statement.{statement}
 use Rattle.host_build.proofs.build.build_image.Tie as tie

@@ -9,10 +9,10 @@ use lib.Ieee.{Float, binary32, ofBits}
 use lib.ListN.{length, replicate, length-replicate}
 use lib.Seq.{length-take-le}
 use Rattle.spec_build.specs.Build.{BuildIs}
-use Rattle.verdicts.specs.declared.settings.Settings.{Settings}
-use Rattle.verdicts.specs.Values.{asSettings}
-use Rattle.aabb_build.specs.declared.build.Built.{Built}
-use Rattle.aabb_build.specs.Values.{asBuilt}
+use Rattle.lists.specs.declared.settings.Settings.{Settings}
+use Rattle.lists.specs.Values.{asSettings}
+use Rattle.build.specs.declared.calls.Built.{Built}
+use Rattle.build.specs.Values.{asBuilt}
 use Rattle.spec_host.proofs.Build.{put-nothing, put-as, build-refused, build-told, listed-few, listed-puttable, listed-bytes, listed-size, listed-refusal}
 use borrow.Author.Needs.{needs}
 use Rattle.host_build.proofs.build.build_list.Statement.{statement}

@@ -9,7 +9,7 @@ use Prim.Native.Nat.{_+_}
 use Rattle.spec_records.specs.Layouts.{version1, gaugeWants}
 use Rattle.spec_records.proofs.Records.{right-within, reach-start, reach-on, reach-wrong, reach-end, reach-extra}
 use Rattle.spec_records.proofs.Layouts.{exactly-right, settings-right, whole-size, gauge-spans}
-use Rattle.record_bodies.proofs.Answers.{is-right, is-wrong}
+use Rattle.records.proofs.Answers.{is-right, is-wrong}
 use borrow.Author.Needs.{needs}
 use Rattle.records.proofs.layout.gauge_layout.Statement.{statement}
 use Rattle.records.proofs.layout.gauge_layout.Tie as tie

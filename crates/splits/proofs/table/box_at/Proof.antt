@@ -1,6 +1,6 @@
 -- `splits::box_at` meets its contract: what `point_at` ensures of each corner.
 -- Assumes nothing.
-use Rattle.spec_tree.specs.Splits.{boxIn}
+use Rattle.spec_splits.specs.Splits.{boxIn}
 use borrow.Author.Needs.{needs}
 use Rattle.splits.proofs.table.box_at.Statement.{statement}
 use Rattle.splits.proofs.table.box_at.Tie as tie

@@ -2,8 +2,8 @@
 -- Assumes nothing.
 use native.Mathlib.Omega.{arith}
 use lib.Ieee.{binary32, ofBits}
-use Rattle.vec3.specs.Values.{asAxis}
-use Rattle.spec_tree.proofs.SplitTable.{place-below, centre-in}
+use Rattle.shapes.specs.Values.{asAxis}
+use Rattle.spec_splits.proofs.Table.{place-below, centre-in}
 use borrow.Author.Needs.{needs}
 use Rattle.splits.proofs.table.centre_on.Statement.{statement}
 use Rattle.splits.proofs.table.centre_on.Tie as tie

@@ -8,10 +8,10 @@ use borrow.Author.Needs.{needs}
 use lib.ListN.{length, drop}
 use lib.Ieee.{binary32}
 use Rattle.spec_shapes.specs.Boxes.{Box, union}
-use Rattle.box3.specs.Values.{asBox}
-use Rattle.spec_tree.specs.Splits.{boxIn, boxesIn, unionOf}
-use Rattle.spec_tree.proofs.SplitTable.{union-from-first}
-use Rattle.spec_tree.proofs.SplitTurns.{fold-on-named, fold-ended-named}
+use Rattle.shapes.specs.Values.{asBox}
+use Rattle.spec_splits.specs.Splits.{boxIn, boxesIn, unionOf}
+use Rattle.spec_splits.proofs.Table.{union-from-first}
+use Rattle.spec_splits.proofs.Turns.{fold-on-named, fold-ended-named}
 use Rattle.splits.proofs.table.union_of.Statement.{statement}
 use Rattle.splits.proofs.table.union_of.Tie as tie
 

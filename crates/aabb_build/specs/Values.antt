@@ -1,8 +1,0 @@
--- What the build answers, as the definitions' own. Definitions only.
-use Rattle.spec_build.specs.Build as Build
-use Rattle.aabb_build.specs.declared.build.Built.{Built}
-use Rattle.aabb_build.specs.declared.build.Built.the-variants.{Tree, Refused}
-
-abbrev pub asBuilt : Built → Build.Built
-asBuilt (Tree nodes depth) = Build.made nodes depth
-asBuilt (Refused number place) = Build.notMade number place

@@ -1,0 +1,25 @@
+-- `angles::arc_tangent` meets its contract. Assumes nothing.
+use mathlib.Core.Path.{refl}
+use native.Mathlib.Omega.{arith}
+use lib.Ieee.{binary32, ofBits}
+use borrow.Author.Needs.{needs}
+use Rattle.spec_angles.specs.Angle.{arcTangent}
+use Rattle.spec_angles.proofs.Arc.{angle-most}
+use Rattle.angles.proofs.arc_tangent.arc_tangent.Statement.{statement}
+use Rattle.angles.proofs.arc_tangent.arc_tangent.Tie as tie
+
+angle-of-requires : tie.Need-angle-of-requires
+angle-of-requires c κs = search needs
+
+cast-rounded : tie.Need-cast-rounded
+cast-rounded c = omega (arith, angle-most binary32 _ _ (c .before .pre .1), c .angle-of .ensures)
+
+rounded-requires : tie.Need-rounded-requires
+rounded-requires c κs = search needs
+
+returns : tie.Need-returns
+unfolding ofBits arcTangent
+returns c = rw (c .rounded .ensures, c .before .angle-of .ensures) refl
+
+pub arc-tangent-spec : {M : Type 1} → statement M
+arc-tangent-spec = tie.close (tie.spec angle-of-requires cast-rounded rounded-requires returns)

@@ -1,0 +1,53 @@
+-- `angles::entries_at` meets its contract: the array that is lent is the table of the definitions.
+-- Assumes nothing.
+use mathlib.Core.Path.{ap, _∙_}
+use mathlib.Core.List.{List}
+use Prim.Native.Nat.{ℕ, _+_}
+use lib.ListN.{getD}
+use Rattle.spec_angles.specs.Table.{entry}
+use borrow.Author.Needs.{needs}
+use Rattle.angles.proofs.arc_tangent.entries_at.Statement.{statement}
+use Rattle.angles.proofs.arc_tangent.entries_at.Tie as tie
+
+mul-wide : tie.Need-mul-wide
+mul-wide c = search needs
+
+element-copy-out-wide : tie.Need-element-copy-out-wide
+element-copy-out-wide c = search needs
+
+wide-requires : tie.Need-wide-requires
+wide-requires c κs = search needs
+
+add-wide : tie.Need-add-wide
+add-wide c = search needs
+
+mul-wide-2 : tie.Need-mul-wide-2
+mul-wide-2 c = search needs
+
+element-copy-out-wide-2 : tie.Need-element-copy-out-wide-2
+element-copy-out-wide-2 c = search needs
+
+wide-requires-2 : tie.Need-wide-requires-2
+wide-requires-2 c κs = search needs
+
+returns : tie.Need-returns
+unfolding entry
+returns c =
+    let start = c .before .before .before .before in
+    let k = start .args .k in (
+      c .before .before .wide .ensures ∙ ap (λ (l : List ℕ). getD l k 0) (start .pre .0),
+      c .wide2 .ensures ∙ ap (λ (l : List ℕ). getD l (k + 1) 0) (start .pre .0),
+    )
+
+pub entries-at-spec : {M : Type 1} → statement M
+entries-at-spec =
+    tie.close
+    (tie.spec
+    mul-wide
+    element-copy-out-wide
+    wide-requires
+    add-wide
+    mul-wide-2
+    element-copy-out-wide-2
+    wide-requires-2
+    returns)

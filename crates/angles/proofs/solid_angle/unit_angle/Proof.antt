@@ -1,0 +1,34 @@
+-- `angles::unit_angle` meets its contract: its test is that of the definition.
+-- Assumes nothing.
+use lib.Ieee.{ofBits}
+use Rattle.spec_angles.specs.Winding.{unitAngle}
+use borrow.Author.Needs.{needs}
+use Rattle.angles.proofs.solid_angle.unit_angle.Statement.{statement}
+use Rattle.angles.proofs.solid_angle.unit_angle.Tie as tie
+
+numerator-of-requires : tie.Need-numerator-of-requires
+numerator-of-requires c κs = search needs
+
+returns : tie.Need-returns
+unfolding unitAngle ofBits
+returns c = rw (rw (c .before .numerator-of .ensures) at (c .if1 .taken))
+
+denominator-of-requires : tie.Need-denominator-of-requires
+denominator-of-requires c κs = search needs
+
+angle-by-requires : tie.Need-angle-by-requires
+angle-by-requires c κs = search needs
+
+returns-2 : tie.Need-returns-2
+unfolding unitAngle ofBits
+returns-2 c = rw (c .angle-by .ensures, c .before .denominator-of .ensures, rw (c .before .before .before .numerator-of .ensures) at (c .before .before .if1 .left), c .before .before .before .numerator-of .ensures)
+
+pub unit-angle-spec : {M : Type 1} → statement M
+unit-angle-spec =
+    tie.close
+    (tie.spec
+    numerator-of-requires
+    returns
+    denominator-of-requires
+    angle-by-requires
+    returns-2)

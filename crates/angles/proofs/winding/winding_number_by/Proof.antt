@@ -1,0 +1,59 @@
+-- `angles::winding_number::winding_number_by` meets its contract. The invariant: `sum` is that of the first t solid angles. The measure is how many are left.
+-- Assumes nothing.
+use Prim.Native.Nat.{_-_}
+use native.Mathlib.Omega.{arith}
+use lib.Ieee.{binary32, ofBits}
+use borrow.Author.Needs.{needs}
+use Rattle.shapes.specs.Values.{asPoint}
+use Rattle.spec_lists.specs.Reading.{triangleCount}
+use Rattle.spec_angles.proofs.Windings.{Summed, sum-start, sum-more, sum-end}
+use Rattle.angles.proofs.winding.winding_number_by.Statement.{statement}
+use Rattle.angles.proofs.winding.winding_number_by.Tie as tie
+
+abbrev Inv-loop : tie.InvT-loop
+Inv-loop table triangles q count sum₀ t₀ sum t = Summed binary32 triangles (asPoint q) count sum t
+
+abbrev μ-loop : tie.MeasureT-loop
+μ-loop table triangles q count sum₀ t₀ sum t = count - t
+
+triangle-count-requires : tie.Need-triangle-count-requires Inv-loop μ-loop
+triangle-count-requires c κs = search needs
+
+loop-holds : tie.Need-loop-holds Inv-loop μ-loop
+unfolding ofBits
+loop-holds c = sum-start _ _ _ _
+
+triangle-at-requires : tie.Need-triangle-at-requires Inv-loop μ-loop
+unfolding triangleCount
+triangle-at-requires c κs = omega (arith, c .before .before .triangle-count .ensures)
+
+solid-angle-by-requires : tie.Need-solid-angle-by-requires Inv-loop μ-loop
+solid-angle-by-requires c κs = search needs
+
+add-t : tie.Need-add-t Inv-loop μ-loop
+add-t c = omega arith
+
+loop-less : tie.Need-loop-less Inv-loop μ-loop
+loop-less c = omega arith
+
+loop-again : tie.Need-loop-again Inv-loop μ-loop
+loop-again c = sum-more _ _ _ _ _ _ _ _ (c .before .before .loop-test .taken) (c .before .before .before .loop .inv) (c .before .triangle-at .ensures) (c .solid-angle-by .ensures)
+
+returns : tie.Need-returns Inv-loop μ-loop
+unfolding ofBits
+returns c = sum-end _ _ _ _ _ _ (c .before .before .triangle-count .ensures) (c .loop-test .left) (c .before .loop .inv)
+
+pub winding-number-by-spec : {M : Type 1} → statement M
+winding-number-by-spec =
+    tie.close
+    (tie.spec
+    Inv-loop
+    μ-loop
+    triangle-count-requires
+    loop-holds
+    triangle-at-requires
+    solid-angle-by-requires
+    add-t
+    loop-less
+    loop-again
+    returns)

@@ -1,0 +1,88 @@
+-- `angles::winding_number::write_windings` meets its contract. The invariant: the first k winding numbers stand in `out`. The measure is how many are left.
+-- Assumes nothing.
+use Prim.Native.Nat.{_-_}
+use native.Mathlib.Omega.{arith}
+use lib.Ieee.{binary32}
+use borrow.Author.Needs.{needs}
+use Rattle.spec_lists.proofs.Reading.{point-inside}
+use Rattle.spec_angles.proofs.Windings.{Wound, fill-start, fill-more, fill-end}
+use Rattle.angles.proofs.winding.write_windings.Statement.{statement}
+use Rattle.angles.proofs.winding.write_windings.Tie as tie
+
+abbrev Inv-loop : tie.InvT-loop
+Inv-loop triangles points out₀ count table k₀ out k = Wound binary32 triangles points out₀ count out k
+
+abbrev μ-loop : tie.MeasureT-loop
+μ-loop triangles points out₀ count table k₀ out k = count - k
+
+point-count-requires : tie.Need-point-count-requires Inv-loop μ-loop
+point-count-requires c κs = search needs
+
+arc-table-requires : tie.Need-arc-table-requires Inv-loop μ-loop
+arc-table-requires c κs = search needs
+
+loop-holds : tie.Need-loop-holds Inv-loop μ-loop
+loop-holds c = fill-start _ _ _ _ _
+
+mul-point-at : tie.Need-mul-point-at Inv-loop μ-loop
+mul-point-at c =
+    let turn = c .before in
+    let counted = turn .before .before .before in
+    omega (arith, point-inside _ _ (rw (counted .point-count .ensures) at (turn .loop-test .taken)))
+
+point-at-requires : tie.Need-point-at-requires Inv-loop μ-loop
+point-at-requires c κs =
+    let turn = c .before in
+    let counted = turn .before .before .before in
+    point-inside _ _ (rw (counted .point-count .ensures) at (turn .loop-test .taken))
+
+winding-number-by-requires : tie.Need-winding-number-by-requires Inv-loop μ-loop
+winding-number-by-requires c κs = c .before .before .before .before .arc-table .ensures
+
+mul-out : tie.Need-mul-out Inv-loop μ-loop
+mul-out c = search needs
+
+slice-write-out : tie.Need-slice-write-out Inv-loop μ-loop
+slice-write-out c =
+    let turn = c .before .before .before in
+    let counted = turn .before .before .before in
+    omega (arith, counted .before .before .before .before .pre, counted .point-count .ensures, turn .before .loop .inv .run .long, turn .loop-test .taken)
+
+add-k : tie.Need-add-k Inv-loop μ-loop
+add-k c = omega arith
+
+loop-less : tie.Need-loop-less Inv-loop μ-loop
+loop-less c = omega arith
+
+loop-again : tie.Need-loop-again Inv-loop μ-loop
+loop-again c =
+    let turn = c .before .before .before in
+    let counted = turn .before .before .before in
+    fill-more _ _ _ _ _ _ _ _ _ (omega (arith, counted .before .before .before .before .pre, counted .point-count .ensures))
+    (turn .loop-test .taken) (turn .before .loop .inv) (c .before .point-at .ensures) (c .winding-number-by .ensures)
+
+same-length : tie.Need-same-length Inv-loop μ-loop
+same-length c = c .before .loop .inv .run .long
+
+returns : tie.Need-returns Inv-loop μ-loop
+returns c = fill-end _ _ _ _ _ _ _ (c .before .before .before .point-count .ensures) (c .loop-test .left) (c .before .loop .inv)
+
+pub write-windings-spec : {M : Type 1} → statement M
+write-windings-spec =
+    tie.close
+    (tie.spec
+    Inv-loop
+    μ-loop
+    point-count-requires
+    arc-table-requires
+    loop-holds
+    mul-point-at
+    point-at-requires
+    winding-number-by-requires
+    mul-out
+    slice-write-out
+    add-k
+    loop-less
+    loop-again
+    same-length
+    returns)

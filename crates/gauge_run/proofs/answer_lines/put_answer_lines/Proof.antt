@@ -1,0 +1,50 @@
+-- `gauge_run::put_answer_lines` meets its contract. The invariant: the first k lines stand one behind the other.
+-- Assumes nothing.
+use denote.Ref.{now}
+use Prim.Native.Nat.{_-_}
+use native.Mathlib.Omega.{arith}
+use Rattle.spec_gauge.specs.Lines.{wordsLine}
+use Rattle.spec_gauge.proofs.Lines.{Lined, lined-start, lined-more, lined-end}
+use Rattle.gauge_run.proofs.answer_lines.put_answer_lines.Statement.{statement}
+use Rattle.gauge_run.proofs.answer_lines.put_answer_lines.Tie as tie
+
+abbrev Inv-loop : tie.InvT-loop
+Inv-loop answers count out₀ at next₀ k₀ out next k = Lined (wordsLine answers) at count out₀ out next k
+
+abbrev μ-loop : tie.MeasureT-loop
+μ-loop answers count out₀ at next₀ k₀ out next k = count - k
+
+loop-holds : tie.Need-loop-holds Inv-loop μ-loop
+loop-holds c = lined-start (wordsLine (now (c .before .before .args .answers))) (c .before .before .args .at) (c .before .before .args .count) (now (c .before .before .args .out)) (omega (arith, c .before .before .pre .1))
+
+put-answer-line-requires : tie.Need-put-answer-line-requires Inv-loop μ-loop
+put-answer-line-requires c κs = (omega (arith, c .before .before .before .before .before .pre .0, c .before .loop-test .taken), omega (arith, c .before .before .before .before .before .pre .1, c .before .loop-test .taken, c .before .before .loop .inv .room, c .before .before .loop .inv .long))
+
+add-k : tie.Need-add-k Inv-loop μ-loop
+add-k c = omega arith
+
+loop-less : tie.Need-loop-less Inv-loop μ-loop
+loop-less c = omega arith
+
+loop-again : tie.Need-loop-again Inv-loop μ-loop
+loop-again c = lined-more _ _ _ _ _ _ _ _ _ (c .before .before .before .before .loop-test .taken) (c .before .before .before .before .before .loop .inv) (c .before .before .put-answer-line .ensures .0) (c .before .before .put-answer-line .ensures .1)
+
+same-length : tie.Need-same-length Inv-loop μ-loop
+same-length c = c .before .loop .inv .long
+
+returns : tie.Need-returns Inv-loop μ-loop
+returns c = lined-end _ _ _ _ _ _ _ (c .loop-test .left) (c .before .loop .inv)
+
+pub put-answer-lines-spec : {M : Type 1} → statement M
+put-answer-lines-spec =
+    tie.close
+    (tie.spec
+    Inv-loop
+    μ-loop
+    loop-holds
+    put-answer-line-requires
+    add-k
+    loop-less
+    loop-again
+    same-length
+    returns)

@@ -1,0 +1,49 @@
+// A line a point, from the six numbers of each answer.
+ghost use mathlib.Core.Path.{_≡_};
+ghost use Prim.Native.Nat.{_+_, _*_, _≤_};
+ghost use lib.ListN.{length};
+ghost use Rattle.spec_tables.specs.Tables.{Put, many};
+ghost use Rattle.spec_gauge.specs.Lines.{wordsLine};
+use printing::lines::Found;
+use printing::lines::put_found;
+use printing::lines::put_nothing;
+
+fn whole(word: u32) -> usize
+    ensures { λ r. ⌜ r ≡ word ⌝ }
+{
+    word as usize
+}
+
+// The line of point k, whose answer starts at 6 k.
+fn put_answer_line(answers: &[u32], k: usize, out: &mut [u8], at: usize) -> usize
+    requires { ⌜ (6 * k + 6 ≤ length (now answers)) × (at + 84 ≤ length (now out)) ⌝ }
+    ensures { λ r. ⌜ Put at (wordsLine (now (answers .entry)) k) (now (out .entry)) (now (out .exit)) r ⌝ }
+    ensures { λ r. ⌜ r ≤ at + 84 ⌝ }
+{
+    let first = 6 * k;
+    if answers[first] == 0 {
+        return put_nothing(out, at, k);
+    }
+    let found = Found {
+        triangle: whole(answers[first + 1]),
+        x: answers[first + 2],
+        y: answers[first + 3],
+        z: answers[first + 4],
+        squared: answers[first + 5],
+    };
+    put_found(out, at, k, found)
+}
+
+// The lines of all points, one behind the other.
+pub fn put_answer_lines(answers: &[u32], count: usize, out: &mut [u8], at: usize) -> usize
+    requires { ⌜ (6 * count ≤ length (now answers)) × (at + 84 * count ≤ length (now out)) ⌝ }
+    ensures { λ r. ⌜ Put at (many (wordsLine (now (answers .entry))) count) (now (out .entry)) (now (out .exit)) r ⌝ }
+{
+    let mut next = at;
+    let mut k = 0;
+    while k < count {
+        next = put_answer_line(answers, k, out, next);
+        k += 1;
+    }
+    next
+}

@@ -1,0 +1,169 @@
+-- `grow::grow` meets its contract. The measure is the levels that are left. Assumes nothing.
+use mathlib.Core.Path.{sym, ap, _∙_}
+use native.Mathlib.Omega.{arith}
+use borrow.Author.Needs.{needs}
+use lib.Ieee.{binary32}
+use Rattle.splits.specs.Values.{asSplit}
+use Rattle.spec_build.proofs.Growing.{leaf-asks, limit-gives, some-left, try-asks, uncut-asks, uncut-gives, cut-within, cut-ends, left-long, left-asks, cut-within-now, left-root-few, right-asks, branch-asks, order-long, branch-gives}
+use Prim.Native.Nat.{ℕ, _<_}
+use borrow.Fn.Kinds.{In}
+use borrow.Fn.PlainCycle.{Measures, is, falls, and}
+use Rattle.grow.proofs.grow.grow.Reads as grow
+use Rattle.grow.proofs.grow.grow.Kinds as grow-kinds
+use Rattle.grow.proofs.grow.+grow.Lts-grow as grow-lts
+use Rattle.grow.proofs.nodes.put_branch.Reads as put-branch-reads
+use Rattle.grow.proofs.nodes.put_leaf.Reads as put-leaf-reads
+use Rattle.grow.proofs.try_part.Reads as try-part-reads
+use Rattle.grow.proofs.grow.+grow.{statement}
+use Rattle.grow.proofs.grow.+grow.Tie.{close}
+
+abbrev μ-grow : Measures 6 grow-kinds.ps ℕ
+μ-grow κs a = a .1 .1 .1 .1 .0
+
+abbrev grow-at : ℕ → In 6 grow-kinds.ps
+grow-at t = and 6 grow-kinds.ps (is 6 grow-kinds.ps μ-grow t) grow.Pre
+
+abbrev grow-below : ℕ → In 6 grow-kinds.ps
+grow-below t = and 6 grow-kinds.ps (falls 6 grow-kinds.ps _<_ μ-grow t) grow.Pre
+
+abbrev calls : ℕ → grow-lts.Claims
+calls t = (put-leaf-reads.Asked, put-leaf-reads.Learnt, try-part-reads.Asked, try-part-reads.Learnt, grow-below t, grow.Post, put-branch-reads.Asked, put-branch-reads.Learnt)
+
+grow-put-leaf-requires : (t : ℕ) → grow-lts.Need-put-leaf-requires (calls t) (grow-at t) grow.Post
+grow-put-leaf-requires t c κs = leaf-asks binary32 _ (c .before .before .before .before .before .before .before .before .before .before .args .centres .now) (c .before .before .before .before .before .before .before .before .before .before .args .strategy) _ (c .before .before .before .before .before .before .before .before .before .before .pre .1)
+
+grow-same-length : (t : ℕ) → grow-lts.Need-same-length (calls t) (grow-at t) grow.Post
+grow-same-length t c = search needs
+
+grow-same-length-2 : (t : ℕ) → grow-lts.Need-same-length-2 (calls t) (grow-at t) grow.Post
+grow-same-length-2 t c = search needs
+
+grow-same-length-3 : (t : ℕ) → grow-lts.Need-same-length-3 (calls t) (grow-at t) grow.Post
+grow-same-length-3 t c = search needs
+
+grow-returns : (t : ℕ) → grow-lts.Need-returns (calls t) (grow-at t) grow.Post
+grow-returns t c = limit-gives binary32 _ _ _ _ (c .before .before .before .before .before .before .before .before .before .before .before .before .before .before .before .pre .1) _ _ _ _ _ (c .before .before .before .before .before .before .before .before .if1 .taken) (c .before .before .before .before .put-leaf .ensures)
+
+grow-try-part-requires : (t : ℕ) → grow-lts.Need-try-part-requires (calls t) (grow-at t) grow.Post
+grow-try-part-requires t c κs = try-asks binary32 _ _ (c .before .before .before .before .before .before .before .before .before .args .strategy) _ (c .before .before .before .before .before .before .before .before .before .pre .1) (c .before .before .if1 .left)
+
+grow-enum-known-cut : (t : ℕ) → grow-lts.Need-enum-known-cut (calls t) (grow-at t) grow.Post
+grow-enum-known-cut t c = search needs
+
+grow-enum-told : (t : ℕ) → grow-lts.Need-enum-told (calls t) (grow-at t) grow.Post
+grow-enum-told t c = search needs
+
+grow-put-leaf-requires-2 : (t : ℕ) → grow-lts.Need-put-leaf-requires-2 (calls t) (grow-at t) grow.Post
+grow-put-leaf-requires-2 t c κs = uncut-asks binary32 _ _ (c .before .before .before .before .before .before .before .before .before .before .before .before .before .before .before .before .before .before .before .args .strategy) _ (c .before .before .before .before .before .before .before .before .before .before .before .before .before .before .before .before .before .before .before .pre .1) (c .before .before .before .before .before .before .before .before .before .before .before .before .if1 .left) _ (asSplit (c .before .before .before .before .before .before .before .before .before .try-part .result)) (c .before .before .before .before .before .before .before .before .before .try-part .ensures)
+
+grow-same-length-4 : (t : ℕ) → grow-lts.Need-same-length-4 (calls t) (grow-at t) grow.Post
+grow-same-length-4 t c = search needs
+
+grow-same-length-5 : (t : ℕ) → grow-lts.Need-same-length-5 (calls t) (grow-at t) grow.Post
+grow-same-length-5 t c = search needs
+
+grow-same-length-6 : (t : ℕ) → grow-lts.Need-same-length-6 (calls t) (grow-at t) grow.Post
+grow-same-length-6 t c = search needs
+
+grow-same-length-7 : (t : ℕ) → grow-lts.Need-same-length-7 (calls t) (grow-at t) grow.Post
+grow-same-length-7 t c = search needs
+
+grow-returns-2 : (t : ℕ) → grow-lts.Need-returns-2 (calls t) (grow-at t) grow.Post
+grow-returns-2 t c = uncut-gives binary32 _ _ _ _ (c .before .before .before .before .before .before .before .before .before .before .before .before .before .before .before .before .before .before .before .before .before .before .before .before .pre .1) (c .before .before .before .before .before .before .before .before .before .before .before .before .before .before .before .before .before .if1 .left) _ (asSplit (c .before .before .before .before .before .before .before .before .before .before .before .before .before .before .try-part .result)) (c .before .before .before .before .before .before .before .before .before .before .before .before .before .before .try-part .ensures) _ _ _ _ _ (ap asSplit (c .before .before .before .before .before .before .before .before .enum-told .given .1)) (c .before .before .before .before .put-leaf2 .ensures)
+
+grow-sub-grow : (t : ℕ) → grow-lts.Need-sub-grow (calls t) (grow-at t) grow.Post
+grow-sub-grow t c = some-left binary32 _ _ (c .before .before .before .before .before .before .before .before .before .before .before .before .before .before .before .before .before .args .strategy) _ (c .before .before .before .before .before .before .before .before .before .before .before .before .before .before .before .before .before .pre .1) (c .before .before .before .before .before .before .before .before .before .before .if1 .left)
+
+grow-slice-relend-prefix-grow : (t : ℕ) → grow-lts.Need-slice-relend-prefix-grow (calls t) (grow-at t) grow.Post
+grow-slice-relend-prefix-grow t c = omega (arith, cut-within binary32 _ _ (c .before .before .before .before .before .before .before .before .before .before .before .before .before .before .before .before .before .args .strategy) _ (c .before .before .before .before .before .before .before .before .before .before .before .before .before .before .before .before .before .pre .1) (c .before .before .before .before .before .before .before .before .before .before .if1 .left) _ (asSplit (c .before .before .before .before .before .before .before .try-part .result)) (c .before .before .before .before .before .before .before .try-part .ensures) _ (ap asSplit (c .before .cut .given .1)))
+
+grow-slice-aggregate-grow : (t : ℕ) → grow-lts.Need-slice-aggregate-grow (calls t) (grow-at t) grow.Post
+grow-slice-aggregate-grow t c = sym (left-long binary32 _ _ (c .before .before .before .before .before .before .before .before .before .before .before .before .before .before .before .before .before .before .args .strategy) _ (c .before .before .before .before .before .before .before .before .before .before .before .before .before .before .before .before .before .before .pre .1) (c .before .before .before .before .before .before .before .before .before .before .before .if1 .left) _ (asSplit (c .before .before .before .before .before .before .before .before .try-part .result)) (c .before .before .before .before .before .before .before .before .try-part .ensures) _ (ap asSplit (c .before .before .cut .given .1)))
+
+grow-grow-requires : (t : ℕ) → grow-lts.Need-grow-requires (calls t) (grow-at t) grow.Post
+grow-grow-requires t c κs = (
+  omega (arith, c .before .before .before .before .before .before .before .before .before .before .before .before .before .before .before .before .before .before .before .before .before .pre .0, some-left binary32 _ _ (c .before .before .before .before .before .before .before .before .before .before .before .before .before .before .before .before .before .before .before .before .before .args .strategy) _ (c .before .before .before .before .before .before .before .before .before .before .before .before .before .before .before .before .before .before .before .before .before .pre .1) (c .before .before .before .before .before .before .before .before .before .before .before .before .before .before .if1 .left)),
+  left-asks binary32 _ _ (c .before .before .before .before .before .before .before .before .before .before .before .before .before .before .before .before .before .before .before .before .before .args .strategy) _ (c .before .before .before .before .before .before .before .before .before .before .before .before .before .before .before .before .before .before .before .before .before .pre .1) (c .before .before .before .before .before .before .before .before .before .before .before .before .before .before .if1 .left) _ (asSplit (c .before .before .before .before .before .before .before .before .before .before .before .try-part .result)) (c .before .before .before .before .before .before .before .before .before .before .before .try-part .ensures) _ (ap asSplit (c .before .before .before .before .before .cut .given .1)) _ (c .before .before .before .before .before .before .before .before .before .before .before .try-part .kept .1 .1 .1 .1 .0),
+)
+
+grow-sub-grow-2 : (t : ℕ) → grow-lts.Need-sub-grow-2 (calls t) (grow-at t) grow.Post
+grow-sub-grow-2 t c = some-left binary32 _ _ (c .before .before .before .before .before .before .before .before .before .before .before .before .before .before .before .before .before .before .before .before .before .before .before .before .before .before .before .before .before .before .args .strategy) _ (c .before .before .before .before .before .before .before .before .before .before .before .before .before .before .before .before .before .before .before .before .before .before .before .before .before .before .before .before .before .before .pre .1) (c .before .before .before .before .before .before .before .before .before .before .before .before .before .before .before .before .before .before .before .before .before .before .before .if1 .left)
+
+grow-mul-grow : (t : ℕ) → grow-lts.Need-mul-grow (calls t) (grow-at t) grow.Post
+grow-mul-grow t c = omega (arith, cut-ends binary32 _ _ (c .before .before .before .before .before .before .before .before .before .before .before .before .before .before .before .before .before .before .before .before .before .before .before .before .before .before .before .before .before .before .args .strategy) _ (c .before .before .before .before .before .before .before .before .before .before .before .before .before .before .before .before .before .before .before .before .before .before .before .before .before .before .before .before .before .before .pre .1) (c .before .before .before .before .before .before .before .before .before .before .before .before .before .before .before .before .before .before .before .before .before .before .before .if1 .left) _ (asSplit (c .before .before .before .before .before .before .before .before .before .before .before .before .before .before .before .before .before .before .before .before .try-part .result)) (c .before .before .before .before .before .before .before .before .before .before .before .before .before .before .before .before .before .before .before .before .try-part .ensures) _ (ap asSplit (c .before .before .before .before .before .before .before .before .before .before .before .before .before .before .cut .given .1)))
+
+grow-sub-grow-3 : (t : ℕ) → grow-lts.Need-sub-grow-3 (calls t) (grow-at t) grow.Post
+grow-sub-grow-3 t c = cut-within-now binary32 _ _ (c .before .before .before .before .before .before .before .before .before .before .before .before .before .before .before .before .before .before .before .before .before .before .before .before .before .before .before .before .before .before .args .strategy) _ (c .before .before .before .before .before .before .before .before .before .before .before .before .before .before .before .before .before .before .before .before .before .before .before .before .before .before .before .before .before .before .pre .1) (c .before .before .before .before .before .before .before .before .before .before .before .before .before .before .before .before .before .before .before .before .before .before .before .if1 .left) _ (asSplit (c .before .before .before .before .before .before .before .before .before .before .before .before .before .before .before .before .before .before .before .before .try-part .result)) (c .before .before .before .before .before .before .before .before .before .before .before .before .before .before .before .before .before .before .before .before .try-part .ensures) _ (ap asSplit (c .before .before .before .before .before .before .before .before .before .before .before .before .before .before .cut .given .1)) _ _ _ _ _ _ (c .before .before .before .before .before .before .before .before .grow .ensures)
+
+grow-part-grow-start : (t : ℕ) → grow-lts.Need-part-grow-start (calls t) (grow-at t) grow.Post
+grow-part-grow-start t c = cut-within-now binary32 _ _ (c .before .before .before .before .before .before .before .before .before .before .before .before .before .before .before .before .before .before .before .before .before .before .before .before .before .before .before .before .before .before .args .strategy) _ (c .before .before .before .before .before .before .before .before .before .before .before .before .before .before .before .before .before .before .before .before .before .before .before .before .before .before .before .before .before .before .pre .1) (c .before .before .before .before .before .before .before .before .before .before .before .before .before .before .before .before .before .before .before .before .before .before .before .if1 .left) _ (asSplit (c .before .before .before .before .before .before .before .before .before .before .before .before .before .before .before .before .before .before .before .before .try-part .result)) (c .before .before .before .before .before .before .before .before .before .before .before .before .before .before .before .before .before .before .before .before .try-part .ensures) _ (ap asSplit (c .before .before .before .before .before .before .before .before .before .before .before .before .before .before .cut .given .1)) _ _ _ _ _ _ (c .before .before .before .before .before .before .before .before .grow .ensures)
+
+grow-part-grow-end : (t : ℕ) → grow-lts.Need-part-grow-end (calls t) (grow-at t) grow.Post
+grow-part-grow-end t c = search needs
+
+grow-add-grow : (t : ℕ) → grow-lts.Need-add-grow (calls t) (grow-at t) grow.Post
+grow-add-grow t c = omega (arith, cut-ends binary32 _ _ (c .before .before .before .before .before .before .before .before .before .before .before .before .before .before .before .before .before .before .before .before .before .before .before .before .before .before .before .before .before .before .before .before .args .strategy) _ (c .before .before .before .before .before .before .before .before .before .before .before .before .before .before .before .before .before .before .before .before .before .before .before .before .before .before .before .before .before .before .before .before .pre .1) (c .before .before .before .before .before .before .before .before .before .before .before .before .before .before .before .before .before .before .before .before .before .before .before .before .before .if1 .left) _ (asSplit (c .before .before .before .before .before .before .before .before .before .before .before .before .before .before .before .before .before .before .before .before .before .before .try-part .result)) (c .before .before .before .before .before .before .before .before .before .before .before .before .before .before .before .before .before .before .before .before .before .before .try-part .ensures) _ (ap asSplit (c .before .before .before .before .before .before .before .before .before .before .before .before .before .before .before .before .cut .given .1)))
+
+grow-add-grow-2 : (t : ℕ) → grow-lts.Need-add-grow-2 (calls t) (grow-at t) grow.Post
+grow-add-grow-2 t c = omega (arith, left-root-few binary32 _ _ (c .before .before .before .before .before .before .before .before .before .before .before .before .before .before .before .before .before .before .before .before .before .before .before .before .before .before .before .before .before .before .before .before .before .before .before .args .strategy) _ (c .before .before .before .before .before .before .before .before .before .before .before .before .before .before .before .before .before .before .before .before .before .before .before .before .before .before .before .before .before .before .before .before .before .before .before .pre .1) (c .before .before .before .before .before .before .before .before .before .before .before .before .before .before .before .before .before .before .before .before .before .before .before .before .before .before .before .before .if1 .left) _ (asSplit (c .before .before .before .before .before .before .before .before .before .before .before .before .before .before .before .before .before .before .before .before .before .before .before .before .before .try-part .result)) (c .before .before .before .before .before .before .before .before .before .before .before .before .before .before .before .before .before .before .before .before .before .before .before .before .before .try-part .ensures) _ (ap asSplit (c .before .before .before .before .before .before .before .before .before .before .before .before .before .before .before .before .before .before .before .cut .given .1)) _ _ _ _ _ _ (c .before .before .before .before .before .before .before .before .before .before .before .before .before .grow .ensures))
+
+grow-grow-requires-2 : (t : ℕ) → grow-lts.Need-grow-requires-2 (calls t) (grow-at t) grow.Post
+grow-grow-requires-2 t c κs = (
+  omega (arith, c .before .before .before .before .before .before .before .before .before .before .before .before .before .before .before .before .before .before .before .before .before .before .before .before .before .before .before .before .before .before .before .before .before .before .before .pre .0, some-left binary32 _ _ (c .before .before .before .before .before .before .before .before .before .before .before .before .before .before .before .before .before .before .before .before .before .before .before .before .before .before .before .before .before .before .before .before .before .before .before .args .strategy) _ (c .before .before .before .before .before .before .before .before .before .before .before .before .before .before .before .before .before .before .before .before .before .before .before .before .before .before .before .before .before .before .before .before .before .before .before .pre .1) (c .before .before .before .before .before .before .before .before .before .before .before .before .before .before .before .before .before .before .before .before .before .before .before .before .before .before .before .before .if1 .left)),
+  right-asks binary32 _ _ (c .before .before .before .before .before .before .before .before .before .before .before .before .before .before .before .before .before .before .before .before .before .before .before .before .before .before .before .before .before .before .before .before .before .before .before .args .strategy) _ (c .before .before .before .before .before .before .before .before .before .before .before .before .before .before .before .before .before .before .before .before .before .before .before .before .before .before .before .before .before .before .before .before .before .before .before .pre .1) (c .before .before .before .before .before .before .before .before .before .before .before .before .before .before .before .before .before .before .before .before .before .before .before .before .before .before .before .before .if1 .left) _ (asSplit (c .before .before .before .before .before .before .before .before .before .before .before .before .before .before .before .before .before .before .before .before .before .before .before .before .before .try-part .result)) (c .before .before .before .before .before .before .before .before .before .before .before .before .before .before .before .before .before .before .before .before .before .before .before .before .before .try-part .ensures) _ (ap asSplit (c .before .before .before .before .before .before .before .before .before .before .before .before .before .before .before .before .before .before .before .cut .given .1)) _ _ _ _ _ _ (c .before .before .before .before .before .before .before .before .before .before .before .before .before .grow .ensures) _ (c .before .before .before .before .before .before .before .before .before .before .before .before .before .grow .kept .1 .1 .1 .1 .1 .1 .0 ∙ c .before .before .before .before .before .before .before .before .before .before .before .before .before .before .before .before .before .before .before .before .before .before .before .before .before .try-part .kept .1 .1 .1 .1 .0),
+)
+
+grow-put-branch-requires : (t : ℕ) → grow-lts.Need-put-branch-requires (calls t) (grow-at t) grow.Post
+grow-put-branch-requires t c κs = branch-asks binary32 _ _ (c .before .before .before .before .before .before .before .before .before .before .before .before .before .before .before .before .before .before .before .before .before .before .before .before .before .before .before .before .before .before .before .before .before .before .before .before .before .before .before .before .before .before .before .before .before .before .args .strategy) _ (c .before .before .before .before .before .before .before .before .before .before .before .before .before .before .before .before .before .before .before .before .before .before .before .before .before .before .before .before .before .before .before .before .before .before .before .before .before .before .before .before .before .before .before .before .before .before .pre .1) (c .before .before .before .before .before .before .before .before .before .before .before .before .before .before .before .before .before .before .before .before .before .before .before .before .before .before .before .before .before .before .before .before .before .before .before .before .before .before .before .if1 .left) _ (asSplit (c .before .before .before .before .before .before .before .before .before .before .before .before .before .before .before .before .before .before .before .before .before .before .before .before .before .before .before .before .before .before .before .before .before .before .before .before .try-part .result)) (c .before .before .before .before .before .before .before .before .before .before .before .before .before .before .before .before .before .before .before .before .before .before .before .before .before .before .before .before .before .before .before .before .before .before .before .before .try-part .ensures) _ (ap asSplit (c .before .before .before .before .before .before .before .before .before .before .before .before .before .before .before .before .before .before .before .before .before .before .before .before .before .before .before .before .before .before .cut .given .1)) _ _ _ _ _ _ (c .before .before .before .before .before .before .before .before .before .before .before .before .before .before .before .before .before .before .before .before .before .before .before .before .grow .ensures) _ _ _ _ _ _ (c .before .before .before .before .before .before .before .before .before .before .grow2 .ensures)
+
+grow-same-length-8 : (t : ℕ) → grow-lts.Need-same-length-8 (calls t) (grow-at t) grow.Post
+grow-same-length-8 t c = order-long binary32 _ _ (c .before .before .before .before .before .before .before .before .before .before .before .before .before .before .before .before .before .before .before .before .before .before .before .before .before .before .before .before .before .before .before .before .before .before .before .before .before .before .before .before .before .before .before .before .before .before .before .before .before .before .before .args .strategy) _ (c .before .before .before .before .before .before .before .before .before .before .before .before .before .before .before .before .before .before .before .before .before .before .before .before .before .before .before .before .before .before .before .before .before .before .before .before .before .before .before .before .before .before .before .before .before .before .before .before .before .before .before .pre .1) (c .before .before .before .before .before .before .before .before .before .before .before .before .before .before .before .before .before .before .before .before .before .before .before .before .before .before .before .before .before .before .before .before .before .before .before .before .before .before .before .before .before .before .before .before .if1 .left) _ (asSplit (c .before .before .before .before .before .before .before .before .before .before .before .before .before .before .before .before .before .before .before .before .before .before .before .before .before .before .before .before .before .before .before .before .before .before .before .before .before .before .before .before .before .try-part .result)) (c .before .before .before .before .before .before .before .before .before .before .before .before .before .before .before .before .before .before .before .before .before .before .before .before .before .before .before .before .before .before .before .before .before .before .before .before .before .before .before .before .before .try-part .ensures) _ (ap asSplit (c .before .before .before .before .before .before .before .before .before .before .before .before .before .before .before .before .before .before .before .before .before .before .before .before .before .before .before .before .before .before .before .before .before .before .before .cut .given .1)) _ _ _ _ _ _ (c .before .before .before .before .before .before .before .before .before .before .before .before .before .before .before .before .before .before .before .before .before .before .before .before .before .before .before .before .before .grow .ensures) _ _ _ _ _ _ (c .before .before .before .before .before .before .before .before .before .before .before .before .before .before .before .grow2 .ensures)
+
+grow-same-length-9 : (t : ℕ) → grow-lts.Need-same-length-9 (calls t) (grow-at t) grow.Post
+grow-same-length-9 t c = c .before .before .before .before .before .before .before .before .before .before .before .before .before .before .before .grow2 .kept .1 .1 .1 .1 .1 .1 .0 ∙ c .before .before .before .before .before .before .before .before .before .before .before .before .before .before .before .before .before .before .before .before .before .before .before .before .before .before .before .before .before .grow .kept .1 .1 .1 .1 .1 .1 .0 ∙ c .before .before .before .before .before .before .before .before .before .before .before .before .before .before .before .before .before .before .before .before .before .before .before .before .before .before .before .before .before .before .before .before .before .before .before .before .before .before .before .before .before .try-part .kept .1 .1 .1 .1 .0
+
+grow-same-length-10 : (t : ℕ) → grow-lts.Need-same-length-10 (calls t) (grow-at t) grow.Post
+grow-same-length-10 t c = c .before .before .before .before .put-branch .kept .1 .1 .0 ∙ c .before .before .before .before .before .before .before .before .before .before .before .before .before .before .before .grow2 .kept .1 .1 .1 .1 .1 .1 .1 .1 .0 ∙ c .before .before .before .before .before .before .before .before .before .before .before .before .before .before .before .before .before .before .before .before .before .before .before .before .before .before .before .before .before .grow .kept .1 .1 .1 .1 .1 .1 .1 .1 .0
+
+grow-same-length-11 : (t : ℕ) → grow-lts.Need-same-length-11 (calls t) (grow-at t) grow.Post
+grow-same-length-11 t c = c .before .before .before .before .put-branch .kept .1 .1 .1 .0 ∙ c .before .before .before .before .before .before .before .before .before .before .before .before .before .before .before .grow2 .kept .1 .1 .1 .1 .1 .1 .1 .1 .1 .0 ∙ c .before .before .before .before .before .before .before .before .before .before .before .before .before .before .before .before .before .before .before .before .before .before .before .before .before .before .before .before .before .grow .kept .1 .1 .1 .1 .1 .1 .1 .1 .1 .0
+
+grow-returns-3 : (t : ℕ) → grow-lts.Need-returns-3 (calls t) (grow-at t) grow.Post
+grow-returns-3 t c = branch-gives binary32 _ _ (c .before .before .before .before .before .before .before .before .before .before .before .before .before .before .before .before .before .before .before .before .before .before .before .before .before .before .before .before .before .before .before .before .before .before .before .before .before .before .before .before .before .before .before .before .before .before .before .before .before .before .before .args .strategy) _ (c .before .before .before .before .before .before .before .before .before .before .before .before .before .before .before .before .before .before .before .before .before .before .before .before .before .before .before .before .before .before .before .before .before .before .before .before .before .before .before .before .before .before .before .before .before .before .before .before .before .before .before .pre .1) (c .before .before .before .before .before .before .before .before .before .before .before .before .before .before .before .before .before .before .before .before .before .before .before .before .before .before .before .before .before .before .before .before .before .before .before .before .before .before .before .before .before .before .before .before .if1 .left) _ (asSplit (c .before .before .before .before .before .before .before .before .before .before .before .before .before .before .before .before .before .before .before .before .before .before .before .before .before .before .before .before .before .before .before .before .before .before .before .before .before .before .before .before .before .try-part .result)) (c .before .before .before .before .before .before .before .before .before .before .before .before .before .before .before .before .before .before .before .before .before .before .before .before .before .before .before .before .before .before .before .before .before .before .before .before .before .before .before .before .before .try-part .ensures) _ (ap asSplit (c .before .before .before .before .before .before .before .before .before .before .before .before .before .before .before .before .before .before .before .before .before .before .before .before .before .before .before .before .before .before .before .before .before .before .before .cut .given .1)) _ _ _ _ _ _ (c .before .before .before .before .before .before .before .before .before .before .before .before .before .before .before .before .before .before .before .before .before .before .before .before .before .before .before .before .before .grow .ensures) _ _ _ _ _ _ (c .before .before .before .before .before .before .before .before .before .before .before .before .before .before .before .grow2 .ensures) _ _ _ _ _ (c .before .before .before .before .put-branch .ensures)
+
+pub +grow-spec : {M : Type 1} → statement M
++grow-spec = close μ-grow λ t. grow-lts.spec (calls t)
+    (grow-at t)
+    grow.Post
+    (grow-put-leaf-requires t)
+    (grow-same-length t)
+    (grow-same-length-2 t)
+    (grow-same-length-3 t)
+    (grow-returns t)
+    (grow-try-part-requires t)
+    (grow-enum-known-cut t)
+    (grow-enum-told t)
+    (grow-put-leaf-requires-2 t)
+    (grow-same-length-4 t)
+    (grow-same-length-5 t)
+    (grow-same-length-6 t)
+    (grow-same-length-7 t)
+    (grow-returns-2 t)
+    (grow-sub-grow t)
+    (grow-slice-relend-prefix-grow t)
+    (grow-slice-aggregate-grow t)
+    (grow-grow-requires t)
+    (grow-sub-grow-2 t)
+    (grow-mul-grow t)
+    (grow-sub-grow-3 t)
+    (grow-part-grow-start t)
+    (grow-part-grow-end t)
+    (grow-add-grow t)
+    (grow-add-grow-2 t)
+    (grow-grow-requires-2 t)
+    (grow-put-branch-requires t)
+    (grow-same-length-8 t)
+    (grow-same-length-9 t)
+    (grow-same-length-10 t)
+    (grow-same-length-11 t)
+    (grow-returns-3 t)

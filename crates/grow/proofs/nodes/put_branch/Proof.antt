@@ -1,0 +1,59 @@
+-- `grow::put_branch` meets its contract: what `union_box`, `put_links`, `put_box` and `deeper` ensure.
+-- Assumes nothing.
+use mathlib.Core.Path.{refl, ap, _∙_}
+use Prim.Native.Nat.{ℕ, _+_, _*_}
+use Rattle.spec_tables.specs.Tables.{over}
+use Rattle.spec_shapes.specs.Boxes.{Box}
+use Rattle.spec_tree.specs.Trees.{sixOf}
+use borrow.Author.Needs.{needs}
+use Rattle.grow.proofs.nodes.put_branch.Statement.{statement}
+use Rattle.grow.proofs.nodes.put_branch.Tie as tie
+
+add-node : tie.Need-add-node
+add-node c = search needs
+
+union-box-requires : tie.Need-union-box-requires
+union-box-requires c κs = search needs
+
+cast-put-links : tie.Need-cast-put-links
+cast-put-links c = search needs
+
+cast-put-links-2 : tie.Need-cast-put-links-2
+cast-put-links-2 c = search needs
+
+put-links-requires : tie.Need-put-links-requires
+put-links-requires c κs = search needs
+
+put-box-requires : tie.Need-put-box-requires
+put-box-requires c κs = search needs
+
+deeper-requires : tie.Need-deeper-requires
+deeper-requires c κs = search needs
+
+add-t15 : tie.Need-add-t15
+add-t15 c = search needs
+
+same-length : tie.Need-same-length
+same-length c = search needs
+
+same-length-2 : tie.Need-same-length-2
+same-length-2 c = search needs
+
+returns : tie.Need-returns
+returns c = record { links-are = c .before .before .before .before .before .before .before .put-links .ensures; boxes-are = c .before .before .before .put-box .ensures ∙ ap (λ (b : Box). over (6 * (c .before .before .before .before .before .before .before .before .before .before .before .before .before .before .before .args .right .root + 1)) (sixOf b) (c .before .before .before .before .before .before .before .before .before .before .before .before .before .before .before .args .boxes .now)) (c .before .before .before .before .before .before .before .before .before .before .before .union-box .ensures); root-is = refl; levels-are = ap (λ (n : ℕ). n + 1) (c .deeper .ensures); box-is = c .before .before .before .before .before .before .before .before .before .before .before .union-box .ensures }
+
+pub put-branch-spec : {M : Type 1} → statement M
+put-branch-spec =
+    tie.close
+    (tie.spec
+    add-node
+    union-box-requires
+    cast-put-links
+    cast-put-links-2
+    put-links-requires
+    put-box-requires
+    deeper-requires
+    add-t15
+    same-length
+    same-length-2
+    returns)

@@ -1,0 +1,54 @@
+-- `grow::put_axis` meets its contract: the part that was lent comes back with the centres in it.
+-- Assumes nothing.
+use Prim.Native.Nat.{_+_, _-_}
+use mathlib.Core.Path.{refl}
+use native.Mathlib.Omega.{arith}
+use lib.Ieee.{binary32}
+use Rattle.shapes.specs.Values.{asAxis}
+use Rattle.spec_splits.proofs.Table.{place-below}
+use Rattle.spec_build.proofs.Tabling.{centres-put}
+use borrow.Author.Needs.{needs}
+use Rattle.grow.proofs.tables.put_axis.Statement.{statement}
+use Rattle.grow.proofs.tables.put_axis.Tie as tie
+
+first-key-requires : tie.Need-first-key-requires
+first-key-requires c κs = search needs
+
+add-put-keys : tie.Need-add-put-keys
+add-put-keys c = omega (arith, c .first-key .ensures, place-below (asAxis (c .before .before .before .args .axis)))
+
+mul-put-keys : tie.Need-mul-put-keys
+mul-put-keys c = omega (arith, c .first-key .ensures, place-below (asAxis (c .before .before .before .args .axis)))
+
+sub-put-keys : tie.Need-sub-put-keys
+sub-put-keys c = search needs
+
+part-put-keys-start : tie.Need-part-put-keys-start
+part-put-keys-start c = search needs
+
+part-put-keys-end : tie.Need-part-put-keys-end
+part-put-keys-end c = omega (arith, c .first-key .ensures, place-below (asAxis (c .before .before .before .args .axis)))
+
+put-keys-requires : tie.Need-put-keys-requires
+put-keys-requires c κs = search needs
+
+same-length : tie.Need-same-length
+same-length c = search needs
+
+returns : tie.Need-returns
+returns c = let first = c .before .before .before .before .first-key .result in
+    centres-put binary32 _ _ _ first (first + 4096 - first) _ _ (c .before .before .before .before .before .before .before .pre .1) (c .before .before .before .before .before .before .before .pre .0 .few) (c .before .before .before .before .first-key .ensures) (omega arith) (c .before .before .put-keys .ensures) _ refl
+
+pub put-axis-spec : {M : Type 1} → statement M
+put-axis-spec =
+    tie.close
+    (tie.spec
+    first-key-requires
+    add-put-keys
+    mul-put-keys
+    sub-put-keys
+    part-put-keys-start
+    part-put-keys-end
+    put-keys-requires
+    same-length
+    returns)

@@ -1,0 +1,59 @@
+-- `grow::put_bounds` meets its contract: a turn writes one box behind those that stand there.
+-- Assumes nothing.
+use borrow.Author.Needs.{needs}
+use mathlib.Core.Path.{refl, _∙_, ap}
+use Prim.Native.Nat.{_-_, _*_}
+use native.Mathlib.Omega.{arith}
+use Rattle.spec_tables.specs.Tables.{over}
+use Rattle.spec_tables.proofs.Runs.{Run, run-start, run-front, run-end}
+use Rattle.spec_lists.specs.Reading.{boxAt}
+use Rattle.spec_shapes.specs.Boxes.{Box}
+use Rattle.spec_tree.specs.Trees.{sixOf}
+use Rattle.grow.proofs.tables.put_bounds.Statement.{statement}
+use Rattle.grow.proofs.tables.put_bounds.Tie as tie
+
+abbrev Inv-loop : tie.InvT-loop
+Inv-loop triangles count bounds₀ t₀ bounds t = Run (λ k. sixOf (boxAt triangles k)) 0 count bounds₀ bounds t
+
+abbrev μ-loop : tie.MeasureT-loop
+μ-loop triangles count bounds₀ t₀ bounds t = count - t
+
+loop-holds : tie.Need-loop-holds Inv-loop μ-loop
+loop-holds c = run-start _ 6 0 _ _
+
+box-at-requires : tie.Need-box-at-requires Inv-loop μ-loop
+box-at-requires c κs = search needs
+
+put-box-requires : tie.Need-put-box-requires Inv-loop μ-loop
+put-box-requires c κs = omega (arith, c .before .before .before .loop .inv .long)
+
+add-t : tie.Need-add-t Inv-loop μ-loop
+add-t c = search needs
+
+loop-less : tie.Need-loop-less Inv-loop μ-loop
+loop-less c = search needs
+
+loop-again : tie.Need-loop-again Inv-loop μ-loop
+loop-again c = run-front (λ k. sixOf (boxAt (c .before .before .before .before .before .before .before .before .before .args .triangles .now) k)) 6 _ _ _ _ _ (λ j. refl) (c .before .before .before .before .before .before .before .before .before .pre .1) (c .before .before .before .before .before .loop-test .taken) (c .before .before .before .before .before .before .loop .inv)
+    (c .before .before .put-box .ensures ∙ ap (λ (b : Box). over (6 * c .before .before .before .before .before .before .loop .t) (sixOf b) (c .before .before .before .before .before .before .loop .bounds)) (c .before .before .before .box-at .ensures))
+
+same-length : tie.Need-same-length Inv-loop μ-loop
+same-length c = c .before .loop .inv .long
+
+returns : tie.Need-returns Inv-loop μ-loop
+returns c = run-end _ 0 _ _ _ _ (c .loop-test .left) (c .before .loop .inv)
+
+pub put-bounds-spec : {M : Type 1} → statement M
+put-bounds-spec =
+    tie.close
+    (tie.spec
+    Inv-loop
+    μ-loop
+    loop-holds
+    box-at-requires
+    put-box-requires
+    add-t
+    loop-less
+    loop-again
+    same-length
+    returns)

@@ -1,0 +1,26 @@
+-- `grow::put_centres` meets its contract: what `put_axis` ensures of each axis.
+-- Assumes nothing.
+use Rattle.spec_build.proofs.Tabling.{all-centred}
+use borrow.Author.Needs.{needs}
+use Rattle.grow.proofs.tables.put_centres.Statement.{statement}
+use Rattle.grow.proofs.tables.put_centres.Tie as tie
+
+put-axis-requires : tie.Need-put-axis-requires
+put-axis-requires c κs = search needs
+
+put-axis-requires-2 : tie.Need-put-axis-requires-2
+put-axis-requires-2 c κs = search needs
+
+put-axis-requires-3 : tie.Need-put-axis-requires-3
+put-axis-requires-3 c κs = search needs
+
+same-length : tie.Need-same-length
+same-length c = search needs
+
+returns : tie.Need-returns
+returns c = all-centred _ _ _ _ _ _ _ (c .before .before .before .before .before .before .before .before .before .before .put-axis .ensures) (c .before .before .before .before .before .before .put-axis2 .ensures) (c .before .before .put-axis3 .ensures)
+
+pub put-centres-spec : {M : Type 1} → statement M
+put-centres-spec =
+    tie.close
+    (tie.spec put-axis-requires put-axis-requires-2 put-axis-requires-3 same-length returns)

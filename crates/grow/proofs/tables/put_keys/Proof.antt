@@ -1,0 +1,67 @@
+-- `grow::put_keys` meets its contract: a turn stores one centre behind those that stand there.
+-- Assumes nothing.
+use Prim.Native.Nat.{_-_}
+use mathlib.Core.List.{[], _∷_}
+use native.Mathlib.Omega.{arith}
+use lib.Ieee.{binary32}
+use Rattle.shapes.specs.Values.{asAxis}
+use Rattle.spec_tables.proofs.Runs.{Run, run-start, run-end}
+use Rattle.spec_splits.specs.Splits.{boxIn}
+use Rattle.spec_build.specs.Tries.{centreOn}
+use Rattle.spec_tables.proofs.Stores.{run-store-front}
+use borrow.Author.Needs.{needs}
+use Rattle.grow.proofs.tables.put_keys.Statement.{statement}
+use Rattle.grow.proofs.tables.put_keys.Tie as tie
+
+abbrev Inv-loop : tie.InvT-loop
+Inv-loop bounds axis count keys₀ t₀ keys t = Run (λ k. centreOn binary32 (boxIn bounds) (asAxis axis) k ∷ []) 0 count keys₀ keys t
+
+abbrev μ-loop : tie.MeasureT-loop
+μ-loop bounds axis count keys₀ t₀ keys t = count - t
+
+loop-holds : tie.Need-loop-holds Inv-loop μ-loop
+loop-holds c = run-start _ 1 0 _ _
+
+cast-centre-on : tie.Need-cast-centre-on Inv-loop μ-loop
+cast-centre-on c = search needs
+
+centre-on-requires : tie.Need-centre-on-requires Inv-loop μ-loop
+centre-on-requires c κs = search needs
+
+mul-keys : tie.Need-mul-keys Inv-loop μ-loop
+mul-keys c = omega (arith, c .before .before .loop .inv .long)
+
+slice-write-keys : tie.Need-slice-write-keys Inv-loop μ-loop
+slice-write-keys c = omega (arith, c .before .before .loop .inv .long)
+
+add-t : tie.Need-add-t Inv-loop μ-loop
+add-t c = search needs
+
+loop-less : tie.Need-loop-less Inv-loop μ-loop
+loop-less c = search needs
+
+loop-again : tie.Need-loop-again Inv-loop μ-loop
+loop-again c = run-store-front (centreOn binary32 (boxIn (c .before .before .before .before .before .args .bounds .now)) (asAxis (c .before .before .before .before .before .args .axis))) _ _ _ _ _ (c .before .before .before .before .before .pre .room) (c .before .loop-test .taken) (c .before .before .loop .inv) (c .centre-on .ensures)
+
+same-length : tie.Need-same-length Inv-loop μ-loop
+same-length c = c .before .loop .inv .long
+
+returns : tie.Need-returns Inv-loop μ-loop
+returns c = run-end _ 0 _ _ _ _ (c .loop-test .left) (c .before .loop .inv)
+
+pub put-keys-spec : {M : Type 1} → statement M
+put-keys-spec =
+    tie.close
+    (tie.spec
+    Inv-loop
+    μ-loop
+    loop-holds
+    cast-centre-on
+    centre-on-requires
+    mul-keys
+    slice-write-keys
+    add-t
+    loop-less
+    loop-again
+    same-length
+    returns)

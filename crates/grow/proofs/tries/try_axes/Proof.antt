@@ -1,0 +1,96 @@
+-- `grow::try_axes` meets its contract: the tries in turn, each on the order that the last one left.
+-- Assumes nothing.
+use mathlib.Core.Path.{ap, _∙_}
+use lib.Ieee.{binary32}
+use Rattle.splits.specs.Values.{asSplit}
+use Rattle.spec_shapes.specs.Points.{Point, at}
+use Rattle.spec_build.specs.Tries.{axesBySize}
+use Rattle.spec_build.proofs.Trying.{next-asks, stays-cut, tries-next, tries-last, in-turn}
+use borrow.Author.Needs.{needs}
+use Rattle.grow.proofs.tries.try_axes.Statement.{statement}
+use Rattle.grow.proofs.tries.try_axes.Tie as tie
+
+sizes-requires : tie.Need-sizes-requires
+sizes-requires c κs = search needs
+
+axes-by-size-requires : tie.Need-axes-by-size-requires
+axes-by-size-requires c κs = search needs
+
+try-on-requires : tie.Need-try-on-requires
+try-on-requires c κs = search needs
+
+enum-known-once : tie.Need-enum-known-once
+enum-known-once c = search needs
+
+same-length : tie.Need-same-length
+same-length c = search needs
+
+same-length-2 : tie.Need-same-length-2
+same-length-2 c = search needs
+
+returns : tie.Need-returns
+returns c = in-turn binary32 _ _ _ _ _ _ (c .before .before .before .before .before .before .before .before .before .before .axes-by-size .ensures ∙ ap (λ (p : Point). axesBySize (at p)) (c .before .before .before .before .before .before .before .before .before .before .before .sizes .ensures))
+    (stays-cut binary32 _ _ _ _ _ _ _ _ _ (ap asSplit (c .before .once .given .1)) (c .before .before .before .before .before .before .before .try-on .ensures))
+
+enum-told : tie.Need-enum-told
+enum-told c = search needs
+
+try-on-requires-2 : tie.Need-try-on-requires-2
+try-on-requires-2 c κs = next-asks binary32 _ _ (c .before .before .before .before .before .before .before .before .before .before .before .before .before .before .before .before .before .pre) _ _ _ _ _ (asSplit (c .before .before .before .before .before .before .before .before .try-on .result)) (c .before .before .before .before .before .before .before .before .try-on .ensures) (c .before .before .before .before .before .before .before .before .try-on .kept .1 .1 .1 .1 .1 .1 .0)
+
+enum-known-twice : tie.Need-enum-known-twice
+enum-known-twice c = search needs
+
+same-length-3 : tie.Need-same-length-3
+same-length-3 c = search needs
+
+same-length-4 : tie.Need-same-length-4
+same-length-4 c = search needs
+
+returns-2 : tie.Need-returns-2
+returns-2 c = in-turn binary32 _ _ _ _ _ _ (c .before .before .before .before .before .before .before .before .before .before .before .before .before .before .before .before .before .before .before .axes-by-size .ensures ∙ ap (λ (p : Point). axesBySize (at p)) (c .before .before .before .before .before .before .before .before .before .before .before .before .before .before .before .before .before .before .before .before .sizes .ensures))
+    (tries-next binary32 _ _ _ _ _ _ _ _ _ (ap asSplit (c .before .before .before .before .before .before .before .before .before .before .enum-told .given .1)) (c .before .before .before .before .before .before .before .before .before .before .before .before .before .before .before .before .try-on .ensures)
+    (stays-cut binary32 _ _ _ _ _ _ _ _ _ (ap asSplit (c .before .twice .given .1)) (c .before .before .before .before .before .before .before .try-on2 .ensures)))
+
+enum-told-2 : tie.Need-enum-told-2
+enum-told-2 c = search needs
+
+try-on-requires-3 : tie.Need-try-on-requires-3
+try-on-requires-3 c κs = next-asks binary32 _ _
+    (next-asks binary32 _ _ (c .before .before .before .before .before .before .before .before .before .before .before .before .before .before .before .before .before .before .before .before .before .before .before .before .before .before .pre) _ _ _ _ (c .before .before .before .before .before .before .before .before .before .before .before .before .before .before .before .before .before .try-on .last .1 .1 .1 .1 .1 .1 .0) (asSplit (c .before .before .before .before .before .before .before .before .before .before .before .before .before .before .before .before .before .try-on .result)) (c .before .before .before .before .before .before .before .before .before .before .before .before .before .before .before .before .before .try-on .ensures) (c .before .before .before .before .before .before .before .before .before .before .before .before .before .before .before .before .before .try-on .kept .1 .1 .1 .1 .1 .1 .0))
+    _ _ _ _ _ (asSplit (c .before .before .before .before .before .before .before .before .try-on2 .result)) (c .before .before .before .before .before .before .before .before .try-on2 .ensures) (c .before .before .before .before .before .before .before .before .try-on2 .kept .1 .1 .1 .1 .1 .1 .0)
+
+same-length-5 : tie.Need-same-length-5
+same-length-5 c = search needs
+
+same-length-6 : tie.Need-same-length-6
+same-length-6 c = search needs
+
+returns-3 : tie.Need-returns-3
+returns-3 c = in-turn binary32 _ _ _ _ _ _ (c .before .before .before .before .before .before .before .before .before .before .before .before .before .before .before .before .before .before .before .before .before .before .before .before .before .axes-by-size .ensures ∙ ap (λ (p : Point). axesBySize (at p)) (c .before .before .before .before .before .before .before .before .before .before .before .before .before .before .before .before .before .before .before .before .before .before .before .before .before .before .sizes .ensures))
+    (tries-next binary32 _ _ _ _ _ _ _ _ _ (ap asSplit (c .before .before .before .before .before .before .before .before .before .before .before .before .before .before .before .before .enum-told .given .1)) (c .before .before .before .before .before .before .before .before .before .before .before .before .before .before .before .before .before .before .before .before .before .before .try-on .ensures)
+    (tries-next binary32 _ _ _ _ _ _ _ _ _ (ap asSplit (c .before .before .before .before .before .before .before .enum-told2 .given .1)) (c .before .before .before .before .before .before .before .before .before .before .before .before .before .try-on2 .ensures)
+    (tries-last binary32 _ _ _ _ _ _ (c .before .before .before .before .try-on3 .ensures))))
+
+pub try-axes-spec : {M : Type 1} → statement M
+try-axes-spec =
+    tie.close
+    (tie.spec
+    sizes-requires
+    axes-by-size-requires
+    try-on-requires
+    enum-known-once
+    same-length
+    same-length-2
+    returns
+    enum-told
+    try-on-requires-2
+    enum-known-twice
+    same-length-3
+    same-length-4
+    returns-2
+    enum-told-2
+    try-on-requires-3
+    same-length-5
+    same-length-6
+    returns-3)

@@ -1,0 +1,26 @@
+-- `grow::try_on` meets its contract: the part is sorted, and the rule is asked of it.
+-- Assumes nothing.
+use lib.Ieee.{binary32}
+use Rattle.shapes.specs.Values.{asAxis, asBox}
+use Rattle.spec_build.proofs.Trying.{try-sort-asks, try-sorted, try-rule-asks, try-gives}
+use borrow.Author.Needs.{needs}
+use Rattle.grow.proofs.tries.try_on.Statement.{statement}
+use Rattle.grow.proofs.tries.try_on.Tie as tie
+
+sort-on-requires : tie.Need-sort-on-requires
+sort-on-requires c κs = try-sort-asks binary32 _ _ (c .before .before .before .before .before .before .pre) (asAxis (c .before .before .before .before .before .before .args .axis))
+
+rule-requires : tie.Need-rule-requires
+rule-requires c κs = try-rule-asks binary32 _ _ (try-sorted binary32 _ _ (c .before .before .before .before .before .before .before .before .before .before .before .before .pre) (c .before .before .before .before .before .before .before .before .before .before .before .before .args .strategy) (asAxis (c .before .before .before .before .before .before .before .before .before .before .before .before .args .axis)) (asBox (c .before .before .before .before .before .before .before .before .before .before .before .before .args .parent)) _ (c .before .before .before .before .before .sort-on .ensures))
+
+same-length : tie.Need-same-length
+same-length c = search needs
+
+same-length-2 : tie.Need-same-length-2
+same-length-2 c = search needs
+
+returns : tie.Need-returns
+returns c = try-gives binary32 _ _ (c .before .before .before .before .before .before .before .before .before .before .before .before .before .pre) (c .before .before .before .before .before .before .before .before .before .before .before .before .before .args .strategy) (asAxis (c .before .before .before .before .before .before .before .before .before .before .before .before .before .args .axis)) (asBox (c .before .before .before .before .before .before .before .before .before .before .before .before .before .args .parent)) _ (c .before .before .before .before .before .before .sort-on .ensures) _ (c .rule .ensures)
+
+pub try-on-spec : {M : Type 1} → statement M
+try-on-spec = tie.close (tie.spec sort-on-requires rule-requires same-length same-length-2 returns)

@@ -1,0 +1,27 @@
+-- `grow::try_part` meets its contract: what `union_of` and `try_axes` ensure.
+-- Assumes nothing.
+use native.Mathlib.Omega.{arith}
+use lib.Ieee.{binary32}
+use Rattle.spec_build.proofs.Trying.{try-rule-asks, tried-is}
+use borrow.Author.Needs.{needs}
+use Rattle.grow.proofs.tries.try_part.Statement.{statement}
+use Rattle.grow.proofs.tries.try_part.Tie as tie
+
+union-of-requires : tie.Need-union-of-requires
+union-of-requires c κs = (omega (arith, c .before .before .before .before .before .pre .some), try-rule-asks binary32 _ _ (c .before .before .before .before .before .pre) .boxed .in-table)
+
+try-axes-requires : tie.Need-try-axes-requires
+try-axes-requires c κs = search needs
+
+same-length : tie.Need-same-length
+same-length c = search needs
+
+same-length-2 : tie.Need-same-length-2
+same-length-2 c = search needs
+
+returns : tie.Need-returns
+returns c = tried-is binary32 _ _ _ _ _ (omega (arith, c .before .before .before .before .before .before .before .before .before .before .before .before .before .pre .some)) (c .before .before .before .before .before .before .before .union-of .ensures) (c .before .before .before .before .try-axes .ensures)
+
+pub try-part-spec : {M : Type 1} → statement M
+try-part-spec =
+    tie.close (tie.spec union-of-requires try-axes-requires same-length same-length-2 returns)

@@ -1,0 +1,61 @@
+// The recursion: a part of the order list becomes a leaf, or is cut in two and each side grows in its turn. The left subtree's nodes are written first, then the right one's, then the node itself.
+ghost use lib.Ieee.{binary32};
+ghost use Rattle.shapes.specs.Values as Shapes;
+ghost use Rattle.spec_build.specs.Growing.{Growable, GrownIs};
+use crate::nodes::Grown;
+use crate::nodes::put_branch;
+use crate::nodes::put_leaf;
+use crate::tries::try_part;
+use splits::split::Split;
+
+// Grows the tree of a part whose triangles begin at `entry` of the order list, with so many levels left below this one, its nodes from `node` on.
+pub fn grow(
+    bounds: &[f32],
+    centres: &[f32],
+    strategy: usize,
+    leaf_minimum: usize,
+    levels_left: usize,
+    part: &mut [u32],
+    scratch: &mut [u32],
+    entry: usize,
+    links: &mut [u32],
+    boxes: &mut [f32],
+    node: usize,
+) -> Grown
+    requires { ⌜ Growable binary32 (now bounds) (now centres) «leaf_minimum» «levels_left» (now part) (now scratch) entry (now links) (now boxes) node ⌝ }
+    ensures { λ r. ⌜ GrownIs binary32 (now (bounds .entry)) strategy «leaf_minimum» «levels_left» (now (part .entry)) (now (part .exit)) entry (now (links .entry)) (now (links .exit)) (now (boxes .entry)) (now (boxes .exit)) node (r .root) (r .levels) (Shapes.asBox (r .bounds)) ⌝ }
+{
+    if (levels_left == 0) | (part.len() <= leaf_minimum) {
+        return put_leaf(bounds, part, entry, links, boxes, node);
+    }
+    let Split::At(cut) = try_part(bounds, centres, strategy, part, scratch) else {
+        return put_leaf(bounds, part, entry, links, boxes, node);
+    };
+    let left = grow(
+        bounds,
+        centres,
+        strategy,
+        leaf_minimum,
+        levels_left - 1,
+        &mut part[..cut],
+        scratch,
+        entry,
+        links,
+        boxes,
+        node,
+    );
+    let right = grow(
+        bounds,
+        centres,
+        strategy,
+        leaf_minimum,
+        levels_left - 1,
+        &mut part[cut..],
+        scratch,
+        entry + cut,
+        links,
+        boxes,
+        left.root + 1,
+    );
+    put_branch(left, right, links, boxes)
+}

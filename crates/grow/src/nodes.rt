@@ -1,0 +1,74 @@
+// Nodes in the lent lists: three links and six box numbers each.
+ghost use mathlib.Core.Path.{_≡_};
+ghost use mathlib.Core.List.{[], _∷_};
+ghost use Prim.Native.Nat.{_+_, _*_, _≤_, _<_, max};
+ghost use lib.ListN.{length};
+ghost use Rattle.shapes.specs.Values as Shapes;
+ghost use Rattle.spec_tables.specs.Tables.{over};
+ghost use Rattle.spec_tree.specs.Trees as Trees;
+ghost use Rattle.spec_splits.specs.Splits.{boxIn};
+ghost use Rattle.spec_build.specs.Growing.{LeafAsked, BranchAsked, BranchPut, Written};
+use crate::tables::put_box;
+use shapes::box3::Box3;
+use splits::table::union_of;
+
+// What was grown: where its root stands, its levels, and the box over it.
+pub struct Grown {
+    pub root: usize,
+    pub levels: usize,
+    pub bounds: Box3,
+}
+
+pub fn put_links(links: &mut [u32], node: usize, kind: u32, left: u32, right: u32)
+    requires { ⌜ 3 * node + 3 ≤ length (now links) ⌝ }
+    ensures { λ _. ⌜ now (links .exit) ≡ over (3 * node) (kind ∷ left ∷ right ∷ []) (now (links .entry)) ⌝ }
+{
+    let at = 3 * node;
+    links[at] = kind;
+    links[at + 1] = left;
+    links[at + 2] = right;
+}
+
+// A leaf over the part, whose triangles begin at this entry of the order list.
+pub fn put_leaf(
+    bounds: &[f32],
+    part: &[u32],
+    entry: usize,
+    links: &mut [u32],
+    boxes: &mut [f32],
+    node: usize,
+) -> Grown
+    requires { ⌜ LeafAsked (now bounds) (now part) entry (now links) (now boxes) node ⌝ }
+    ensures { λ r. ⌜ Written (boxIn (now (bounds .entry))) (Trees.leaf (now (part .entry))) entry node (now (links .entry)) (now (links .exit)) (now (boxes .entry)) (now (boxes .exit)) (r .root) (r .levels) (Shapes.asBox (r .bounds)) ⌝ }
+{
+    let over = union_of(bounds, part);
+    put_links(links, node, 1, entry as u32, (entry + part.len()) as u32);
+    put_box(boxes, node, over);
+    Grown {
+        root: node,
+        levels: 1,
+        bounds: over,
+    }
+}
+
+fn deeper(a: usize, b: usize) -> usize
+    ensures { λ r. ⌜ r ≡ max a b ⌝ }
+{
+    if a < b { b } else { a }
+}
+
+// A branch behind its two subtrees.
+pub fn put_branch(left: Grown, right: Grown, links: &mut [u32], boxes: &mut [f32]) -> Grown
+    requires { ⌜ BranchAsked (left .root) (left .levels) (right .root) (right .levels) (now links) (now boxes) ⌝ }
+    ensures { λ r. ⌜ BranchPut (left .root) (left .levels) (Shapes.asBox (left .bounds)) (right .root) (right .levels) (Shapes.asBox (right .bounds)) (now (links .entry)) (now (links .exit)) (now (boxes .entry)) (now (boxes .exit)) (r .root) (r .levels) (Shapes.asBox (r .bounds)) ⌝ }
+{
+    let node = right.root + 1;
+    let over = left.bounds.union_box(right.bounds);
+    put_links(links, node, 2, left.root as u32, right.root as u32);
+    put_box(boxes, node, over);
+    Grown {
+        root: node,
+        levels: deeper(left.levels, right.levels) + 1,
+        bounds: over,
+    }
+}

@@ -1,0 +1,106 @@
+// The tables that are made once a build: the box of each triangle, the centre of each box on each axis, and the
+// numbers of the triangles.
+ghost use mathlib.Core.Path.{_≡_};
+ghost use mathlib.Core.List.{[], _∷_};
+ghost use Prim.Native.Nat.{_+_, _*_, _≤_};
+ghost use lib.ListN.{length};
+ghost use lib.Ieee.{binary32};
+ghost use Rattle.shapes.specs.Values as Shapes;
+ghost use Rattle.spec_tables.specs.Tables.{over, many};
+ghost use Rattle.spec_lists.specs.Limits.{mostTriangles};
+ghost use Rattle.spec_lists.specs.Reading as Reading;
+ghost use Rattle.spec_tree.specs.Order.{upTo};
+ghost use Rattle.spec_tree.specs.Trees as Trees;
+ghost use Rattle.spec_splits.specs.Splits.{place, boxIn};
+ghost use Rattle.spec_build.specs.Tries.{centreOn};
+ghost use Rattle.spec_build.specs.Growing.{CentresAsked, CentresPut, Centred};
+use lists::limits::MOST_TRIANGLES;
+use lists::reading::box_at;
+use shapes::box3::Box3;
+use shapes::vec3::Axis;
+use splits::table::centre_on;
+
+// The box in place k of a table of boxes.
+pub fn put_box(boxes: &mut [f32], k: usize, b: Box3)
+    requires { ⌜ 6 * k + 6 ≤ length (now boxes) ⌝ }
+    ensures { λ _. ⌜ now (boxes .exit) ≡ over (6 * k) (Trees.sixOf (Shapes.asBox b)) (now (boxes .entry)) ⌝ }
+{
+    let at = 6 * k;
+    boxes[at] = b.min.x;
+    boxes[at + 1] = b.min.y;
+    boxes[at + 2] = b.min.z;
+    boxes[at + 3] = b.max.x;
+    boxes[at + 4] = b.max.y;
+    boxes[at + 5] = b.max.z;
+}
+
+// The boxes of the first `count` triangles, six numbers each.
+pub fn put_bounds(triangles: &[f32], count: usize, bounds: &mut [f32])
+    requires { ⌜ (9 * count ≤ length (now triangles)) × (6 * count ≤ length (now bounds)) ⌝ }
+    ensures { λ _. ⌜ now (bounds .exit) ≡ over 0 (many (λ t. Trees.sixOf (Reading.boxAt (now (triangles .entry)) t)) count) (now (bounds .entry)) ⌝ }
+{
+    let mut t = 0;
+    while t < count {
+        put_box(bounds, t, box_at(triangles, t));
+        t += 1;
+    }
+}
+
+// Where the centres on an axis begin in their table.
+pub fn first_key(axis: Axis) -> usize
+    ensures { λ r. ⌜ r ≡ place (Shapes.asAxis axis) * mostTriangles ⌝ }
+{
+    match axis {
+        Axis::X => 0,
+        Axis::Y => MOST_TRIANGLES,
+        Axis::Z => 2 * MOST_TRIANGLES,
+    }
+}
+
+// The centres of the first `count` boxes on one axis.
+fn put_keys(bounds: &[f32], axis: Axis, count: usize, keys: &mut [f32])
+    requires { ⌜ CentresAsked (now bounds) count (now keys) ⌝ }
+    ensures { λ _. ⌜ now (keys .exit) ≡ over 0 (many (λ t. centreOn binary32 (boxIn (now (bounds .entry))) (Shapes.asAxis axis) t ∷ []) count) (now (keys .entry)) ⌝ }
+{
+    let mut t = 0;
+    while t < count {
+        keys[t] = centre_on(bounds, t as u32, axis);
+        t += 1;
+    }
+}
+
+// The same in the part of the table that the axis has.
+fn put_axis(bounds: &[f32], axis: Axis, count: usize, centres: &mut [f32])
+    requires { ⌜ (CentresAsked (now bounds) count (now centres)) × (length (now centres) ≡ 3 * mostTriangles) ⌝ }
+    ensures { λ _. ⌜ CentresPut binary32 (now (bounds .entry)) (Shapes.asAxis axis) count (now (centres .entry)) (now (centres .exit)) ⌝ }
+{
+    let first = first_key(axis);
+    put_keys(
+        bounds,
+        axis,
+        count,
+        &mut centres[first..first + MOST_TRIANGLES],
+    );
+}
+
+// The centres of the first `count` boxes on each axis.
+pub fn put_centres(bounds: &[f32], count: usize, centres: &mut [f32])
+    requires { ⌜ (CentresAsked (now bounds) count (now centres)) × (length (now centres) ≡ 3 * mostTriangles) ⌝ }
+    ensures { λ _. ⌜ Centred binary32 (now (bounds .entry)) count (now (centres .entry)) (now (centres .exit)) ⌝ }
+{
+    put_axis(bounds, Axis::X, count, centres);
+    put_axis(bounds, Axis::Y, count, centres);
+    put_axis(bounds, Axis::Z, count, centres);
+}
+
+// 0, 1 and so on at the front of the order list.
+pub fn put_order(count: usize, order: &mut [u32])
+    requires { ⌜ (count ≤ 4096) × (count ≤ length (now order)) ⌝ }
+    ensures { λ _. ⌜ now (order .exit) ≡ over 0 (upTo count) (now (order .entry)) ⌝ }
+{
+    let mut number = 0;
+    while number < count {
+        order[number] = number as u32;
+        number += 1;
+    }
+}

@@ -1,0 +1,98 @@
+// The tries: a part is sorted by its centres on an axis and handed to the rule, on one axis after the other.
+ghost use mathlib.Core.Path.{_≡_};
+ghost use lib.Ieee.{binary32};
+ghost use Rattle.shapes.specs.Values as Shapes;
+ghost use Rattle.spec_sort.specs.Sort.{byKey, sorted};
+ghost use Rattle.spec_splits.specs.Splits as Splits;
+ghost use Rattle.splits.specs.Values as Rules;
+ghost use Rattle.spec_build.specs.Tries as Tries;
+ghost use Rattle.spec_build.specs.Growing.{keysOn, SortAsked, RuleAsked, Triable};
+use crate::axes::axes_by_size;
+use crate::tables::first_key;
+use lists::limits::MOST_TRIANGLES;
+use shapes::box3::Box3;
+use shapes::vec3::Axis;
+use sort::stable::sort_by_key;
+use splits::area::area_split;
+use splits::median::median_split;
+use splits::split::Split;
+use splits::table::union_of;
+
+// The part, sorted stably by the centres on the axis.
+fn sort_on(centres: &[f32], axis: Axis, part: &mut [u32], scratch: &mut [u32])
+    requires { ⌜ SortAsked (Shapes.asAxis axis) (now centres) (now part) (now scratch) ⌝ }
+    ensures { λ _. ⌜ now (part .exit) ≡ sorted (byKey (keysOn (Shapes.asAxis axis) (now (centres .entry)))) (now (part .entry)) ⌝ }
+{
+    let first = first_key(axis);
+    sort_by_key(&centres[first..first + MOST_TRIANGLES], part, scratch);
+}
+
+// What the rule says of the part as it stands: strategy 1 is median, 2 is area.
+fn rule(bounds: &[f32], strategy: usize, axis: Axis, parent: Box3, part: &[u32]) -> Split
+    requires { ⌜ RuleAsked binary32 (now bounds) (now part) ⌝ }
+    ensures { λ r. ⌜ Rules.asSplit r ≡ Tries.rule binary32 strategy (Shapes.asAxis axis) (Shapes.asBox parent) (Splits.boxesIn (now (bounds .entry)) (now (part .entry))) ⌝ }
+{
+    if strategy == 1 {
+        return median_split(bounds, part, axis, parent);
+    }
+    area_split(bounds, part, axis, parent)
+}
+
+// One try. Where it fails the part stays as it was sorted.
+fn try_on(
+    bounds: &[f32],
+    centres: &[f32],
+    strategy: usize,
+    axis: Axis,
+    parent: Box3,
+    part: &mut [u32],
+    scratch: &mut [u32],
+) -> Split
+    requires { ⌜ Triable binary32 (now bounds) (now centres) (now part) (now scratch) ⌝ }
+    ensures { λ r. ⌜ Tries.splitAs (now (part .exit)) (Rules.asSplit r) ≡ Tries.triedOn binary32 (Splits.boxIn (now (bounds .entry))) strategy (Shapes.asAxis axis) (Shapes.asBox parent) (now (part .entry)) ⌝ }
+{
+    sort_on(centres, axis, part, scratch);
+    rule(bounds, strategy, axis, parent, part)
+}
+
+// The tries of a part whose boxes have this union, the largest axis first.
+fn try_axes(
+    bounds: &[f32],
+    centres: &[f32],
+    strategy: usize,
+    parent: Box3,
+    part: &mut [u32],
+    scratch: &mut [u32],
+) -> Split
+    requires { ⌜ Triable binary32 (now bounds) (now centres) (now part) (now scratch) ⌝ }
+    ensures { λ r. ⌜ Tries.splitAs (now (part .exit)) (Rules.asSplit r) ≡ Tries.triedWithin binary32 (Splits.boxIn (now (bounds .entry))) strategy (Shapes.asBox parent) (now (part .entry)) ⌝ }
+{
+    let axes = axes_by_size(parent.sizes());
+    let first = axes.first;
+    let second = axes.second;
+    let third = axes.third;
+    let once = try_on(bounds, centres, strategy, first, parent, part, scratch);
+    if let Split::At(cut) = once {
+        return Split::At(cut);
+    }
+    let twice = try_on(bounds, centres, strategy, second, parent, part, scratch);
+    if let Split::At(cut) = twice {
+        return Split::At(cut);
+    }
+    try_on(bounds, centres, strategy, third, parent, part, scratch)
+}
+
+// Where the part is cut, and in which order it stands then.
+pub fn try_part(
+    bounds: &[f32],
+    centres: &[f32],
+    strategy: usize,
+    part: &mut [u32],
+    scratch: &mut [u32],
+) -> Split
+    requires { ⌜ Triable binary32 (now bounds) (now centres) (now part) (now scratch) ⌝ }
+    ensures { λ r. ⌜ Tries.splitAs (now (part .exit)) (Rules.asSplit r) ≡ Tries.tried binary32 (Splits.boxIn (now (bounds .entry))) strategy (now (part .entry)) ⌝ }
+{
+    let parent = union_of(bounds, part);
+    try_axes(bounds, centres, strategy, parent, part, scratch)
+}

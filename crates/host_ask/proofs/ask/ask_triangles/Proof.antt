@@ -1,0 +1,78 @@
+-- `host_ask::ask_triangles` meets its contract: the tests before the tree, a count of nodes that no tree has, and the tree.
+-- Assumes nothing.
+use mathlib.Core.Path.{sym, _∙_}
+use lib.ListN.{length}
+use Rattle.spec_records.specs.Layouts.{version1}
+use Rattle.spec_image.specs.Image.{imageIn}
+use Rattle.spec_lists.proofs.Verdicts.{did-pass}
+use Rattle.spec_host.proofs.PointBytes.{as-it-was}
+use Rattle.spec_host.proofs.Requests.{early-passed, early-stops, late-decides, tree-stops}
+use Rattle.spec_host.proofs.Loading.{early-same, nodes-refused}
+use Rattle.host_ask.proofs.Nodes.{nodes-stop, nodes-many, nodes-few}
+use borrow.Author.Needs.{needs}
+use Rattle.host_ask.proofs.ask.ask_triangles.Statement.{statement}
+use Rattle.host_ask.proofs.ask.ask_triangles.Tie as tie
+
+settings-of-requires : tie.Need-settings-of-requires
+settings-of-requires c κs = search needs
+
+early-refusal-requires : tie.Need-early-refusal-requires
+early-refusal-requires c κs = search needs
+
+refuses-requires : tie.Need-refuses-requires
+refuses-requires c κs = search needs
+
+returns : tie.Need-returns
+returns c =
+    let a = c .before .before .before .before .before .before .before .before .args in
+    let x = imageIn version1 (a .image .now) (a .count) (a .nodes) in (
+      early-stops x (a .points .now) (a .distance) (length (a .answers .now)) _ _ (c .before .before .early-refusal .ensures ∙ early-same (c .before .before .before .before .before .before .before .before .pre) _ _ _ (c .before .before .before .settings-of .ensures)) (c .before .refuses .ensures) (c .if1 .taken),
+      as-it-was _ _ _ (sym (c .before .refuses .ensures) ∙ c .if1 .taken),
+    )
+
+nodes-refusal-requires : tie.Need-nodes-refusal-requires
+nodes-refusal-requires c κs = search needs
+
+refuses-requires-2 : tie.Need-refuses-requires-2
+refuses-requires-2 c κs = search needs
+
+returns-2 : tie.Need-returns-2
+returns-2 c =
+    let a = c .before .before .before .before .before .before .before .before .before .before .before .args in
+    let x = imageIn version1 (a .image .now) (a .count) (a .nodes) in
+    let ready = early-passed (a .triangles .now) (a .points .now) _ (length (a .answers .now)) (did-pass _ _ _ (c .before .before .before .before .before .early-refusal .ensures) (c .before .before .before .before .refuses .ensures) (c .before .before .before .if1 .left)) in (
+      nodes-stop (a .nodes) _ _ (c .before .before .nodes-refusal .ensures) (c .before .refuses2 .ensures) (c .if2 .taken)
+          ∙ tree-stops x (a .points .now) (a .distance) (length (a .answers .now)) _ _ (c .before .before .before .before .before .early-refusal .ensures ∙ early-same (c .before .before .before .before .before .before .before .before .before .before .before .pre) _ _ _ (c .before .before .before .before .before .before .settings-of .ensures)) (c .before .before .before .before .refuses .ensures) (c .before .before .before .if1 .left) (nodes-refused (c .before .before .before .before .before .before .before .before .before .before .before .pre) (ready .triangles-good .few) (nodes-many (a .nodes) _ _ (c .before .before .nodes-refusal .ensures) (c .before .refuses2 .ensures) (c .if2 .taken))),
+      as-it-was _ _ _ (sym (c .before .refuses2 .ensures) ∙ c .if2 .taken),
+    )
+
+ask-tree-requires : tie.Need-ask-tree-requires
+ask-tree-requires c κs =
+    let a = c .before .before .before .before .before .before .before .before .before .before .before .before .args in
+    (c .before .before .before .before .before .before .before .before .before .before .before .before .pre, (early-passed (a .triangles .now) (a .points .now) _ (length (a .answers .now)) (did-pass _ _ _ (c .before .before .before .before .before .before .early-refusal .ensures) (c .before .before .before .before .before .refuses .ensures) (c .before .before .before .before .if1 .left)), nodes-few (a .nodes) _ _ (c .before .before .before .nodes-refusal .ensures) (c .before .before .refuses2 .ensures) (c .before .if2 .left)))
+
+same-length : tie.Need-same-length
+same-length c = search needs
+
+returns-3 : tie.Need-returns-3
+returns-3 c =
+    let a = c .before .before .before .before .before .before .before .before .before .before .before .before .before .before .before .args in
+    let x = imageIn version1 (a .image .now) (a .count) (a .nodes) in (
+      late-decides x (a .points .now) (a .distance) (length (a .answers .now)) _ _ (c .before .before .before .before .before .before .before .before .before .early-refusal .ensures ∙ early-same (c .before .before .before .before .before .before .before .before .before .before .before .before .before .before .before .pre) _ _ _ (c .before .before .before .before .before .before .before .before .before .before .settings-of .ensures)) (c .before .before .before .before .before .before .before .before .refuses .ensures) (c .before .before .before .before .before .before .before .if1 .left) _ (c .before .before .ask-tree .ensures .0),
+      c .before .before .ask-tree .ensures .1,
+    )
+
+pub ask-triangles-spec : {M : Type 1} → statement M
+ask-triangles-spec =
+    tie.close
+    (tie.spec
+    settings-of-requires
+    early-refusal-requires
+    refuses-requires
+    returns
+    nodes-refusal-requires
+    refuses-requires-2
+    returns-2
+    ask-tree-requires
+    same-length
+    returns-3)

@@ -1,0 +1,44 @@
+-- `host_ask::check_image` meets its contract: a check is a query at no points.
+-- Assumes nothing.
+use lib.Ieee.{ofBits}
+use mathlib.Core.Path.{_∙_}
+use mathlib.Core.List.{[]}
+use native.Mathlib.Omega.{arith}
+use Rattle.spec_numbers.specs.Values.{zero}
+use Rattle.spec_host.specs.Told.{told}
+use Rattle.spec_host.proofs.Requests.{check-asks-nothing}
+use Rattle.spec_host.proofs.RequestsTold.{query-told}
+use borrow.Author.Needs.{needs}
+use Rattle.host_ask.proofs.calls.check_image.Statement.{statement}
+use Rattle.host_ask.proofs.calls.check_image.Tie as tie
+
+slice-aggregate-ask : tie.Need-slice-aggregate-ask
+slice-aggregate-ask c = search needs
+
+slice-aggregate-ask-2 : tie.Need-slice-aggregate-ask-2
+slice-aggregate-ask-2 c = search needs
+
+ask-requires : tie.Need-ask-requires
+ask-requires c κs = search needs
+
+triangles-held-requires : tie.Need-triangles-held-requires
+triangles-held-requires c κs = search needs
+
+tell-count-requires : tie.Need-tell-count-requires
+unfolding ofBits
+tell-count-requires c κs = rw (c .before .before .ask .ensures .0) (query-told (c .before .before .before .before .before .before .args .image .now) [] (record { below = λ i. omega (arith, c .before .before .before .before .before .shared-slice-known .given i) }) (omega arith) 1 zero)
+
+returns : tie.Need-returns
+unfolding ofBits
+returns c = c .tell-count .ensures ∙ (λ i. told ((c .before .before .before .ask .ensures .0 ∙ check-asks-nothing (c .before .before .before .before .before .before .before .args .image .now)) i) (c .before .triangles-held .ensures i))
+
+pub check-image-spec : {M : Type 1} → statement M
+check-image-spec =
+    tie.close
+    (tie.spec
+    slice-aggregate-ask
+    slice-aggregate-ask-2
+    ask-requires
+    triangles-held-requires
+    tell-count-requires
+    returns)

@@ -1,0 +1,36 @@
+-- `host_ask::query_points` meets its contract: the query, told.
+-- Assumes nothing.
+use mathlib.Core.Path.{ap, _∙_}
+use Prim.Native.Nat.{_/_}
+use native.Mathlib.Omega.{arith}
+use lib.ListN.{length}
+use Rattle.spec_lists.specs.Refusals.{Verdict}
+use Rattle.spec_host.specs.Told.{told}
+use Rattle.spec_host.specs.PointBytes.{answerBytes, afterBytes}
+use Rattle.spec_host.specs.Requests.{contents, answerIn}
+use Rattle.spec_host.proofs.RequestsTold.{query-told}
+use Rattle.queries.specs.Values.{asQuery}
+use borrow.Author.Needs.{needs}
+use Rattle.host_ask.proofs.calls.query_points.Statement.{statement}
+use Rattle.host_ask.proofs.calls.query_points.Tie as tie
+
+ask-requires : tie.Need-ask-requires
+ask-requires c κs = search needs
+
+tell-count-requires : tie.Need-tell-count-requires
+tell-count-requires c κs =
+    let a = c .before .before .before .before .before .before .before .args in
+    rw (c .before .before .ask .ensures .0) (query-told (a .image .now) (a .points .now) (record { below = λ i. omega (arith, c .before .before .before .before .before .before .shared-slice-known .given i) }) (omega arith) (length (a .answers .now)) (a .distance))
+
+same-length : tie.Need-same-length
+same-length c = search needs
+
+returns : tie.Need-returns
+returns c =
+    let a = c .before .before .before .before .before .before .before .before .args in (
+      c .tell-count .ensures ∙ ap (λ (v : Verdict). told v (length (a .points .now) / 12)) (c .before .before .before .ask .ensures .0),
+      c .before .before .before .ask .ensures .1 ∙ ap (λ (v : Verdict). afterBytes v (answerBytes (answerIn (asQuery (a .query)) (contents (a .image .now)) (a .distance)) (a .points .now)) (a .answers .now)) (c .before .before .before .ask .ensures .0),
+    )
+
+pub query-points-spec : {M : Type 1} → statement M
+query-points-spec = tie.close (tie.spec ask-requires tell-count-requires same-length returns)

@@ -1,0 +1,27 @@
+-- `host_ask::triangles_held` meets its contract: none where the layout is wrong.
+-- Assumes nothing.
+use mathlib.Core.Path.{sym, ap, _∙_}
+use Rattle.records.specs.Values.{imageLaid}
+use Rattle.spec_host.proofs.Requests.{held-none, held-count}
+use borrow.Author.Needs.{needs}
+use Rattle.host_ask.proofs.calls.triangles_held.Statement.{statement}
+use Rattle.host_ask.proofs.calls.triangles_held.Tie as tie
+
+image-layout-requires : tie.Need-image-layout-requires
+image-layout-requires c κs = search needs
+
+enum-told : tie.Need-enum-told
+enum-told c = search needs
+
+enum-known-triangles : tie.Need-enum-known-triangles
+enum-known-triangles c = search needs
+
+returns : tie.Need-returns
+returns c = held-none (c .before .before .before .before .args .image .now) _ (sym (c .before .before .image-layout .ensures) ∙ ap imageLaid (c .enum-told .given .1))
+
+returns-2 : tie.Need-returns-2
+returns-2 c = held-count (c .before .before .before .before .before .args .image .now) _ _ (sym (c .before .before .before .image-layout .ensures) ∙ ap imageLaid (c .before .triangles .given .1))
+
+pub triangles-held-spec : {M : Type 1} → statement M
+triangles-held-spec =
+    tie.close (tie.spec image-layout-requires enum-told enum-known-triangles returns returns-2)

@@ -1,0 +1,42 @@
+-- `host_ask::wind_lists` meets its contract: a refusal leaves the bytes as they were, and where there is none each winding number is written.
+-- Assumes nothing.
+use mathlib.Core.Path.{sym, _∙_}
+use lib.ListN.{length}
+use Rattle.spec_lists.proofs.Verdicts.{did-pass}
+use Rattle.spec_host.proofs.PointBytes.{as-it-was, as-written}
+use Rattle.spec_host.proofs.Requests.{wound-passed}
+use borrow.Author.Needs.{needs}
+use Rattle.host_ask.proofs.windings.wind_lists.Statement.{statement}
+use Rattle.host_ask.proofs.windings.wind_lists.Tie as tie
+
+wound-refusal-requires : tie.Need-wound-refusal-requires
+wound-refusal-requires c κs = search needs
+
+refuses-requires : tie.Need-refuses-requires
+refuses-requires c κs = search needs
+
+returns : tie.Need-returns
+returns c = (c .before .before .wound-refusal .ensures, as-it-was _ _ _ (sym (c .before .refuses .ensures) ∙ c .if1 .taken))
+
+put-windings-requires : tie.Need-put-windings-requires
+put-windings-requires c κs =
+    let a = c .before .before .before .before .before .before .before .args in
+    wound-passed (a .triangles .now) (a .points .now) (length (a .out .now)) (did-pass _ _ _ (c .before .before .before .wound-refusal .ensures) (c .before .before .refuses .ensures) (c .before .if1 .left))
+
+same-length : tie.Need-same-length
+same-length c = search needs
+
+returns-2 : tie.Need-returns-2
+returns-2 c =
+    (c .before .before .before .before .before .before .wound-refusal .ensures, as-written _ _ _ _ (c .before .before .before .before .before .before .wound-refusal .ensures ∙ did-pass _ _ _ (c .before .before .before .before .before .before .wound-refusal .ensures) (c .before .before .before .before .before .refuses .ensures) (c .before .before .before .before .if1 .left)) (c .before .before .put-windings .ensures))
+
+pub wind-lists-spec : {M : Type 1} → statement M
+wind-lists-spec =
+    tie.close
+    (tie.spec
+    wound-refusal-requires
+    refuses-requires
+    returns
+    put-windings-requires
+    same-length
+    returns-2)

@@ -1,0 +1,82 @@
+// The calls: what comes in is judged first, and a call that refuses changes no lent byte.
+ghost use mathlib.Core.Path.{_≡_};
+ghost use Prim.Native.Nat.{_/_};
+ghost use lib.ListN.{length};
+ghost use Rattle.spec_lists.specs.Reading.{triangleCount};
+ghost use Rattle.lists.specs.Values.{asVerdict};
+ghost use Rattle.spec_host.specs.Told.{told, InPlace};
+ghost use Rattle.spec_host.specs.PointBytes.{answerBytes, windingBytes, afterBytes};
+ghost use Rattle.queries.specs.Values.{asQuery};
+ghost use Rattle.spec_search.specs.Calls.{sure, source};
+ghost use Rattle.spec_host.specs.Requests.{contents, checkVerdict, queryVerdict, windingVerdict, answerIn};
+use crate::ask::ask;
+use crate::wind::wind;
+use host_bytes::told::tell;
+use lists::verdict::Verdict;
+use queries::query::Query;
+use records::layout::ImageLayout;
+use records::layout::image_layout;
+
+// What is done tells a count.
+fn tell_count(verdict: Verdict, count: usize) -> u64
+    requires { ⌜ InPlace (asVerdict verdict) ⌝ }
+    ensures { λ r. ⌜ r ≡ told (asVerdict verdict) count ⌝ }
+{
+    if verdict.refuses() {
+        return tell(verdict, 0);
+    }
+    count as u64
+}
+
+// How many triangles an image holds.
+fn triangles_held(image: &[u8]) -> usize
+    ensures { λ r. ⌜ r ≡ triangleCount (contents (now (image .entry)) .triangles) ⌝ }
+{
+    match image_layout(image) {
+        ImageLayout::Wrong(_) => 0,
+        ImageLayout::Right { triangles, .. } => triangles,
+    }
+}
+
+// Whether an image can be asked: tests 10, 2 to 5 and 7. It is asked at no points, so 6, 8 and 9 pass.
+pub fn check_image(image: &[u8]) -> u64
+    ensures { λ r. ⌜ r ≡ told (checkVerdict (now (image .entry))) (triangleCount (contents (now (image .entry)) .triangles)) ⌝ }
+{
+    let mut nothing = [0u8; 1];
+    let verdict = ask(Query::Sure, image, &image[..0], 0.0, &mut nothing);
+    tell_count(verdict, triangles_held(image))
+}
+
+// A query at each point, 24 bytes an answer: tests 10 and 2 to 9.
+fn query_points(query: Query, image: &[u8], points: &[u8], distance: f32, answers: &mut [u8]) -> u64
+    ensures told { λ r. ⌜ r ≡ told (queryVerdict (now (image .entry)) (now (points .entry)) distance (length (now (answers .entry)))) (length (now (points .entry)) / 12) ⌝ }
+    ensures answers { λ _. ⌜ now (answers .exit) ≡ afterBytes (queryVerdict (now (image .entry)) (now (points .entry)) distance (length (now (answers .entry)))) (answerBytes (answerIn (asQuery query) (contents (now (image .entry))) distance) (now (points .entry))) (now (answers .entry)) ⌝ }
+{
+    let verdict = ask(query, image, points, distance, answers);
+    tell_count(verdict, points.len() / 12)
+}
+
+// The nearest surface point to each point, the lowest triangle number among equals.
+pub fn sure_points(image: &[u8], points: &[u8], distance: f32, answers: &mut [u8]) -> u64
+    ensures told { λ r. ⌜ r ≡ told (queryVerdict (now (image .entry)) (now (points .entry)) distance (length (now (answers .entry)))) (length (now (points .entry)) / 12) ⌝ }
+    ensures answers { λ _. ⌜ now (answers .exit) ≡ afterBytes (queryVerdict (now (image .entry)) (now (points .entry)) distance (length (now (answers .entry)))) (answerBytes (answerIn sure (contents (now (image .entry))) distance) (now (points .entry))) (now (answers .entry)) ⌝ }
+{
+    query_points(Query::Sure, image, points, distance, answers)
+}
+
+// What the Rust's search answers at each point.
+pub fn source_points(image: &[u8], points: &[u8], distance: f32, answers: &mut [u8]) -> u64
+    ensures told { λ r. ⌜ r ≡ told (queryVerdict (now (image .entry)) (now (points .entry)) distance (length (now (answers .entry)))) (length (now (points .entry)) / 12) ⌝ }
+    ensures answers { λ _. ⌜ now (answers .exit) ≡ afterBytes (queryVerdict (now (image .entry)) (now (points .entry)) distance (length (now (answers .entry)))) (answerBytes (answerIn source (contents (now (image .entry))) distance) (now (points .entry))) (now (answers .entry)) ⌝ }
+{
+    query_points(Query::Source, image, points, distance, answers)
+}
+
+// The winding number about each point, an f32 in four bytes: tests 10, 2 to 4, 6 and 8.
+pub fn winding_points(image: &[u8], points: &[u8], out: &mut [u8]) -> u64
+    ensures told { λ r. ⌜ r ≡ told (windingVerdict (now (image .entry)) (now (points .entry)) (length (now (out .entry)))) (length (now (points .entry)) / 12) ⌝ }
+    ensures windings { λ _. ⌜ now (out .exit) ≡ afterBytes (windingVerdict (now (image .entry)) (now (points .entry)) (length (now (out .entry)))) (windingBytes (contents (now (image .entry)) .triangles) (now (points .entry))) (now (out .entry)) ⌝ }
+{
+    let verdict = wind(image, points, out);
+    tell_count(verdict, points.len() / 12)
+}

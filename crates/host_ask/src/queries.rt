@@ -1,0 +1,117 @@
+// The answers of a query at all points: tests 7, 8 and 9, then 24 bytes a point.
+ghost use mathlib.Core.Path.{_≡_};
+ghost use Prim.Native.Nat.{_*_, _/_, _≤_};
+ghost use lib.ListN.{length};
+ghost use lib.Ieee.{binary32};
+ghost use Rattle.spec_tables.specs.Tables.{over};
+ghost use Rattle.spec_lists.specs.Limits.{mostTriangles};
+ghost use Rattle.spec_lists.specs.Reading.{triangleCount};
+ghost use Rattle.spec_lists.specs.Passed.{GoodPoints};
+ghost use Rattle.lists.specs.Values.{asVerdict};
+ghost use Rattle.spec_search.specs.Calls.{Searchable, answerBy};
+ghost use Rattle.spec_host.specs.Build.{numbersOf};
+ghost use Rattle.spec_host.specs.PointBytes.{answerBytes, afterBytes};
+ghost use Rattle.spec_host.specs.Loading.{lateRefusal, Ready};
+ghost use Rattle.queries.specs.Values.{asQuery};
+use host_bytes::answers::put_answer_bytes;
+use host_bytes::points::point_bytes_refusal;
+use host_bytes::points::point_in;
+use lists::tests::distance_refusal;
+use lists::verdict::Verdict;
+use queries::query::Query;
+use queries::query::answer_at;
+use tree::calls::tree_refusal;
+
+// The first of the tests 7, 8 and 9 that refuses.
+fn late_refusal(
+    triangles: &[f32],
+    order: &[u32],
+    links: &[u32],
+    boxes: &[f32],
+    nodes: usize,
+    points: &[u8],
+    distance: f32,
+) -> Verdict
+    requires { ⌜ triangleCount (now triangles) ≤ mostTriangles ⌝ }
+    ensures { λ r. ⌜ asVerdict r ≡ lateRefusal (now (triangles .entry)) (now (order .entry)) (now (links .entry)) (now (boxes .entry)) nodes (now (points .entry)) distance ⌝ }
+{
+    let bad_tree = tree_refusal(triangles, order, links, boxes, nodes);
+    if bad_tree.refuses() {
+        return bad_tree;
+    }
+    let bad_points = point_bytes_refusal(points);
+    if bad_points.refuses() {
+        return bad_points;
+    }
+    distance_refusal(distance)
+}
+
+// The answers at all points, from the front of the bytes.
+fn put_answers(
+    query: Query,
+    triangles: &[f32],
+    order: &[u32],
+    links: &[u32],
+    boxes: &[f32],
+    nodes: usize,
+    points: &[u8],
+    distance: f32,
+    answers: &mut [u8],
+)
+    requires { ⌜ Searchable (now triangles) (now order) (now links) (now boxes) nodes ⌝ }
+    requires { ⌜ GoodPoints (numbersOf (now points)) ⌝ }
+    requires { ⌜ 24 * (length (now points) / 12) ≤ length (now answers) ⌝ }
+    ensures { λ _. ⌜ now (answers .exit) ≡ over 0 (answerBytes (answerBy binary32 (asQuery query) (now (triangles .entry)) (now (order .entry)) (now (links .entry)) (now (boxes .entry)) nodes distance) (now (points .entry))) (now (answers .entry)) ⌝ }
+{
+    let count = points.len() / 12;
+    let mut k = 0;
+    while k < count {
+        let touched = point_in(points, k);
+        let answer = answer_at(
+            query,
+            triangles,
+            order,
+            links,
+            boxes,
+            nodes,
+            touched,
+            distance,
+        );
+        put_answer_bytes(answers, 24 * k, answer);
+        k += 1;
+    }
+}
+
+// A refusal changes nothing.
+pub fn ask_lists(
+    query: Query,
+    triangles: &[f32],
+    order: &[u32],
+    links: &[u32],
+    boxes: &[f32],
+    nodes: usize,
+    points: &[u8],
+    distance: f32,
+    answers: &mut [u8],
+) -> Verdict
+    requires { ⌜ Ready (now triangles) (now points) (length (now answers)) ⌝ }
+    ensures verdict { λ r. ⌜ asVerdict r ≡ lateRefusal (now (triangles .entry)) (now (order .entry)) (now (links .entry)) (now (boxes .entry)) nodes (now (points .entry)) distance ⌝ }
+    ensures answers { λ r. ⌜ now (answers .exit) ≡ afterBytes (asVerdict r) (answerBytes (answerBy binary32 (asQuery query) (now (triangles .entry)) (now (order .entry)) (now (links .entry)) (now (boxes .entry)) nodes distance) (now (points .entry))) (now (answers .entry)) ⌝ }
+{
+    let verdict = late_refusal(triangles, order, links, boxes, nodes, points, distance);
+    if verdict.refuses() {
+        return verdict;
+    }
+    put_answers(
+        query,
+        triangles,
+        order,
+        links,
+        boxes,
+        nodes,
+        points,
+        distance,
+        answers,
+    );
+    verdict
+}

@@ -1,0 +1,47 @@
+// Winding numbers over an image: its layout, its triangles, and nothing of its tree.
+ghost use mathlib.Core.Path.{_≡_};
+ghost use lib.ListN.{length};
+ghost use Rattle.spec_records.specs.Layouts.{version1, imageSize};
+ghost use Rattle.spec_image.specs.Image.{imageIn};
+ghost use Rattle.lists.specs.Values.{asVerdict};
+ghost use Rattle.spec_host.specs.PointBytes.{windingBytes, afterBytes};
+ghost use Rattle.spec_host.specs.Requests.{contents, woundRefusal, windingVerdict};
+use crate::tests::count_refusal;
+use crate::windings::wind_lists;
+use lists::limits::MOST_TRIANGLES;
+use lists::verdict::Verdict;
+use records::entries::read_f32s;
+use records::layout::ImageLayout;
+use records::layout::image_layout;
+
+fn wind_laid(image: &[u8], count: usize, nodes: usize, points: &[u8], out: &mut [u8]) -> Verdict
+    requires { ⌜ imageSize version1 count nodes ≡ length (now image) ⌝ }
+    ensures verdict { λ r. ⌜ asVerdict r ≡ woundRefusal (imageIn version1 (now (image .entry)) count nodes .triangles) (now (points .entry)) (length (now (out .entry))) ⌝ }
+    ensures windings { λ r. ⌜ now (out .exit) ≡ afterBytes (asVerdict r) (windingBytes (imageIn version1 (now (image .entry)) count nodes .triangles) (now (points .entry))) (now (out .entry)) ⌝ }
+{
+    let bad_count = count_refusal(count);
+    if bad_count.refuses() {
+        return bad_count;
+    }
+    let numbers = 9 * count;
+    let mut triangles = [0.0f32; 9 * MOST_TRIANGLES];
+    read_f32s(image, 20, numbers, &mut triangles, 0);
+    wind_lists(&triangles[..numbers], points, out)
+}
+
+// Test 10, and then what the image holds.
+pub fn wind(image: &[u8], points: &[u8], out: &mut [u8]) -> Verdict
+    ensures verdict { λ r. ⌜ asVerdict r ≡ windingVerdict (now (image .entry)) (now (points .entry)) (length (now (out .entry))) ⌝ }
+    ensures windings { λ r. ⌜ now (out .exit) ≡ afterBytes (asVerdict r) (windingBytes (contents (now (image .entry)) .triangles) (now (points .entry))) (now (out .entry)) ⌝ }
+{
+    match image_layout(image) {
+        ImageLayout::Wrong(at) => Verdict::Refused {
+            number: 10,
+            place: at,
+        },
+        ImageLayout::Right {
+            triangles: count,
+            nodes,
+        } => wind_laid(image, count, nodes, points, out),
+    }
+}

@@ -1,0 +1,47 @@
+-- `host_build::put_built` meets its contract: the room is tested, then the image is put.
+-- Assumes nothing.
+use native.Mathlib.Omega.{arith}
+use Rattle.spec_lists.proofs.Passed.{room-passes}
+use Rattle.spec_host.proofs.Build.{room-short, put-nothing, put-all}
+use borrow.Author.Needs.{needs}
+use Rattle.host_build.proofs.put.put_built.Statement.{statement}
+use Rattle.host_build.proofs.put.put_built.Tie as tie
+
+triangle-count-requires : tie.Need-triangle-count-requires
+triangle-count-requires c κs = search needs
+
+image-size-requires : tie.Need-image-size-requires
+image-size-requires c κs = search needs
+
+tell-refusal-requires : tie.Need-tell-refusal-requires
+tell-refusal-requires c κs = search needs
+
+returns : tie.Need-returns
+returns c = put-nothing (room-short _ _ (omega (arith, c .before .if1 .taken, c .before .before .image-size .ensures, c .before .before .before .triangle-count .ensures))) (c .tell-refusal .ensures)
+
+put-image-requires : tie.Need-put-image-requires
+put-image-requires c κs = search needs
+
+tell-requires : tie.Need-tell-requires
+tell-requires c κs = search needs
+
+same-length : tie.Need-same-length
+same-length c = search needs
+
+returns-2 : tie.Need-returns-2
+returns-2 c =
+    put-all (room-passes _ _ (omega (arith, c .before .before .before .before .before .if1 .left, c .before .before .before .before .before .before .image-size .ensures, c .before .before .before .before .before .before .before .triangle-count .ensures)))
+    (omega (arith, c .tell .ensures, c .before .before .before .put-image .ensures .1, c .before .before .before .before .before .before .before .before .before .before .before .before .before .pre .counted)) (c .before .before .before .put-image .ensures .0)
+
+pub put-built-spec : {M : Type 1} → statement M
+put-built-spec =
+    tie.close
+    (tie.spec
+    triangle-count-requires
+    image-size-requires
+    tell-refusal-requires
+    returns
+    put-image-requires
+    tell-requires
+    same-length
+    returns-2)

@@ -1,0 +1,46 @@
+-- `host_bytes::put_answer_bytes` meets its contract: the six words of the answer, as bytes.
+-- Assumes nothing.
+use mathlib.Core.Path.{refl, ap, _∙_}
+use mathlib.Core.List.{List}
+use Prim.Native.Nat.{ℕ}
+use denote.Ref.{now}
+use Rattle.spec_tables.specs.Tables.{over}
+use Rattle.spec_records.specs.Entries.{numberBytes}
+use Rattle.spec_host.proofs.PointBytes.{six-bytes}
+use Rattle.walks.specs.Values.{asAnswer}
+use borrow.Author.Needs.{needs}
+use Rattle.host_bytes.proofs.answers.put_answer_bytes.Statement.{statement}
+use Rattle.host_bytes.proofs.answers.put_answer_bytes.Tie as tie
+
+slice-aggregate-put-answer : tie.Need-slice-aggregate-put-answer
+slice-aggregate-put-answer c = search needs
+
+put-answer-requires : tie.Need-put-answer-requires
+put-answer-requires c κs = search needs
+
+slice-aggregate-put-u32s : tie.Need-slice-aggregate-put-u32s
+slice-aggregate-put-u32s c = search needs
+
+put-u32s-requires : tie.Need-put-u32s-requires
+put-u32s-requires c κs = search needs
+
+same-length : tie.Need-same-length
+same-length c = search needs
+
+returns : tie.Need-returns
+returns c =
+    let a = c .before .before .before .before .before .before .before .before .before .args in
+    c .before .before .put-u32s .ensures .0 .written
+    ∙ ap (λ (words : List ℕ). over (a .at) (numberBytes 4 words 0 6) (now (a .out))) (c .before .before .before .before .before .before .put-answer .ensures)
+    ∙ ap (λ (new : List ℕ). over (a .at) new (now (a .out))) (six-bytes (asAnswer (a .answer)) _ refl)
+
+pub put-answer-bytes-spec : {M : Type 1} → statement M
+put-answer-bytes-spec =
+    tie.close
+    (tie.spec
+    slice-aggregate-put-answer
+    put-answer-requires
+    slice-aggregate-put-u32s
+    put-u32s-requires
+    same-length
+    returns)

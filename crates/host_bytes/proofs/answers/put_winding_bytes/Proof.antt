@@ -1,0 +1,31 @@
+-- `host_bytes::put_winding_bytes` meets its contract: the number's bits in four bytes.
+-- Assumes nothing.
+use mathlib.Core.Path.{ap, _∙_}
+use Prim.Native.Nat.{ℕ}
+use denote.Ref.{now}
+use Rattle.spec_tables.specs.Tables.{over}
+use Rattle.spec_records.specs.Little.{little}
+use borrow.Author.Needs.{needs}
+use Rattle.host_bytes.proofs.answers.put_winding_bytes.Statement.{statement}
+use Rattle.host_bytes.proofs.answers.put_winding_bytes.Tie as tie
+
+bits-of-requires : tie.Need-bits-of-requires
+bits-of-requires c κs = search needs
+
+cast-put-u32 : tie.Need-cast-put-u32
+cast-put-u32 c = search needs
+
+put-u32-requires : tie.Need-put-u32-requires
+put-u32-requires c κs = search needs
+
+same-length : tie.Need-same-length
+same-length c = search needs
+
+returns : tie.Need-returns
+returns c =
+    let a = c .before .before .before .before .before .before .args in
+    c .before .before .put-u32 .ensures .0 .written ∙ ap (λ (n : ℕ). over (a .at) (little 4 n) (now (a .out))) (c .before .before .before .bits-of .ensures)
+
+pub put-winding-bytes-spec : {M : Type 1} → statement M
+put-winding-bytes-spec =
+    tie.close (tie.spec bits-of-requires cast-put-u32 put-u32-requires same-length returns)

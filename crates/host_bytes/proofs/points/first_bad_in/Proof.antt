@@ -1,0 +1,71 @@
+-- `host_bytes::first_bad_in` meets its contract. The invariant: the index, and how many good numbers there are from there on, give the answer.
+-- Assumes nothing.
+use mathlib.Core.Path.{_≡_, sym, ap, _∙_}
+use Prim.Native.Nat.{_+_, _-_}
+use native.Mathlib.Omega.{arith}
+use borrow.Author.Needs.{needs}
+use borrow.Author.Tests.{not-true, not-false}
+use lib.ListN.{drop}
+use Rattle.spec_lists.specs.Refusals.{isCoordinate, firstBad}
+use Rattle.spec_lists.proofs.Coordinates.{bad-here, good-here, none-left}
+use Rattle.spec_host.specs.Build.{numbersOf}
+use Rattle.spec_host.proofs.Build.{numbers-long}
+use Rattle.host_bytes.proofs.points.first_bad_in.Statement.{statement}
+use Rattle.host_bytes.proofs.points.first_bad_in.Tie as tie
+
+abbrev Inv-loop : tie.InvT-loop
+Inv-loop bytes count i₀ i = i + firstBad (drop i (numbersOf bytes)) ≡ firstBad (numbersOf bytes)
+
+abbrev μ-loop : tie.MeasureT-loop
+μ-loop bytes count i₀ i = count - i
+
+loop-holds : tie.Need-loop-holds Inv-loop μ-loop
+loop-holds c = omega arith
+
+number-in-requires : tie.Need-number-in-requires Inv-loop μ-loop
+number-in-requires c κs = omega arith
+
+is-coordinate-requires : tie.Need-is-coordinate-requires Inv-loop μ-loop
+is-coordinate-requires c κs = search needs
+
+returns : tie.Need-returns Inv-loop μ-loop
+returns c =
+    let loop = c .before .before .before .before .loop in
+    let s = c .before .before .before .before .before .before .args .bytes .now in
+    let found = bad-here (numbersOf s) (loop .i) (rw (numbers-long s) (c .before .before .before .loop-test .taken)) (ap isCoordinate (sym (c .before .before .number-in .ensures)) ∙ sym (c .before .is-coordinate .ensures) ∙ not-true _ (c .if1 .taken)) in
+    omega (arith, loop .inv)
+
+add-i : tie.Need-add-i Inv-loop μ-loop
+add-i c = search needs
+
+loop-less : tie.Need-loop-less Inv-loop μ-loop
+loop-less c = omega arith
+
+loop-again : tie.Need-loop-again Inv-loop μ-loop
+loop-again c =
+    let loop = c .before .before .before .before .loop in
+    let s = c .before .before .before .before .before .before .args .bytes .now in
+    let next = good-here (numbersOf s) (loop .i) (rw (numbers-long s) (c .before .before .before .loop-test .taken)) (ap isCoordinate (sym (c .before .before .number-in .ensures)) ∙ sym (c .before .is-coordinate .ensures) ∙ not-false _ (c .if1 .left)) in
+    omega (arith, loop .inv)
+
+returns-2 : tie.Need-returns-2 Inv-loop μ-loop
+returns-2 c =
+    let loop = c .before .loop in
+    let s = c .before .before .before .args .bytes .now in
+    let none = none-left (numbersOf s) (loop .i) (rw (numbers-long s) (c .loop-test .left)) in
+    omega (arith, loop .inv)
+
+pub first-bad-in-spec : {M : Type 1} → statement M
+first-bad-in-spec =
+    tie.close
+    (tie.spec
+    Inv-loop
+    μ-loop
+    loop-holds
+    number-in-requires
+    is-coordinate-requires
+    returns
+    add-i
+    loop-less
+    loop-again
+    returns-2)

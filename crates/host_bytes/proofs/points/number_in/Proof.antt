@@ -1,0 +1,24 @@
+-- `host_bytes::number_in` meets its contract: the number of four bytes.
+-- Assumes nothing.
+use mathlib.Core.Path.{sym, ap, _∙_}
+use native.Mathlib.Omega.{arith}
+use lib.Ieee.{binary32, ofBits}
+use Rattle.spec_host.proofs.PointBytes.{number-is}
+use borrow.Author.Needs.{needs}
+use Rattle.host_bytes.proofs.points.number_in.Statement.{statement}
+use Rattle.host_bytes.proofs.points.number_in.Tie as tie
+
+mul-u32-at : tie.Need-mul-u32-at
+mul-u32-at c = search needs
+
+u32-at-requires : tie.Need-u32-at-requires
+u32-at-requires c κs = search needs
+
+from-bits-requires : tie.Need-from-bits-requires
+from-bits-requires c κs = search needs
+
+returns : tie.Need-returns
+returns c = c .from-bits .ensures ∙ ap (ofBits binary32) (c .before .u32-at .ensures) ∙ sym (number-is (c .before .before .before .args .bytes .now) (c .before .before .before .args .i) (omega arith))
+
+pub number-in-spec : {M : Type 1} → statement M
+number-in-spec = tie.close (tie.spec mul-u32-at u32-at-requires from-bits-requires returns)

@@ -1,0 +1,30 @@
+-- `host_bytes::length_refusal` meets its contract: the two tests in turn.
+-- Assumes nothing.
+use Rattle.spec_lists.proofs.Verdicts.{stops, goes-on, ends}
+use Rattle.spec_host.specs.Build.{raggedBytes}
+use Rattle.host_bytes.specs.Length.{lengthRefusal}
+use borrow.Author.Needs.{needs}
+use Rattle.host_bytes.proofs.triangles.length_refusal.Statement.{statement}
+use Rattle.host_bytes.proofs.triangles.length_refusal.Tie as tie
+
+refused-if-requires : tie.Need-refused-if-requires
+refused-if-requires c κs = search needs
+
+refuses-requires : tie.Need-refuses-requires
+refuses-requires c κs = search needs
+
+returns : tie.Need-returns
+unfolding lengthRefusal raggedBytes
+returns c = stops _ _ _ _ (c .before .before .refused-if .ensures) (c .before .refuses .ensures) (c .if1 .taken)
+
+refused-if-requires-2 : tie.Need-refused-if-requires-2
+refused-if-requires-2 c κs = search needs
+
+returns-2 : tie.Need-returns-2
+unfolding lengthRefusal raggedBytes
+returns-2 c = goes-on _ _ _ _ _ (c .before .before .before .refused-if .ensures) (c .before .before .refuses .ensures) (c .before .if1 .left) (ends _ _ (c .refused-if2 .ensures))
+
+pub length-refusal-spec : {M : Type 1} → statement M
+length-refusal-spec =
+    tie.close
+    (tie.spec refused-if-requires refuses-requires returns refused-if-requires-2 returns-2)

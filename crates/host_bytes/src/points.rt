@@ -1,0 +1,66 @@
+// Points as bytes, twelve a point: which bytes are refused, and how a point is read. Each contract is an equation with
+// a definition of `spec_asked`, `spec_lists` or `spec_host`.
+ghost use mathlib.Core.Path.{_≡_};
+ghost use Prim.Native.Nat.{_+_, _*_, _≤_};
+ghost use lib.ListN.{length, getD};
+ghost use lib.Ieee.{nan};
+ghost use Rattle.shapes.specs.Values.{asPoint};
+ghost use Rattle.spec_lists.specs.Reading.{pointAt};
+ghost use Rattle.spec_lists.specs.Refusals.{firstBad};
+ghost use Rattle.lists.specs.Values.{asVerdict};
+ghost use Rattle.spec_host.specs.Build.{numbersOf};
+ghost use Rattle.spec_host.specs.PointBytes.{pointBytesRefusal};
+use floats::from_bits;
+use floats::plus_zero;
+use lists::coordinates::is_coordinate;
+use lists::verdict::Verdict;
+use lists::verdict::refused_if;
+use records::numbers::u32_at;
+use shapes::vec3::Vec3;
+
+fn number_in(bytes: &[u8], i: usize) -> f32
+    requires { ⌜ 4 * i + 4 ≤ length (now bytes) ⌝ }
+    ensures { λ r. ⌜ r ≡ getD (numbersOf (now (bytes .entry))) i nan ⌝ }
+{
+    from_bits(u32_at(bytes, 4 * i))
+}
+
+// The index of the first number that is no coordinate, or how many numbers there are.
+fn first_bad_in(bytes: &[u8]) -> usize
+    ensures { λ r. ⌜ r ≡ firstBad (numbersOf (now (bytes .entry))) ⌝ }
+{
+    let count = bytes.len() / 4;
+    let mut i = 0;
+    while i < count {
+        if !is_coordinate(number_in(bytes, i)) {
+            return i;
+        }
+        i += 1;
+    }
+    i
+}
+
+// 8: the bytes are no whole points, else a coordinate is bad.
+pub fn point_bytes_refusal(bytes: &[u8]) -> Verdict
+    ensures { λ r. ⌜ asVerdict r ≡ pointBytesRefusal (now (bytes .entry)) ⌝ }
+{
+    let ragged = refused_if(bytes.len() % 12 != 0, 8, bytes.len());
+    if ragged.refuses() {
+        return ragged;
+    }
+    let at = first_bad_in(bytes);
+    refused_if(at < bytes.len() / 4, 8, at)
+}
+
+// Point number k.
+pub fn point_in(bytes: &[u8], k: usize) -> Vec3
+    requires { ⌜ 12 * k + 12 ≤ length (now bytes) ⌝ }
+    ensures { λ r. ⌜ asPoint r ≡ pointAt (numbersOf (now (bytes .entry))) (3 * k) ⌝ }
+{
+    let first = 3 * k;
+    Vec3 {
+        x: plus_zero(number_in(bytes, first)),
+        y: plus_zero(number_in(bytes, first + 1)),
+        z: plus_zero(number_in(bytes, first + 2)),
+    }
+}

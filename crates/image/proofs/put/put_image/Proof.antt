@@ -1,0 +1,56 @@
+-- `image::put_image` meets its contract: four records, one behind the other.
+-- Assumes nothing.
+use Prim.Native.Nat.{_*_}
+use native.Mathlib.Omega.{arith}
+use denote.Ref.{now}
+use Rattle.spec_tables.proofs.Tables.{put-then}
+use Rattle.spec_records.specs.Layouts.{version1}
+use Rattle.spec_records.proofs.Records.{record-put}
+use Rattle.spec_image.specs.Image.{imageBytes}
+use Rattle.spec_image.proofs.Sizes.{length-nodes}
+use Rattle.image.specs.Values.{imageOf}
+use borrow.Author.Needs.{needs}
+use Rattle.image.proofs.put.put_image.Statement.{statement}
+use Rattle.image.proofs.put.put_image.Tie as tie
+
+put-settings-requires : tie.Need-put-settings-requires
+put-settings-requires c κs = search needs
+
+put-triangles-requires : tie.Need-put-triangles-requires
+put-triangles-requires c κs = search needs
+
+put-order-requires : tie.Need-put-order-requires
+put-order-requires c κs = search needs
+
+mul-put-header : tie.Need-mul-put-header
+mul-put-header c = search needs
+
+put-header-requires : tie.Need-put-header-requires
+put-header-requires c κs = search needs
+
+put-nodes-requires : tie.Need-put-nodes-requires
+put-nodes-requires c κs = search needs
+
+same-length : tie.Need-same-length
+same-length c = search needs
+
+returns : tie.Need-returns
+unfolding imageBytes
+returns c =
+    let a = c .before .before .before .before .before .before .before .before .before .before .before .before .before .before .before .before .before .before .before .before .before .before .before .before .before .args in
+    let x = imageOf (a .settings) (now (a .triangles)) (now (a .order)) (now (a .links)) (now (a .boxes)) (a .nodes) in
+    let nodes = record-put 4 (30 * a .nodes) (length-nodes version1 x) (c .before .before .before .before .before .before .«put-header» .ensures .0) (c .before .before .«put-nodes» .ensures .0) in
+    (put-then (put-then (put-then (c .before .before .before .before .before .before .before .before .before .before .before .before .before .before .before .before .before .before .«put-settings» .ensures .0) (c .before .before .before .before .before .before .before .before .before .before .before .before .before .before .«put-triangles» .ensures .0)) (c .before .before .before .before .before .before .before .before .before .before .«put-order» .ensures .0)) nodes, omega (arith, c .before .before .before .before .before .before .before .before .before .before .before .before .before .before .before .before .before .before .before .before .before .before .before .before .before .pre .0 .triples))
+
+pub put-image-spec : {M : Type 1} → statement M
+put-image-spec =
+    tie.close
+    (tie.spec
+    put-settings-requires
+    put-triangles-requires
+    put-order-requires
+    mul-put-header
+    put-header-requires
+    put-nodes-requires
+    same-length
+    returns)

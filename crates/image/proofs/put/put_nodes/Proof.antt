@@ -1,0 +1,57 @@
+-- `image::put_nodes` meets its contract: a turn puts one node more (`Puts`).
+-- Assumes nothing.
+use Prim.Native.Nat.{_-_}
+use denote.Ref.{now}
+use Rattle.spec_tables.proofs.Runs.{Puts, puts-start, puts-more, puts-end}
+use Rattle.spec_records.specs.Layouts.{version1}
+use Rattle.spec_image.specs.Image.{nodeBytes}
+use borrow.Author.Needs.{needs}
+use Rattle.image.proofs.put.put_nodes.Statement.{statement}
+use Rattle.image.proofs.put.put_nodes.Tie as tie
+
+abbrev Inv-loop : tie.InvT-loop
+Inv-loop links boxes nodes out₀ at next₀ i₀ out next i = Puts (nodeBytes version1 links boxes) 30 at nodes out₀ out next i
+
+abbrev μ-loop : tie.MeasureT-loop
+μ-loop links boxes nodes out₀ at next₀ i₀ out next i = nodes - i
+
+loop-holds : tie.Need-loop-holds Inv-loop μ-loop
+loop-holds c =
+    let a = c .before .before .before .args in
+    puts-start (nodeBytes version1 (now (a .links)) (now (a .boxes))) 30 (a .at) (a .nodes) (now (a .out)) (c .before .before .before .pre .1)
+
+put-node-requires : tie.Need-put-node-requires Inv-loop μ-loop
+put-node-requires c κs = search needs
+
+add-i : tie.Need-add-i Inv-loop μ-loop
+add-i c = search needs
+
+loop-less : tie.Need-loop-less Inv-loop μ-loop
+loop-less c = search needs
+
+loop-again : tie.Need-loop-again Inv-loop μ-loop
+loop-again c =
+    let a = c .before .before .before .before .before .before .before .before .before .args in
+    puts-more (nodeBytes version1 (now (a .links)) (now (a .boxes))) 30 (a .at) (a .nodes) (c .before .before .before .before .«loop-test» .taken) (c .before .before .before .before .before .loop .inv) (c .before .before .«put-node» .ensures .0) (c .before .before .«put-node» .ensures .1)
+
+same-length : tie.Need-same-length Inv-loop μ-loop
+same-length c = c .before .loop .inv .long
+
+returns : tie.Need-returns Inv-loop μ-loop
+returns c =
+    let a = c .before .before .before .before .before .args in
+    puts-end (nodeBytes version1 (now (a .links)) (now (a .boxes))) 30 (a .at) (a .nodes) (c .«loop-test» .left) (c .before .loop .inv)
+
+pub put-nodes-spec : {M : Type 1} → statement M
+put-nodes-spec =
+    tie.close
+    (tie.spec
+    Inv-loop
+    μ-loop
+    loop-holds
+    put-node-requires
+    add-i
+    loop-less
+    loop-again
+    same-length
+    returns)

@@ -1,0 +1,32 @@
+-- `image::put_order` meets its contract: a header, and the entries behind it.
+-- Assumes nothing.
+use Prim.Native.Nat.{_*_}
+use native.Mathlib.Omega.{arith}
+use lib.ListN.{length}
+use denote.Ref.{now}
+use Rattle.spec_records.proofs.Entries.{length-numbers}
+use Rattle.spec_records.proofs.Records.{record-put}
+use borrow.Author.Needs.{needs}
+use Rattle.image.proofs.put.put_order.Statement.{statement}
+use Rattle.image.proofs.put.put_order.Tie as tie
+
+mul-put-header : tie.Need-mul-put-header
+mul-put-header c = search needs
+
+put-header-requires : tie.Need-put-header-requires
+put-header-requires c κs = search needs
+
+put-u16s-requires : tie.Need-put-u16s-requires
+put-u16s-requires c κs = search needs
+
+same-length : tie.Need-same-length
+same-length c = search needs
+
+returns : tie.Need-returns
+returns c =
+    let order = now (c .before .before .before .before .before .before .before .before .before .before .args .order) in
+    (record-put 3 (2 * length order) (length-numbers 2 order 0 (length order)) (c .before .before .before .before .before .before .«put-header» .ensures .0) (c .before .before .«put-u16s» .ensures .0), omega arith)
+
+pub put-order-spec : {M : Type 1} → statement M
+put-order-spec =
+    tie.close (tie.spec mul-put-header put-header-requires put-u16s-requires same-length returns)

@@ -1,0 +1,48 @@
+-- `image::put_settings` meets its contract: a header, and four numbers behind it.
+-- Assumes nothing.
+use native.Mathlib.Omega.{arith}
+use Rattle.spec_tables.proofs.Tables.{put-then}
+use Rattle.spec_records.specs.Layouts.{version1}
+use Rattle.spec_records.proofs.Records.{record-put}
+use Rattle.spec_image.specs.Image.{settingsBytes}
+use Rattle.spec_image.proofs.Sizes.{length-settings}
+use Rattle.lists.specs.Values.{asSettings}
+use borrow.Author.Needs.{needs}
+use Rattle.image.proofs.put.put_settings.Statement.{statement}
+use Rattle.image.proofs.put.put_settings.Tie as tie
+
+put-header-requires : tie.Need-put-header-requires
+put-header-requires c κs = search needs
+
+put-u16-requires : tie.Need-put-u16-requires
+put-u16-requires c κs = search needs
+
+put-u16-requires-2 : tie.Need-put-u16-requires-2
+put-u16-requires-2 c κs = search needs
+
+put-u16-requires-3 : tie.Need-put-u16-requires-3
+put-u16-requires-3 c κs = search needs
+
+put-u16-requires-4 : tie.Need-put-u16-requires-4
+put-u16-requires-4 c κs = search needs
+
+same-length : tie.Need-same-length
+same-length c = search needs
+
+returns : tie.Need-returns
+unfolding settingsBytes
+returns c =
+    let numbers = put-then (put-then (put-then (c .before .before .before .before .before .before .before .before .before .before .before .before .before .before .«put-u16» .ensures .0) (c .before .before .before .before .before .before .before .before .before .before .«put-u162» .ensures .0)) (c .before .before .before .before .before .before .«put-u163» .ensures .0)) (c .before .before .«put-u164» .ensures .0) in
+    (record-put 1 8 (length-settings version1 (asSettings (c .before .before .before .before .before .before .before .before .before .before .before .before .before .before .before .before .before .before .before .before .before .args .settings))) (c .before .before .before .before .before .before .before .before .before .before .before .before .before .before .before .before .before .before .«put-header» .ensures .0) numbers, omega arith)
+
+pub put-settings-spec : {M : Type 1} → statement M
+put-settings-spec =
+    tie.close
+    (tie.spec
+    put-header-requires
+    put-u16-requires
+    put-u16-requires-2
+    put-u16-requires-3
+    put-u16-requires-4
+    same-length
+    returns)

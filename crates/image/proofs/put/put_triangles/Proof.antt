@@ -1,0 +1,33 @@
+-- `image::put_triangles` meets its contract: a header, and the numbers behind it.
+-- Assumes nothing.
+use Prim.Native.Nat.{_*_}
+use native.Mathlib.Omega.{arith}
+use lib.ListN.{length}
+use lib.Ieee.{binary32}
+use denote.Ref.{now}
+use Rattle.spec_records.proofs.Entries.{length-floats}
+use Rattle.spec_records.proofs.Records.{record-put}
+use borrow.Author.Needs.{needs}
+use Rattle.image.proofs.put.put_triangles.Statement.{statement}
+use Rattle.image.proofs.put.put_triangles.Tie as tie
+
+mul-put-header : tie.Need-mul-put-header
+mul-put-header c = search needs
+
+put-header-requires : tie.Need-put-header-requires
+put-header-requires c κs = search needs
+
+put-f32s-requires : tie.Need-put-f32s-requires
+put-f32s-requires c κs = search needs
+
+same-length : tie.Need-same-length
+same-length c = search needs
+
+returns : tie.Need-returns
+returns c =
+    let triangles = now (c .before .before .before .before .before .before .before .before .before .before .args .triangles) in
+    (record-put 2 (4 * length triangles) (length-floats binary32 triangles 0 (length triangles)) (c .before .before .before .before .before .before .«put-header» .ensures .0) (c .before .before .«put-f32s» .ensures .0), omega arith)
+
+pub put-triangles-spec : {M : Type 1} → statement M
+put-triangles-spec =
+    tie.close (tie.spec mul-put-header put-header-requires put-f32s-requires same-length returns)

@@ -1,0 +1,21 @@
+-- `image::is_short` meets its contract: more nodes than a thirtieth of the room do not fit, and fewer can be multiplied.
+-- Assumes nothing.
+use native.Mathlib.Omega.{arith}
+use mathlib.Core.Path.{sym}
+use borrow.Author.Tests.{lt-ltb}
+use Rattle.spec_records.specs.Layouts.{version1, imageSize}
+use borrow.Author.Needs.{needs}
+use Rattle.image.proofs.size.is_short.Statement.{statement}
+use Rattle.image.proofs.size.is_short.Tie as tie
+
+returns : tie.Need-returns
+returns c = sym (lt-ltb (c .before .args .given) (imageSize version1 (c .before .args .triangles) (c .before .args .nodes)) (omega arith))
+
+image-size-requires : tie.Need-image-size-requires
+image-size-requires c κs = search needs
+
+returns-2 : tie.Need-returns-2
+returns-2 c = rw (c .image-size .ensures)
+
+pub is-short-spec : {M : Type 1} → statement M
+is-short-spec = tie.close (tie.spec returns image-size-requires returns-2)

@@ -1,0 +1,107 @@
+// The records of an image, each put behind the other.
+ghost use mathlib.Core.Path.{_≡_};
+ghost use Prim.Native.Nat.{_+_, _*_, _≤_};
+ghost use lib.ListN.{length};
+ghost use lib.Ieee.{binary32};
+ghost use Rattle.spec_tables.specs.Tables.{many, Put};
+ghost use Rattle.spec_records.specs.Entries.{numberBytes, floatBytes};
+ghost use Rattle.spec_records.specs.Records.{header, recordOf};
+ghost use Rattle.spec_records.specs.Layouts.{version1, imageSize};
+ghost use Rattle.spec_image.specs.Image.{settingsBytes, nodeBytes, imageBytes};
+ghost use Rattle.spec_image.specs.Stored.{Complete};
+ghost use Rattle.lists.specs.Values.{asSettings};
+ghost use Rattle.image.specs.Values.{imageOf};
+use lists::settings::Settings;
+use records::entries::put_f32s;
+use records::entries::put_u16s;
+use records::numbers::put_u16;
+use records::numbers::put_u32;
+
+fn put_header(out: &mut [u8], at: usize, size: usize, kind: usize) -> usize
+    requires { ⌜ at + 6 ≤ length (now out) ⌝ }
+    ensures { λ r. ⌜ Put at (header size kind) (now (out .entry)) (now (out .exit)) r ⌝ }
+    ensures { λ r. ⌜ r ≡ at + 6 ⌝ }
+{
+    let next = put_u32(out, at, size);
+    put_u16(out, next, kind)
+}
+
+fn put_settings(settings: Settings, out: &mut [u8]) -> usize
+    requires { ⌜ 14 ≤ length (now out) ⌝ }
+    ensures { λ r. ⌜ Put 0 (recordOf 1 (settingsBytes version1 (asSettings settings))) (now (out .entry)) (now (out .exit)) r ⌝ }
+    ensures { λ r. ⌜ r ≡ 14 ⌝ }
+{
+    let body = put_header(out, 0, 8, 1);
+    let a = put_u16(out, body, 1);
+    let b = put_u16(out, a, settings.strategy);
+    let c = put_u16(out, b, settings.leaf_minimum);
+    put_u16(out, c, settings.maximum_depth)
+}
+
+fn put_triangles(triangles: &[f32], out: &mut [u8], at: usize) -> usize
+    requires { ⌜ at + 6 + 4 * length (now triangles) ≤ length (now out) ⌝ }
+    ensures { λ r. ⌜ Put at (recordOf 2 (floatBytes binary32 (now (triangles .entry)) 0 (length (now (triangles .entry))))) (now (out .entry)) (now (out .exit)) r ⌝ }
+    ensures { λ r. ⌜ r ≡ at + 6 + 4 * length (now (triangles .entry)) ⌝ }
+{
+    let body = put_header(out, at, 4 * triangles.len(), 2);
+    put_f32s(triangles, 0, triangles.len(), out, body)
+}
+
+fn put_order(order: &[u32], out: &mut [u8], at: usize) -> usize
+    requires { ⌜ at + 6 + 2 * length (now order) ≤ length (now out) ⌝ }
+    ensures { λ r. ⌜ Put at (recordOf 3 (numberBytes 2 (now (order .entry)) 0 (length (now (order .entry))))) (now (out .entry)) (now (out .exit)) r ⌝ }
+    ensures { λ r. ⌜ r ≡ at + 6 + 2 * length (now (order .entry)) ⌝ }
+{
+    let body = put_header(out, at, 2 * order.len(), 3);
+    put_u16s(order, 0, order.len(), out, body)
+}
+
+// Its kind, left and right, and its box.
+fn put_node(links: &[u32], boxes: &[f32], node: usize, out: &mut [u8], at: usize) -> usize
+    requires { ⌜ (3 * node + 3 ≤ length (now links)) × (6 * node + 6 ≤ length (now boxes)) ⌝ }
+    requires { ⌜ at + 30 ≤ length (now out) ⌝ }
+    ensures { λ r. ⌜ Put at (nodeBytes version1 (now (links .entry)) (now (boxes .entry)) node) (now (out .entry)) (now (out .exit)) r ⌝ }
+    ensures { λ r. ⌜ r ≡ at + 30 ⌝ }
+{
+    let sides = put_u16s(links, 3 * node, 1, out, at);
+    let bounds = put_u16s(links, 3 * node + 1, 2, out, sides);
+    put_f32s(boxes, 6 * node, 6, out, bounds)
+}
+
+fn put_nodes(links: &[u32], boxes: &[f32], nodes: usize, out: &mut [u8], at: usize) -> usize
+    requires { ⌜ (3 * nodes ≤ length (now links)) × (6 * nodes ≤ length (now boxes)) ⌝ }
+    requires { ⌜ at + 30 * nodes ≤ length (now out) ⌝ }
+    ensures { λ r. ⌜ Put at (many (nodeBytes version1 (now (links .entry)) (now (boxes .entry))) nodes) (now (out .entry)) (now (out .exit)) r ⌝ }
+    ensures { λ r. ⌜ r ≡ at + 30 * nodes ⌝ }
+{
+    let mut next = at;
+    let mut i = 0;
+    while i < nodes {
+        next = put_node(links, boxes, i, out, next);
+        i += 1;
+    }
+    next
+}
+
+// The image of a tree that has passed the tests, into bytes that have room for it. It answers how many
+// bytes it wrote; those behind them stay as they were.
+pub fn put_image(
+    settings: Settings,
+    triangles: &[f32],
+    order: &[u32],
+    links: &[u32],
+    boxes: &[f32],
+    nodes: usize,
+    out: &mut [u8],
+) -> usize
+    requires { ⌜ Complete (imageOf settings (now triangles) (now order) (now links) (now boxes) nodes) ⌝ }
+    requires { ⌜ imageSize version1 (length (now order)) nodes ≤ length (now out) ⌝ }
+    ensures { λ r. ⌜ Put 0 (imageBytes version1 (imageOf settings (now (triangles .entry)) (now (order .entry)) (now (links .entry)) (now (boxes .entry)) nodes)) (now (out .entry)) (now (out .exit)) r ⌝ }
+    ensures { λ r. ⌜ r ≡ imageSize version1 (length (now (order .entry))) nodes ⌝ }
+{
+    let second = put_settings(settings, out);
+    let third = put_triangles(triangles, out, second);
+    let fourth = put_order(order, out, third);
+    let body = put_header(out, fourth, 30 * nodes, 4);
+    put_nodes(links, boxes, nodes, out, body)
+}

@@ -1,8 +1,0 @@
--- The program's queries as the definitions' own. Definitions only.
-use Rattle.spec_search.specs.Calls as Calls
-use Rattle.list_queries.specs.declared.query.Query.{Query}
-use Rattle.list_queries.specs.declared.query.Query.the-variants.{Sure, Source}
-
-abbrev pub asQuery : Query → Calls.Query
-asQuery Sure = Calls.sure
-asQuery Source = Calls.source

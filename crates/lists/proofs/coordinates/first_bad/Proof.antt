@@ -1,0 +1,72 @@
+-- `lists::first_bad` meets its contract. The invariant: the index, and how many good numbers there are from there on, give the answer.
+-- Assumes nothing.
+use mathlib.Core.Path.{_≡_, sym, _∙_}
+use Prim.Native.Nat.{_+_, _-_}
+use native.Mathlib.Omega.{arith}
+use borrow.Author.Needs.{needs}
+use borrow.Author.Tests.{not-true, not-false}
+use lib.ListN.{length, drop}
+use Rattle.spec_lists.specs.Refusals.{firstBad}
+use Rattle.spec_lists.proofs.Coordinates.{bad-here, good-here, none-left}
+use Rattle.lists.proofs.coordinates.first_bad.Statement.{statement}
+use Rattle.lists.proofs.coordinates.first_bad.Tie as tie
+
+abbrev Inv-loop : tie.InvT-loop
+Inv-loop numbers i₀ i = i + firstBad (drop i numbers) ≡ firstBad numbers
+
+abbrev μ-loop : tie.MeasureT-loop
+μ-loop numbers i₀ i = length numbers - i
+
+loop-holds : tie.Need-loop-holds Inv-loop μ-loop
+loop-holds c = omega arith
+
+mul-is-coordinate : tie.Need-mul-is-coordinate Inv-loop μ-loop
+mul-is-coordinate c = search needs
+
+shared-slice-read-is-coordinate : tie.Need-shared-slice-read-is-coordinate Inv-loop μ-loop
+shared-slice-read-is-coordinate c = search needs
+
+is-coordinate-requires : tie.Need-is-coordinate-requires Inv-loop μ-loop
+is-coordinate-requires c κs = search needs
+
+returns : tie.Need-returns Inv-loop μ-loop
+returns c =
+    let loop = c .before .before .before .before .loop in
+    let list = c .before .before .before .before .before .before .args .numbers .now in
+    let found = bad-here list (loop .i) (c .before .before .before .loop-test .taken) (sym (c .before .is-coordinate .ensures) ∙ not-true _ (c .if1 .taken)) in
+    omega (arith, loop .inv)
+
+add-i : tie.Need-add-i Inv-loop μ-loop
+add-i c = search needs
+
+loop-less : tie.Need-loop-less Inv-loop μ-loop
+loop-less c = omega arith
+
+loop-again : tie.Need-loop-again Inv-loop μ-loop
+loop-again c =
+    let loop = c .before .before .before .before .loop in
+    let list = c .before .before .before .before .before .before .args .numbers .now in
+    let next = good-here list (loop .i) (c .before .before .before .loop-test .taken) (sym (c .before .is-coordinate .ensures) ∙ not-false _ (c .if1 .left)) in
+    omega (arith, loop .inv)
+
+returns-2 : tie.Need-returns-2 Inv-loop μ-loop
+returns-2 c =
+    let loop = c .before .loop in
+    let none = none-left (c .before .before .before .args .numbers .now) (loop .i) (c .loop-test .left) in
+    omega (arith, loop .inv)
+
+pub first-bad-spec : {M : Type 1} → statement M
+first-bad-spec =
+    tie.close
+    (tie.spec
+    Inv-loop
+    μ-loop
+    loop-holds
+    mul-is-coordinate
+    shared-slice-read-is-coordinate
+    is-coordinate-requires
+    returns
+    add-i
+    loop-less
+    loop-again
+    returns-2)

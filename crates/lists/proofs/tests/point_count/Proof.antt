@@ -1,0 +1,13 @@
+-- `lists::point_count` meets its contract, which is its body.
+-- Assumes nothing.
+use mathlib.Core.Path.{refl}
+use Rattle.spec_lists.specs.Reading.{pointCount}
+use Rattle.lists.proofs.tests.point_count.Statement.{statement}
+use Rattle.lists.proofs.tests.point_count.Tie as tie
+
+returns : tie.Need-returns
+unfolding pointCount
+returns c = refl
+
+pub point-count-spec : {M : Type 1} → statement M
+point-count-spec = tie.close (tie.spec returns)

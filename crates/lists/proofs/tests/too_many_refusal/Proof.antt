@@ -1,0 +1,19 @@
+-- `lists::too_many_refusal` meets its contract: what `triangle_count` and `refused_if` ensure.
+-- Assumes nothing.
+use Rattle.spec_lists.specs.Refusals.{tooManyRefusal}
+use borrow.Author.Needs.{needs}
+use Rattle.lists.proofs.tests.too_many_refusal.Statement.{statement}
+use Rattle.lists.proofs.tests.too_many_refusal.Tie as tie
+
+triangle-count-requires : tie.Need-triangle-count-requires
+triangle-count-requires c κs = search needs
+
+refused-if-requires : tie.Need-refused-if-requires
+refused-if-requires c κs = search needs
+
+returns : tie.Need-returns
+unfolding tooManyRefusal
+returns c = rw (c .refused-if .ensures, c .before .triangle-count .ensures)
+
+pub too-many-refusal-spec : {M : Type 1} → statement M
+too-many-refusal-spec = tie.close (tie.spec triangle-count-requires refused-if-requires returns)

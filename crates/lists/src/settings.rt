@@ -1,0 +1,30 @@
+// How a tree is built: strategy 1 is median, 2 is area.
+ghost use mathlib.Core.Path.{_≡_};
+ghost use Rattle.spec_lists.specs.Refusals as Refusals;
+ghost use Rattle.lists.specs.Values as Values;
+use crate::limits;
+use crate::verdict::Verdict;
+use crate::verdict::refused_if;
+
+pub struct Settings {
+    pub strategy: usize,
+    pub leaf_minimum: usize,
+    pub maximum_depth: usize,
+}
+
+fn are_settings(s: Settings) -> bool
+    ensures { λ r. ⌜ r ≡ Refusals.areSettings (Values.asSettings s) ⌝ }
+{
+    (1 <= s.strategy)
+        & (s.strategy <= 2)
+        & (1 <= s.leaf_minimum)
+        & (s.leaf_minimum <= limits::MOST_LEAF_MINIMUM)
+        & (s.maximum_depth <= limits::DEEPEST)
+}
+
+// 5: a setting is out of range.
+pub fn settings_refusal(settings: Settings) -> Verdict
+    ensures { λ r. ⌜ Values.asVerdict r ≡ Refusals.settingsRefusal (Values.asSettings settings) ⌝ }
+{
+    refused_if(!are_settings(settings), 5, 0)
+}

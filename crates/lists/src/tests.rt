@@ -1,0 +1,80 @@
+// Tests 1 to 4 of a triangle list, 8 of a point list, 9 of a search distance, and how many triangles or points a list has.
+ghost use mathlib.Core.Path.{_≡_};
+ghost use Rattle.spec_lists.specs.Reading as Reading;
+ghost use Rattle.spec_lists.specs.Refusals as Refusals;
+ghost use Rattle.lists.specs.Values as Values;
+use crate::coordinates::coordinate_refusal;
+use crate::coordinates::is_within;
+use crate::limits;
+use crate::verdict::Verdict;
+use crate::verdict::refused_if;
+
+pub fn point_count(points: &[f32]) -> usize
+    ensures { λ r. ⌜ r ≡ Reading.pointCount (now (points .entry)) ⌝ }
+{
+    points.len() / 3
+}
+
+// 8: the list is ragged, else a coordinate is bad.
+pub fn points_refusal(points: &[f32]) -> Verdict
+    ensures { λ r. ⌜ Values.asVerdict r ≡ Refusals.pointsRefusal (now (points .entry)) ⌝ }
+{
+    let ragged = refused_if(points.len() % 3 != 0, 8, points.len());
+    if ragged.refuses() {
+        return ragged;
+    }
+    coordinate_refusal(8, points)
+}
+
+// 9: the distance is out of range or no number.
+pub fn distance_refusal(distance: f32) -> Verdict
+    ensures { λ r. ⌜ Values.asVerdict r ≡ Refusals.distanceRefusal distance ⌝ }
+{
+    refused_if(!is_within(0.0, limits::LONGEST_DISTANCE, distance), 9, 0)
+}
+
+pub fn triangle_count(triangles: &[f32]) -> usize
+    ensures { λ r. ⌜ r ≡ Reading.triangleCount (now (triangles .entry)) ⌝ }
+{
+    triangles.len() / 9
+}
+
+// 1: the length is no multiple of nine.
+fn ragged_refusal(triangles: &[f32]) -> Verdict
+    ensures { λ r. ⌜ Values.asVerdict r ≡ Refusals.raggedRefusal (now (triangles .entry)) ⌝ }
+{
+    refused_if(triangles.len() % 9 != 0, 1, 0)
+}
+
+// 2: no triangles.
+fn none_refusal(triangles: &[f32]) -> Verdict
+    ensures { λ r. ⌜ Values.asVerdict r ≡ Refusals.noneRefusal (now (triangles .entry)) ⌝ }
+{
+    refused_if(triangle_count(triangles) == 0, 2, 0)
+}
+
+// 3: too many.
+fn too_many_refusal(triangles: &[f32]) -> Verdict
+    ensures { λ r. ⌜ Values.asVerdict r ≡ Refusals.tooManyRefusal (now (triangles .entry)) ⌝ }
+{
+    refused_if(limits::MOST_TRIANGLES < triangle_count(triangles), 3, 0)
+}
+
+// 1 to 4.
+pub fn triangles_refusal(triangles: &[f32]) -> Verdict
+    ensures { λ r. ⌜ Values.asVerdict r ≡ Refusals.trianglesRefusal (now (triangles .entry)) ⌝ }
+{
+    let ragged = ragged_refusal(triangles);
+    if ragged.refuses() {
+        return ragged;
+    }
+    let none = none_refusal(triangles);
+    if none.refuses() {
+        return none;
+    }
+    let too_many = too_many_refusal(triangles);
+    if too_many.refuses() {
+        return too_many;
+    }
+    coordinate_refusal(4, triangles)
+}

@@ -1,0 +1,37 @@
+// What a test answers: it passed, or it refuses with its number and a place.
+ghost use mathlib.Core.Path.{_≡_};
+ghost use Rattle.spec_lists.specs.Refusals as Refusals;
+ghost use Rattle.lists.specs.Values as Values;
+
+pub enum Verdict {
+    Passed,
+    Refused { number: usize, place: usize },
+}
+
+impl Verdict {
+    pub fn refuses(self) -> bool
+        ensures { λ r. ⌜ r ≡ Refusals.refuses (Values.asVerdict self) ⌝ }
+    {
+        match self {
+            Verdict::Passed => false,
+            Verdict::Refused { .. } => true,
+        }
+    }
+}
+
+pub fn refused_if(refuses: bool, number: usize, place: usize) -> Verdict
+    ensures { λ r. ⌜ Values.asVerdict r ≡ Refusals.refusedIf refuses number place ⌝ }
+{
+    if refuses {
+        Verdict::Refused { number, place }
+    } else {
+        Verdict::Passed
+    }
+}
+
+// 6: an output of `given` entries is shorter than its need.
+pub fn room_refusal(given: usize, need: usize) -> Verdict
+    ensures { λ r. ⌜ Values.asVerdict r ≡ Refusals.roomRefusal given need ⌝ }
+{
+    refused_if(given < need, 6, 0)
+}

@@ -1,0 +1,27 @@
+-- `printing::put_decimal` meets its contract: as many digits as the number has.
+-- Assumes nothing.
+use mathlib.Core.Path.{ap}
+use Prim.Native.Nat.{ℕ}
+use native.Mathlib.Omega.{arith}
+use Rattle.spec_tables.proofs.Tables.{put-same}
+use Rattle.spec_printing.specs.Printed.{digits, decimal}
+use borrow.Author.Needs.{needs}
+use Rattle.printing.proofs.numbers.put_decimal.Statement.{statement}
+use Rattle.printing.proofs.numbers.put_decimal.Tie as tie
+
+width-of-requires : tie.Need-width-of-requires
+width-of-requires c κs = search needs
+
+put-digits-requires : tie.Need-put-digits-requires
+put-digits-requires c κs = search needs
+
+same-length : tie.Need-same-length
+same-length c = search needs
+
+returns : tie.Need-returns
+unfolding decimal
+returns c =
+    (put-same (ap (λ (k : ℕ). digits 10 k (c .before .before .before .before .before .before .args .n)) (c .before .before .before .«width-of» .ensures .0)) (c .before .before .«put-digits» .ensures .0), omega arith)
+
+pub put-decimal-spec : {M : Type 1} → statement M
+put-decimal-spec = tie.close (tie.spec width-of-requires put-digits-requires same-length returns)

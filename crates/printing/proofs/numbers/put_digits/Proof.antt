@@ -1,0 +1,78 @@
+-- `printing::put_digits` meets its contract: a turn stores one digit more, right in front of the others (`Backwards`).
+-- Assumes nothing.
+use mathlib.Core.Path.{refl}
+use native.Mathlib.Omega.{arith}
+use Prim.Native.Nat.{_-_}
+use native.Mathlib.Nat.{mod-lt}
+use denote.Ref.{now}
+use Rattle.spec_printing.proofs.Backwards.{Backwards, back-start, back-more, back-end}
+use borrow.Author.Needs.{needs}
+use Rattle.printing.proofs.numbers.put_digits.Statement.{statement}
+use Rattle.printing.proofs.numbers.put_digits.Tie as tie
+
+abbrev Inv-loop : tie.InvT-loop
+Inv-loop out₀ at base count n left₀ rest₀ out left rest = Backwards base at count n out₀ out left rest
+
+abbrev μ-loop : tie.MeasureT-loop
+μ-loop out₀ at base count n left₀ rest₀ out left rest = left
+
+loop-holds : tie.Need-loop-holds Inv-loop μ-loop
+loop-holds c =
+    let a = c .before .args in
+    back-start (a .base) (a .at) (a .count) (a .n) (now (a .out))
+
+sub-left : tie.Need-sub-left Inv-loop μ-loop
+sub-left c = search needs
+
+rem-digit-of : tie.Need-rem-digit-of Inv-loop μ-loop
+rem-digit-of c = search needs
+
+digit-of-requires : tie.Need-digit-of-requires Inv-loop μ-loop
+digit-of-requires c κs = omega (arith, mod-lt (c .before .loop .rest) (c .before .before .before .pre .1 .0))
+
+add-out : tie.Need-add-out Inv-loop μ-loop
+add-out c = omega (arith, c .before .before .loop .inv .sized)
+
+slice-write-out : tie.Need-slice-write-out Inv-loop μ-loop
+slice-write-out c = omega (arith, c .before .before .loop .inv .sized, c .before .before .loop .inv .long)
+
+div-rest : tie.Need-div-rest Inv-loop μ-loop
+div-rest c = search needs
+
+loop-less : tie.Need-loop-less Inv-loop μ-loop
+loop-less c = search needs
+
+loop-again : tie.Need-loop-again Inv-loop μ-loop
+loop-again c =
+    let a = c .before .before .before .before .args in
+    back-more (a .base) (a .at) (a .count) (a .n) (now (a .out)) _ (c .before .before .loop .left) (c .before .before .loop .rest) _ (c .before .before .loop .left - 1) (c .before .before .before .before .pre .0) (omega arith) (c .«digit-of» .ensures) (c .before .before .loop .inv)
+
+add-result : tie.Need-add-result Inv-loop μ-loop
+add-result c = search needs
+
+same-length : tie.Need-same-length Inv-loop μ-loop
+same-length c = c .before .loop .inv .long
+
+returns : tie.Need-returns Inv-loop μ-loop
+returns c =
+    let a = c .before .before .before .args in
+    (back-end (a .base) (a .at) (a .count) (a .n) (now (a .out)) _ (c .before .loop .left) (c .before .loop .rest) (c .before .before .before .pre .0) (c .«loop-test» .left) (c .before .loop .inv), refl)
+
+pub put-digits-spec : {M : Type 1} → statement M
+put-digits-spec =
+    tie.close
+    (tie.spec
+    Inv-loop
+    μ-loop
+    loop-holds
+    sub-left
+    rem-digit-of
+    digit-of-requires
+    add-out
+    slice-write-out
+    div-rest
+    loop-less
+    loop-again
+    add-result
+    same-length
+    returns)

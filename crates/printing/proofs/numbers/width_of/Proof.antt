@@ -1,0 +1,37 @@
+-- `printing::width_of` meets its contract: what was counted, and the width of what is left, are one more than the width.
+-- Assumes nothing.
+use mathlib.Core.Path.{_≡_}
+use Prim.Native.Nat.{_+_}
+use native.Mathlib.Omega.{arith}
+use Rattle.spec_printing.specs.Printed.{width}
+use Rattle.spec_printing.proofs.Numbers.{width-one, width-more, width-pos, width-most}
+use borrow.Author.Needs.{needs}
+use Rattle.printing.proofs.numbers.width_of.Statement.{statement}
+use Rattle.printing.proofs.numbers.width_of.Tie as tie
+
+abbrev Inv-loop : tie.InvT-loop
+Inv-loop n count₀ rest₀ count rest = count + width rest ≡ width n + 1
+
+abbrev μ-loop : tie.MeasureT-loop
+μ-loop n count₀ rest₀ count rest = rest
+
+loop-holds : tie.Need-loop-holds Inv-loop μ-loop
+loop-holds c = omega arith
+
+add-count : tie.Need-add-count Inv-loop μ-loop
+add-count c = omega (arith, width-pos (c .before .loop .rest), width-most (c .before .before .args .n) (c .before .before .fits .n .fits), c .before .loop .inv)
+
+loop-less : tie.Need-loop-less Inv-loop μ-loop
+loop-less c = search needs
+
+loop-again : tie.Need-loop-again Inv-loop μ-loop
+loop-again c = omega (arith, width-more (c .before .loop .rest) (c .«loop-test» .taken), c .before .loop .inv)
+
+returns : tie.Need-returns Inv-loop μ-loop
+returns c =
+    let all : c .before .loop .count ≡ width (c .before .before .args .n) = omega (arith, width-one (c .before .loop .rest) (c .«loop-test» .left), c .before .loop .inv) in
+    (all, omega (arith, all, width-most (c .before .before .args .n) (c .before .before .fits .n .fits)))
+
+pub width-of-spec : {M : Type 1} → statement M
+width-of-spec =
+    tie.close (tie.spec Inv-loop μ-loop loop-holds add-count loop-less loop-again returns)

@@ -1,0 +1,50 @@
+-- `queries::ask` meets its contract: a refusal leaves the answers as they were, and where there is none each point's are written.
+-- Assumes nothing.
+use mathlib.Core.Path.{_∙_, sym}
+use lib.Ieee.{binary32}
+use lib.ListN.{length}
+use Rattle.spec_lists.proofs.Verdicts.{did-pass}
+use Rattle.spec_search.specs.Calls.{answerBy}
+use Rattle.spec_search.proofs.Calls.{query-passed, as-it-was, is-answered}
+use Rattle.queries.specs.Values.{asQuery}
+use borrow.Author.Needs.{needs}
+use Rattle.queries.proofs.calls.ask.Statement.{statement}
+use Rattle.queries.proofs.calls.ask.Tie as tie
+
+query-refusal-requires : tie.Need-query-refusal-requires
+query-refusal-requires c κs = search needs
+
+refuses-requires : tie.Need-refuses-requires
+refuses-requires c κs = search needs
+
+returns : tie.Need-returns
+returns c =
+    let a = c .before .before .before .before .before .before .before .before .before .args in
+    (c .before .before .query-refusal .ensures, as-it-was binary32 (answerBy binary32 (asQuery (a .query)) (a .triangles .now) (a .order .now) (a .links .now) (a .boxes .now) (a .nodes) (a .distance)) (a .points .now) (a .answers .now) _ (sym (c .before .refuses .ensures) ∙ c .if1 .taken))
+
+put-answers-requires : tie.Need-put-answers-requires
+put-answers-requires c κs =
+    let a = c .before .before .before .before .before .before .before .before .before .before .args in
+    query-passed (a .triangles .now) (a .order .now) (a .links .now) (a .boxes .now) (a .nodes) (a .points .now) (a .distance) (length (a .answers .now))
+    (did-pass _ _ _ (c .before .before .before .query-refusal .ensures) (c .before .before .refuses .ensures) (c .before .if1 .left))
+
+same-length : tie.Need-same-length
+same-length c = search needs
+
+returns-2 : tie.Need-returns-2
+returns-2 c =
+    let a = c .before .before .before .before .before .before .before .before .before .before .before .before .before .args in (
+      c .before .before .before .before .before .before .query-refusal .ensures,
+      is-answered binary32 (answerBy binary32 (asQuery (a .query)) (a .triangles .now) (a .order .now) (a .links .now) (a .boxes .now) (a .nodes) (a .distance)) (a .points .now) (a .answers .now) _ _ (c .before .before .before .before .before .before .query-refusal .ensures ∙ did-pass _ _ _ (c .before .before .before .before .before .before .query-refusal .ensures) (c .before .before .before .before .before .refuses .ensures) (c .before .before .before .before .if1 .left)) (c .before .before .put-answers .ensures),
+    )
+
+pub ask-spec : {M : Type 1} → statement M
+ask-spec =
+    tie.close
+    (tie.spec
+    query-refusal-requires
+    refuses-requires
+    returns
+    put-answers-requires
+    same-length
+    returns-2)

@@ -1,0 +1,80 @@
+-- `queries::put_answers` meets its contract. The invariant: the first k answers stand at the front of the list.
+-- Assumes nothing.
+use mathlib.Core.Path.{ap, _∙_}
+use Prim.Native.Nat.{_-_}
+use native.Mathlib.Omega.{arith}
+use lib.Ieee.{binary32}
+use borrow.Author.Needs.{needs}
+use Rattle.spec_lists.proofs.Reading.{point-inside, point-finite}
+use Rattle.spec_search.specs.Calls.{answerBy}
+use Rattle.spec_search.proofs.Calls.{Answered, answered-start, answered-more, answered-end}
+use Rattle.queries.specs.Values.{asQuery}
+use Rattle.queries.proofs.calls.put_answers.Statement.{statement}
+use Rattle.queries.proofs.calls.put_answers.Tie as tie
+
+abbrev Inv-loop : tie.InvT-loop
+Inv-loop query triangles order links boxes nodes points distance answers₀ count k₀ answers k = Answered binary32 (answerBy binary32 (asQuery query) triangles order links boxes nodes distance) points answers₀ count answers k
+
+abbrev μ-loop : tie.MeasureT-loop
+μ-loop query triangles order links boxes nodes points distance answers₀ count k₀ answers k = count - k
+
+point-count-requires : tie.Need-point-count-requires Inv-loop μ-loop
+point-count-requires c κs = search needs
+
+loop-holds : tie.Need-loop-holds Inv-loop μ-loop
+loop-holds c = let a = c .before .before .before .before .before .before .before .args in answered-start binary32 (answerBy binary32 (asQuery (a .query)) (a .triangles .now) (a .order .now) (a .links .now) (a .boxes .now) (a .nodes) (a .distance)) (a .points .now) (a .answers .now) _
+
+mul-point-at : tie.Need-mul-point-at Inv-loop μ-loop
+mul-point-at c = omega (arith, point-inside _ _ (rw (c .before .before .point-count .ensures) at (c .loop-test .taken)))
+
+point-at-requires : tie.Need-point-at-requires Inv-loop μ-loop
+point-at-requires c κs = omega (arith, point-inside _ _ (rw (c .before .before .point-count .ensures) at (c .loop-test .taken)))
+
+answer-at-requires : tie.Need-answer-at-requires Inv-loop μ-loop
+answer-at-requires c κs =
+    let start = c .before .before .before .before .before .before .before .before .before .before in
+    (start .pre .0 .searchable, rw (c .point-at .ensures) (point-finite _ (start .pre .0 .points-good .coordinates) _ (omega (arith, point-inside _ _ (rw (c .before .before .before .point-count .ensures) at (c .before .loop-test .taken))))))
+
+mul-put-answer : tie.Need-mul-put-answer Inv-loop μ-loop
+mul-put-answer c = search needs
+
+put-answer-requires : tie.Need-put-answer-requires Inv-loop μ-loop
+put-answer-requires c κs = omega (arith, c .before .before .before .before .before .before .before .before .before .before .before .before .pre .1, c .before .before .before .before .before .point-count .ensures, c .before .before .before .before .loop .inv .long, c .before .before .before .loop-test .taken)
+
+add-k : tie.Need-add-k Inv-loop μ-loop
+add-k c = omega arith
+
+loop-less : tie.Need-loop-less Inv-loop μ-loop
+loop-less c = omega arith
+
+loop-again : tie.Need-loop-again Inv-loop μ-loop
+loop-again c =
+    let a = c .before .before .before .before .before .before .before .before .before .before .before .before .before .before .before .args in
+    answered-more binary32 (answerBy binary32 (asQuery (a .query)) (a .triangles .now) (a .order .now) (a .links .now) (a .boxes .now) (a .nodes) (a .distance)) (a .points .now) (a .answers .now) _ _ _ _ _
+    (omega (arith, c .before .before .before .before .before .before .before .before .before .before .before .before .before .before .before .pre .1, c .before .before .before .before .before .before .before .before .point-count .ensures)) (c .before .before .before .before .before .before .loop-test .taken) (c .before .before .before .before .before .before .before .loop .inv)
+    (c .before .before .before .before .answer-at .ensures ∙ ap (answerBy binary32 (asQuery (a .query)) (a .triangles .now) (a .order .now) (a .links .now) (a .boxes .now) (a .nodes) (a .distance)) (c .before .before .before .before .before .point-at .ensures)) (c .before .before .put-answer .ensures)
+
+same-length : tie.Need-same-length Inv-loop μ-loop
+same-length c = c .before .loop .inv .long
+
+returns : tie.Need-returns Inv-loop μ-loop
+returns c = let a = c .before .before .before .before .before .before .before .before .before .args in answered-end binary32 (answerBy binary32 (asQuery (a .query)) (a .triangles .now) (a .order .now) (a .links .now) (a .boxes .now) (a .nodes) (a .distance)) (a .points .now) (a .answers .now) _ _ _ (c .before .before .point-count .ensures) (c .loop-test .left) (c .before .loop .inv)
+
+pub put-answers-spec : {M : Type 1} → statement M
+put-answers-spec =
+    tie.close
+    (tie.spec
+    Inv-loop
+    μ-loop
+    point-count-requires
+    loop-holds
+    mul-point-at
+    point-at-requires
+    answer-at-requires
+    mul-put-answer
+    put-answer-requires
+    add-k
+    loop-less
+    loop-again
+    same-length
+    returns)

@@ -1,0 +1,41 @@
+-- `queries::answer_at` meets its contract: the sure walk's answer is the scan's, the source walk's its own.
+-- Assumes nothing.
+use mathlib.Core.Path.{ap, _∙_}
+use lib.Ieee.{binary32}
+use Rattle.spec_search.specs.Answers.{Answer}
+use Rattle.spec_search.specs.Walk.{Sought}
+use Rattle.spec_search.specs.Sure.{limitOf}
+use Rattle.spec_search.specs.Calls.{sureAnswer, sourceAnswer}
+use Rattle.spec_search.proofs.Sure.{walk-is-scan}
+use borrow.Author.Needs.{needs}
+use Rattle.queries.proofs.query.answer_at.Statement.{statement}
+use Rattle.queries.proofs.query.answer_at.Tie as tie
+
+enum-told : tie.Need-enum-told
+enum-told c = search needs
+
+search-requires : tie.Need-search-requires
+search-requires c κs = search needs
+
+enum-told-2 : tie.Need-enum-told-2
+enum-told-2 c = search needs
+
+search-requires-2 : tie.Need-search-requires-2
+search-requires-2 c κs = search needs
+
+returns : tie.Need-returns
+unfolding sureAnswer limitOf
+returns c =
+    let start = c .before .before .before .before .before .before .before in
+    rw (c .before .enum-told .given .1)
+    (ap (λ (s : Sought Answer). s .best) (c .search .ensures)
+    ∙ walk-is-scan binary32 (start .args .triangles .now) (start .pre .0 .triangles-good) _ (start .pre .1) _ (start .args .order .now) (start .args .links .now) (start .args .boxes .now) (start .args .nodes) (start .pre .0 .tree-accepted))
+
+returns-2 : tie.Need-returns-2
+unfolding sourceAnswer limitOf
+returns-2 c = rw (c .before .enum-told2 .given .1) (ap (λ (s : Sought Answer). s .best) (c .search2 .ensures))
+
+pub answer-at-spec : {M : Type 1} → statement M
+answer-at-spec =
+    tie.close
+    (tie.spec enum-told search-requires enum-told-2 search-requires-2 returns returns-2)

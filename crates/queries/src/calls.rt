@@ -1,0 +1,187 @@
+// The public queries over lists of points.
+ghost use mathlib.Core.Path.{_≡_};
+ghost use Prim.Native.Nat.{_*_, _≤_};
+ghost use lib.ListN.{length};
+ghost use lib.Ieee.{binary32};
+ghost use Rattle.spec_lists.specs.Reading as Reading;
+ghost use Rattle.lists.specs.Values as Verdicts;
+ghost use Rattle.spec_tables.specs.Tables as Tables;
+ghost use Rattle.spec_search.specs.Calls as Calls;
+ghost use Rattle.queries.specs.Values as Values;
+use crate::query::Query;
+use crate::query::answer_at;
+use lists::reading::point_at;
+use lists::tests::distance_refusal;
+use lists::tests::point_count;
+use lists::tests::points_refusal;
+use lists::tests::triangles_refusal;
+use lists::verdict::Verdict;
+use lists::verdict::room_refusal;
+use tree::calls::tree_refusal;
+use walks::words::put_answer;
+
+// The first of the tests 1 to 4, 6, 7, 8 and 9 that refuses.
+fn query_refusal(
+    triangles: &[f32],
+    order: &[u32],
+    links: &[u32],
+    boxes: &[f32],
+    nodes: usize,
+    points: &[f32],
+    distance: f32,
+    room: usize,
+) -> Verdict
+    ensures { λ r. ⌜ Verdicts.asVerdict r ≡ Calls.queryRefusal (now (triangles .entry)) (now (order .entry)) (now (links .entry)) (now (boxes .entry)) nodes (now (points .entry)) distance room ⌝ }
+{
+    let bad_triangles = triangles_refusal(triangles);
+    if bad_triangles.refuses() {
+        return bad_triangles;
+    }
+    let no_room = room_refusal(room / 6, point_count(points));
+    if no_room.refuses() {
+        return no_room;
+    }
+    let bad_tree = tree_refusal(triangles, order, links, boxes, nodes);
+    if bad_tree.refuses() {
+        return bad_tree;
+    }
+    let bad_points = points_refusal(points);
+    if bad_points.refuses() {
+        return bad_points;
+    }
+    distance_refusal(distance)
+}
+
+// The answers at all points, from the front of the list.
+fn put_answers(
+    query: Query,
+    triangles: &[f32],
+    order: &[u32],
+    links: &[u32],
+    boxes: &[f32],
+    nodes: usize,
+    points: &[f32],
+    distance: f32,
+    answers: &mut [u32],
+)
+    requires { ⌜ Calls.Askable (now triangles) (now order) (now links) (now boxes) nodes (now points) ⌝ }
+    requires { ⌜ 6 * Reading.pointCount (now points) ≤ length (now answers) ⌝ }
+    ensures { λ _. ⌜ now (answers .exit) ≡ Tables.over 0 (Calls.answerWords binary32 (Calls.answerBy binary32 (Values.asQuery query) (now (triangles .entry)) (now (order .entry)) (now (links .entry)) (now (boxes .entry)) nodes distance) (now (points .entry))) (now (answers .entry)) ⌝ }
+{
+    let count = point_count(points);
+    let mut k = 0;
+    while k < count {
+        let touched = point_at(points, 3 * k);
+        let answer = answer_at(
+            query,
+            triangles,
+            order,
+            links,
+            boxes,
+            nodes,
+            touched,
+            distance,
+        );
+        put_answer(answers, 6 * k, answer);
+        k += 1;
+    }
+}
+
+// A refusal changes nothing.
+fn ask(
+    query: Query,
+    triangles: &[f32],
+    order: &[u32],
+    links: &[u32],
+    boxes: &[f32],
+    nodes: usize,
+    points: &[f32],
+    distance: f32,
+    answers: &mut [u32],
+) -> Verdict
+    ensures verdict { λ r. ⌜ Verdicts.asVerdict r ≡ Calls.queryRefusal (now (triangles .entry)) (now (order .entry)) (now (links .entry)) (now (boxes .entry)) nodes (now (points .entry)) distance (length (now (answers .entry))) ⌝ }
+    ensures answers { λ r. ⌜ now (answers .exit) ≡ Calls.afterQuery binary32 (Calls.answerBy binary32 (Values.asQuery query) (now (triangles .entry)) (now (order .entry)) (now (links .entry)) (now (boxes .entry)) nodes distance) (now (points .entry)) (Verdicts.asVerdict r) (now (answers .entry)) ⌝ }
+{
+    let verdict = query_refusal(
+        triangles,
+        order,
+        links,
+        boxes,
+        nodes,
+        points,
+        distance,
+        answers.len(),
+    );
+    if verdict.refuses() {
+        return verdict;
+    }
+    put_answers(
+        query,
+        triangles,
+        order,
+        links,
+        boxes,
+        nodes,
+        points,
+        distance,
+        answers,
+    );
+    verdict
+}
+
+// For each point the nearest held surface point within the search distance, the lowest triangle
+// number among equals: what a scan of all triangles finds. Six numbers a point, from the front of
+// `answers`; on a refusal nothing is changed.
+pub fn sure_query(
+    triangles: &[f32],
+    order: &[u32],
+    links: &[u32],
+    boxes: &[f32],
+    nodes: usize,
+    points: &[f32],
+    distance: f32,
+    answers: &mut [u32],
+) -> Verdict
+    ensures verdict { λ r. ⌜ Verdicts.asVerdict r ≡ Calls.queryRefusal (now (triangles .entry)) (now (order .entry)) (now (links .entry)) (now (boxes .entry)) nodes (now (points .entry)) distance (length (now (answers .entry))) ⌝ }
+    ensures answers { λ r. ⌜ now (answers .exit) ≡ Calls.afterQuery binary32 (Calls.sureAnswer binary32 (now (triangles .entry)) distance) (now (points .entry)) (Verdicts.asVerdict r) (now (answers .entry)) ⌝ }
+{
+    ask(
+        Query::Sure,
+        triangles,
+        order,
+        links,
+        boxes,
+        nodes,
+        points,
+        distance,
+        answers,
+    )
+}
+
+// For each point what the Rust's search answers, with its leaf range repaired. Six numbers a point,
+// from the front of `answers`; on a refusal nothing is changed.
+pub fn source_query(
+    triangles: &[f32],
+    order: &[u32],
+    links: &[u32],
+    boxes: &[f32],
+    nodes: usize,
+    points: &[f32],
+    distance: f32,
+    answers: &mut [u32],
+) -> Verdict
+    ensures verdict { λ r. ⌜ Verdicts.asVerdict r ≡ Calls.queryRefusal (now (triangles .entry)) (now (order .entry)) (now (links .entry)) (now (boxes .entry)) nodes (now (points .entry)) distance (length (now (answers .entry))) ⌝ }
+    ensures answers { λ r. ⌜ now (answers .exit) ≡ Calls.afterQuery binary32 (Calls.sourceAnswer binary32 (now (triangles .entry)) (now (order .entry)) (now (links .entry)) (now (boxes .entry)) nodes distance) (now (points .entry)) (Verdicts.asVerdict r) (now (answers .entry)) ⌝ }
+{
+    ask(
+        Query::Source,
+        triangles,
+        order,
+        links,
+        boxes,
+        nodes,
+        points,
+        distance,
+        answers,
+    )
+}

@@ -1,0 +1,51 @@
+// Which of the two queries is asked, and what it answers at one point.
+ghost use mathlib.Core.Path.{_≡_};
+ghost use lib.Ieee.{binary32};
+ghost use Rattle.shapes.specs.Values.{asPoint};
+ghost use Rattle.spec_numbers.specs.Axes.{Finite};
+ghost use Rattle.spec_shapes.specs.Points as Points;
+ghost use Rattle.spec_search.specs.Calls.{Searchable, answerBy};
+ghost use Rattle.walks.specs.Values.{asAnswer};
+ghost use Rattle.queries.specs.Values.{asQuery};
+use shapes::vec3::Vec3;
+use walks::answer::Answer;
+use walks::answer::Asked;
+use walks::sure;
+
+pub enum Query {
+    Sure,
+    Source,
+}
+
+// The answer at one point: the scan's, or the source walk's.
+pub fn answer_at(
+    query: Query,
+    triangles: &[f32],
+    order: &[u32],
+    links: &[u32],
+    boxes: &[f32],
+    nodes: usize,
+    p: Vec3,
+    distance: f32,
+) -> Answer
+    requires { ⌜ Searchable (now triangles) (now order) (now links) (now boxes) nodes ⌝ }
+    requires { ⌜ Finite (Points.at (asPoint p)) ⌝ }
+    ensures { λ r. ⌜ asAnswer r ≡ answerBy binary32 (asQuery query) (now (triangles .entry)) (now (order .entry)) (now (links .entry)) (now (boxes .entry)) nodes distance (asPoint p) ⌝ }
+{
+    let asked = Asked {
+        point: p,
+        limit: distance * distance,
+    };
+    match query {
+        Query::Sure => {
+            let found = sure::search(triangles, order, links, boxes, nodes, asked);
+            let best = found.best;
+            best
+        }
+        Query::Source => {
+            let found = walks::source::search(triangles, order, links, boxes, nodes, asked);
+            let best = found.best;
+            best
+        }
+    }
+}

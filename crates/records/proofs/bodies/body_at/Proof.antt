@@ -1,0 +1,54 @@
+-- `records::body_at` meets its contract: each test is one of those of `isRecord`.
+-- Assumes nothing.
+use mathlib.Core.Path.{sym, _∙_}
+use native.Mathlib.Omega.{arith}
+use denote.Ref.{now}
+use Rattle.spec_records.proofs.Records.{record-there, record-past, record-other}
+use borrow.Author.Needs.{needs}
+use Rattle.records.proofs.bodies.body_at.Statement.{statement}
+use Rattle.records.proofs.bodies.body_at.Tie as tie
+
+returns : tie.Need-returns
+returns c = rw (record-past (c .before .before .args .kind) (now (c .before .before .args .bytes)) (c .before .before .args .at) (omega arith))
+
+sub-last : tie.Need-sub-last
+sub-last c = search needs
+
+returns-2 : tie.Need-returns-2
+returns-2 c = rw (record-past (c .before .before .before .args .kind) (now (c .before .before .before .args .bytes)) (c .before .before .before .args .at) (omega arith))
+
+u32-at-requires : tie.Need-u32-at-requires
+u32-at-requires c κs = search needs
+
+cast-size : tie.Need-cast-size
+cast-size c = search needs
+
+returns-3 : tie.Need-returns-3
+returns-3 c = rw (record-past (c .before .before .before .before .before .args .kind) (now (c .before .before .before .before .before .args .bytes)) (c .before .before .before .before .before .args .at) (omega (arith, c .before .«u32-at» .ensures)))
+
+add-u16-at : tie.Need-add-u16-at
+add-u16-at c = search needs
+
+u16-at-requires : tie.Need-u16-at-requires
+u16-at-requires c κs = search needs
+
+returns-4 : tie.Need-returns-4
+returns-4 c = rw (record-other (c .before .before .before .before .before .before .before .args .kind) (now (c .before .before .before .before .before .before .before .args .bytes)) (c .before .before .before .before .before .before .before .args .at) (λ e. c .if4 .taken (c .before .«u16-at» .ensures .0 ∙ e)))
+
+returns-5 : tie.Need-returns-5
+returns-5 c = rw (record-there (c .before .before .before .before .before .before .before .args .kind) (now (c .before .before .before .before .before .before .before .args .bytes)) (c .before .before .before .before .before .before .before .args .at) (omega (arith, c .before .before .before .«u32-at» .ensures)) (sym (c .before .«u16-at» .ensures .0) ∙ c .if4 .left), ← c .before .before .before .«u32-at» .ensures)
+
+pub body-at-spec : {M : Type 1} → statement M
+body-at-spec =
+    tie.close
+    (tie.spec
+    returns
+    sub-last
+    returns-2
+    u32-at-requires
+    cast-size
+    returns-3
+    add-u16-at
+    u16-at-requires
+    returns-4
+    returns-5)

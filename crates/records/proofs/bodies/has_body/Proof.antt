@@ -1,0 +1,34 @@
+-- `records::has_body` meets its contract: of a record that is there its size decides.
+-- Assumes nothing.
+use mathlib.Core.Path.{sym}
+use denote.Ref.{now}
+use Rattle.spec_records.specs.Records.{exactly}
+use Rattle.spec_records.proofs.Records.{none-there}
+use Rattle.spec_records.proofs.Layouts.{exactly-decides}
+use Rattle.records.proofs.Answers.{is-there, is-missing}
+use borrow.Author.Needs.{needs}
+use Rattle.records.proofs.bodies.has_body.Statement.{statement}
+use Rattle.records.proofs.bodies.has_body.Tie as tie
+
+body-at-requires : tie.Need-body-at-requires
+body-at-requires c κs = search needs
+
+enum-known-size : tie.Need-enum-known-size
+enum-known-size c = search needs
+
+enum-told : tie.Need-enum-told
+enum-told c = search needs
+
+returns : tie.Need-returns
+returns c =
+    let a = c .before .before .before .before .args in
+    sym (none-there (a .kind) (exactly (a .wanted)) (now (a .bytes)) (a .at) (is-missing (a .kind) (now (a .bytes)) (a .at) (c .before .before .«body-at» .ensures) (c .«enum-told» .given .1)))
+
+returns-2 : tie.Need-returns-2
+returns-2 c =
+    let a = c .before .before .before .before .before .args in
+    let there = is-there (a .kind) (now (a .bytes)) (a .at) (c .before .before .before .«body-at» .ensures) (c .before .size .given .1) in
+    sym (exactly-decides (a .kind) (now (a .bytes)) (a .at) _ (there .0) (there .1) (a .wanted))
+
+pub has-body-spec : {M : Type 1} → statement M
+has-body-spec = tie.close (tie.spec body-at-requires enum-known-size enum-told returns returns-2)

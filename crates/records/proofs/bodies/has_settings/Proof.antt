@@ -1,0 +1,28 @@
+-- `records::has_settings` meets its contract: of settings of the right size the version decides.
+-- Assumes nothing.
+use mathlib.Core.Path.{sym, ap, _∙_}
+use Prim.Native.Nat.{ℕ}
+use native.Mathlib.Omega.{arith}
+use lib.Dec.{eqb}
+use denote.Ref.{now}
+use Rattle.spec_records.specs.Layouts.{version1}
+use Rattle.spec_records.proofs.Records.{right-within}
+use Rattle.spec_records.proofs.Layouts.{exactly-right, settings-missing, version-decides}
+use borrow.Author.Needs.{needs}
+use Rattle.records.proofs.bodies.has_settings.Statement.{statement}
+use Rattle.records.proofs.bodies.has_settings.Tie as tie
+
+has-body-requires : tie.Need-has-body-requires
+has-body-requires c κs = search needs
+
+u16-at-requires : tie.Need-u16-at-requires
+u16-at-requires c κs = omega (arith, right-within (exactly-right 1 8 (now (c .before .before .before .args .bytes)) 0 (sym (c .before .«has-body» .ensures) ∙ c .if1 .taken)))
+
+returns : tie.Need-returns
+returns c = ap (λ (n : ℕ). eqb n 1) (c .«u16-at» .ensures .0) ∙ sym (version-decides version1 (now (c .before .before .before .before .args .bytes)) (sym (c .before .before .«has-body» .ensures) ∙ c .before .if1 .taken))
+
+returns-2 : tie.Need-returns-2
+returns-2 c = sym (settings-missing version1 (now (c .before .before .before .args .bytes)) (sym (c .before .«has-body» .ensures) ∙ c .if1 .left))
+
+pub has-settings-spec : {M : Type 1} → statement M
+has-settings-spec = tie.close (tie.spec has-body-requires u16-at-requires returns returns-2)

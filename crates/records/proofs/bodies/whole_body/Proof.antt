@@ -1,0 +1,48 @@
+-- `records::whole_body` meets its contract: of a record that is there its size decides.
+-- Assumes nothing.
+use Prim.Native.Nat.{_%_}
+use borrow.Author.Tests.{eq-eqb, ne-eqb}
+use denote.Ref.{now}
+use Rattle.spec_records.specs.Records.{whole}
+use Rattle.spec_records.proofs.Records.{none-there}
+use Rattle.spec_records.proofs.Layouts.{whole-decides}
+use Rattle.records.proofs.Answers.{is-there, is-missing}
+use borrow.Author.Needs.{needs}
+use Rattle.records.proofs.bodies.whole_body.Statement.{statement}
+use Rattle.records.proofs.bodies.whole_body.Tie as tie
+
+body-at-requires : tie.Need-body-at-requires
+body-at-requires c κs = search needs
+
+enum-known-size : tie.Need-enum-known-size
+enum-known-size c = search needs
+
+enum-told : tie.Need-enum-told
+enum-told c = search needs
+
+returns : tie.Need-returns
+returns c =
+    let a = c .before .before .before .before .args in
+    rw (none-there (a .kind) (whole (a .entry)) (now (a .bytes)) (a .at) (is-missing (a .kind) (now (a .bytes)) (a .at) (c .before .before .«body-at» .ensures) (c .«enum-told» .given .1)))
+
+rem-if1 : tie.Need-rem-if1
+rem-if1 c = search needs
+
+returns-2 : tie.Need-returns-2
+returns-2 c =
+    let a = c .before .before .before .before .before .before .args in
+    let size = c .before .before .size .given .0 .0 in
+    let there = is-there (a .kind) (now (a .bytes)) (a .at) (c .before .before .before .before .«body-at» .ensures) (c .before .before .size .given .1) in
+    rw (whole-decides (a .kind) (now (a .bytes)) (a .at) size (there .0) (there .1) (a .entry), ne-eqb (size % a .entry) 0 (c .if1 .taken))
+
+returns-3 : tie.Need-returns-3
+returns-3 c =
+    let a = c .before .before .before .before .before .before .args in
+    let size = c .before .before .size .given .0 .0 in
+    let there = is-there (a .kind) (now (a .bytes)) (a .at) (c .before .before .before .before .«body-at» .ensures) (c .before .before .size .given .1) in
+    rw (whole-decides (a .kind) (now (a .bytes)) (a .at) size (there .0) (there .1) (a .entry), eq-eqb (size % a .entry) 0 (c .if1 .left), there .1)
+
+pub whole-body-spec : {M : Type 1} → statement M
+whole-body-spec =
+    tie.close
+    (tie.spec body-at-requires enum-known-size enum-told returns rem-if1 returns-2 returns-3)

@@ -1,0 +1,80 @@
+-- `records::put_u16s` meets its contract: a turn puts one entry more (`Puts`).
+-- Assumes nothing.
+use mathlib.Core.Path.{ap}
+use mathlib.Core.List.{List}
+use Prim.Native.Nat.{ℕ, _+_, _-_}
+use lib.ListN.{getD}
+use denote.Ref.{now}
+use Rattle.spec_tables.proofs.Tables.{put-same}
+use Rattle.spec_tables.proofs.Runs.{Puts, puts-start, puts-more, puts-end}
+use Rattle.spec_records.specs.Little.{little}
+use borrow.Author.Needs.{needs}
+use Rattle.records.proofs.entries.put_u16s.Statement.{statement}
+use Rattle.records.proofs.entries.put_u16s.Tie as tie
+
+abbrev piece : List ℕ → ℕ → ℕ → List ℕ
+piece entries from j = little 2 (getD entries (from + j) 0)
+
+abbrev Inv-loop : tie.InvT-loop
+Inv-loop entries from count out₀ at next₀ i₀ out next i = Puts (piece entries from) 2 at count out₀ out next i
+
+abbrev μ-loop : tie.MeasureT-loop
+μ-loop entries from count out₀ at next₀ i₀ out next i = count - i
+
+loop-holds : tie.Need-loop-holds Inv-loop μ-loop
+loop-holds c =
+    let a = c .before .before .args in
+    puts-start (piece (now (a .entries)) (a .from)) 2 (a .at) (a .count) (now (a .out)) (c .before .before .pre .1)
+
+add-whole : tie.Need-add-whole Inv-loop μ-loop
+add-whole c = search needs
+
+mul-whole : tie.Need-mul-whole Inv-loop μ-loop
+mul-whole c = search needs
+
+shared-slice-read-whole : tie.Need-shared-slice-read-whole Inv-loop μ-loop
+shared-slice-read-whole c = search needs
+
+whole-requires : tie.Need-whole-requires Inv-loop μ-loop
+whole-requires c κs = search needs
+
+put-u16-requires : tie.Need-put-u16-requires Inv-loop μ-loop
+put-u16-requires c κs = search needs
+
+add-i : tie.Need-add-i Inv-loop μ-loop
+add-i c = search needs
+
+loop-less : tie.Need-loop-less Inv-loop μ-loop
+loop-less c = search needs
+
+loop-again : tie.Need-loop-again Inv-loop μ-loop
+loop-again c =
+    let a = c .before .before .before .before .before .before .before .before .before .before .args in
+    puts-more (piece (now (a .entries)) (a .from)) 2 (a .at) (a .count) (c .before .before .before .before .before .before .«loop-test» .taken) (c .before .before .before .before .before .before .before .loop .inv)
+    (put-same (ap (little 2) (c .before .before .before .whole .ensures)) (c .before .before .«put-u16» .ensures .0)) (c .before .before .«put-u16» .ensures .1)
+
+same-length : tie.Need-same-length Inv-loop μ-loop
+same-length c = c .before .loop .inv .long
+
+returns : tie.Need-returns Inv-loop μ-loop
+returns c =
+    let a = c .before .before .before .before .args in
+    puts-end (piece (now (a .entries)) (a .from)) 2 (a .at) (a .count) (c .«loop-test» .left) (c .before .loop .inv)
+
+pub put-u16s-spec : {M : Type 1} → statement M
+put-u16s-spec =
+    tie.close
+    (tie.spec
+    Inv-loop
+    μ-loop
+    loop-holds
+    add-whole
+    mul-whole
+    shared-slice-read-whole
+    whole-requires
+    put-u16-requires
+    add-i
+    loop-less
+    loop-again
+    same-length
+    returns)

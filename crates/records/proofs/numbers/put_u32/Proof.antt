@@ -1,0 +1,22 @@
+-- `records::put_u32` meets its contract: two bytes, and two behind them.
+-- Assumes nothing.
+use native.Mathlib.Omega.{arith}
+use Rattle.spec_records.proofs.Little.{four-put}
+use borrow.Author.Needs.{needs}
+use Rattle.records.proofs.numbers.put_u32.Statement.{statement}
+use Rattle.records.proofs.numbers.put_u32.Tie as tie
+
+put-u16-requires : tie.Need-put-u16-requires
+put-u16-requires c κs = search needs
+
+put-u16-requires-2 : tie.Need-put-u16-requires-2
+put-u16-requires-2 c κs = search needs
+
+same-length : tie.Need-same-length
+same-length c = search needs
+
+returns : tie.Need-returns
+returns c = (four-put (c .before .before .before .before .before .before .before .before .before .args .n) (c .before .before .before .before .before .before .«put-u16» .ensures .0) (c .before .before .«put-u162» .ensures .0), omega (arith, c .before .before .before .before .before .before .«put-u16» .ensures .1, c .before .before .«put-u162» .ensures .1))
+
+pub put-u32-spec : {M : Type 1} → statement M
+put-u32-spec = tie.close (tie.spec put-u16-requires put-u16-requires-2 same-length returns)

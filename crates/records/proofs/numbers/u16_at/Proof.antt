@@ -1,0 +1,51 @@
+-- `records::u16_at` meets its contract: the two bytes, the upper one times 256.
+-- Assumes nothing.
+use native.Mathlib.Omega.{arith}
+use mathlib.Core.Path.{_≡_}
+use denote.Ref.{now}
+use lib.ListN.{getD}
+use Prim.Native.Nat.{_+_, _*_}
+use Rattle.spec_records.proofs.Little.{two-at}
+use borrow.Author.Needs.{needs}
+use Rattle.records.proofs.numbers.u16_at.Statement.{statement}
+use Rattle.records.proofs.numbers.u16_at.Tie as tie
+
+shared-slice-read-wide : tie.Need-shared-slice-read-wide
+shared-slice-read-wide c = search needs
+
+wide-requires : tie.Need-wide-requires
+wide-requires c κs = search needs
+
+add-wide : tie.Need-add-wide
+add-wide c = search needs
+
+shared-slice-read-wide-2 : tie.Need-shared-slice-read-wide-2
+shared-slice-read-wide-2 c = search needs
+
+wide-requires-2 : tie.Need-wide-requires-2
+wide-requires-2 c κs = search needs
+
+mul-result : tie.Need-mul-result
+mul-result c = omega (arith, c .wide2 .ensures, c .before .«shared-slice-known3» .given (c .before .before .before .before .before .args .at + 1))
+
+add-result : tie.Need-add-result
+add-result c = omega (arith, c .wide2 .ensures, c .before .before .wide .ensures, c .before .«shared-slice-known3» .given (c .before .before .before .before .before .args .at + 1), c .before .before .before .before .«shared-slice-known» .given (c .before .before .before .before .before .args .at))
+
+returns : tie.Need-returns
+returns c =
+    let a = c .before .before .before .before .before .args in
+    let v : c .before .before .wide .result + 256 * c .wide2 .result ≡ getD (now (a .bytes)) (a .at) 0 + 256 * getD (now (a .bytes)) (a .at + 1) 0 = omega (arith, c .wide2 .ensures, c .before .before .wide .ensures) in
+    (omega (arith, two-at (now (a .bytes)) (a .at) (c .before .before .before .before .before .pre)), omega (arith, v, c .before .«shared-slice-known3» .given (a .at + 1), c .before .before .before .before .«shared-slice-known» .given (a .at)))
+
+pub u16-at-spec : {M : Type 1} → statement M
+u16-at-spec =
+    tie.close
+    (tie.spec
+    shared-slice-read-wide
+    wide-requires
+    add-wide
+    shared-slice-read-wide-2
+    wide-requires-2
+    mul-result
+    add-result
+    returns)

@@ -1,0 +1,70 @@
+// One record: whether it stands at a place as it is wanted there. Each contract is an equation with a
+// definition of `spec_records`.
+ghost use mathlib.Core.Path.{_≡_};
+ghost use Prim.Native.Nat.{_<_};
+ghost use Rattle.spec_records.specs.Records.{exactly, whole, sizeAt, isRecord, isRight};
+ghost use Rattle.spec_records.specs.Layouts.{version1, settingsRight};
+ghost use Rattle.records.specs.Values.{bodyIf};
+use crate::numbers::u16_at;
+use crate::numbers::u32_at;
+
+// The size of the body, where the record is right.
+pub enum Body {
+    Right(usize),
+    Wrong,
+}
+
+// A record of this kind, whole.
+pub fn body_at(bytes: &[u8], at: usize, kind: u32) -> Body
+    ensures { λ r. ⌜ r ≡ bodyIf (isRecord kind (now (bytes .entry)) at) (sizeAt (now (bytes .entry)) at) ⌝ }
+{
+    if bytes.len() < 6 {
+        return Body::Wrong;
+    }
+    let last = bytes.len() - 6;
+    if last < at {
+        return Body::Wrong;
+    }
+    let size = u32_at(bytes, at) as usize;
+    if last - at < size {
+        return Body::Wrong;
+    }
+    if u16_at(bytes, at + 4) != kind {
+        return Body::Wrong;
+    }
+    Body::Right(size)
+}
+
+// Its body holds whole entries of this size.
+pub fn whole_body(bytes: &[u8], at: usize, kind: u32, entry: usize) -> Body
+    requires { ⌜ 0 < entry ⌝ }
+    ensures { λ r. ⌜ r ≡ bodyIf (isRight kind (whole entry) (now (bytes .entry)) at) (sizeAt (now (bytes .entry)) at) ⌝ }
+{
+    let Body::Right(size) = body_at(bytes, at, kind) else {
+        return Body::Wrong;
+    };
+    if size % entry != 0 {
+        return Body::Wrong;
+    }
+    Body::Right(size)
+}
+
+// Whether its body has exactly this size.
+pub fn has_body(bytes: &[u8], at: usize, kind: u32, wanted: usize) -> bool
+    ensures { λ r. ⌜ r ≡ isRight kind (exactly wanted) (now (bytes .entry)) at ⌝ }
+{
+    let Body::Right(size) = body_at(bytes, at, kind) else {
+        return false;
+    };
+    size == wanted
+}
+
+// Whether record 1 stands at the front, of version 1.
+pub fn has_settings(bytes: &[u8]) -> bool
+    ensures { λ r. ⌜ r ≡ isRight 1 (settingsRight version1) (now (bytes .entry)) 0 ⌝ }
+{
+    if has_body(bytes, 0, 1, 8) {
+        return u16_at(bytes, 6) == 1;
+    }
+    false
+}

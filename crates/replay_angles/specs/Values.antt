@@ -1,6 +1,0 @@
--- The program's values as the definitions' own. Definitions only.
-use Rattle.replay_angles.specs.Cases.{Compared}
-use Rattle.replay_angles.specs.declared.cases.Case.{Case}
-
-abbrev pub asCompared : Case → Compared
-asCompared c = record { right = c .right; ours = c .ours; theirs = c .theirs }

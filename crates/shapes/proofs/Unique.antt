@@ -1,0 +1,72 @@
+-- No two shapes of the program stand for the same shape of the definitions.
+use mathlib.Core.Path.{_≡_, ap, refl, sym, _∙_}
+use Rattle.spec_shapes.specs.Points.{Point}
+use Rattle.shapes.specs.declared.vec3.Vec3.{Vec3}
+use Rattle.shapes.specs.Values.{asPoint, asBox, asTriangle, asDots, asPart, asMeasured, asPlane}
+use Rattle.spec_shapes.specs.Boxes.{Box}
+use Rattle.shapes.specs.declared.box3.Box3.{Box3}
+use Rattle.spec_shapes.specs.Triangles as Triangles
+use Rattle.shapes.specs.declared.triangle3.Triangle3.{Triangle3}
+use Rattle.shapes.specs.declared.triangle3.Dots.{Dots}
+use Rattle.shapes.specs.declared.triangle3.Measured.{Measured}
+use Rattle.shapes.specs.declared.triangle3.Part.{Part}
+use Rattle.shapes.specs.declared.triangle3.Part.the-variants.{Face, CornerA, CornerB, CornerC, EdgeAB, EdgeAC, EdgeBC}
+use Rattle.spec_shapes.specs.Planes.{Plane}
+use Rattle.shapes.specs.declared.plane3.Plane3.{Plane3}
+
+abbrev pub backPoint : Point → Vec3
+backPoint p = record { x = p .x; y = p .y; z = p .z }
+
+pub point-unique : (a b : Vec3) → asPoint a ≡ asPoint b → a ≡ b
+point-unique a b e = ap backPoint e
+
+abbrev pub backBox : Box → Box3
+backBox b = record { min = backPoint (b .min); max = backPoint (b .max) }
+
+pub box-unique : (a b : Box3) → asBox a ≡ asBox b → a ≡ b
+box-unique a b e = ap backBox e
+
+abbrev backTriangle : Triangles.Triangle → Triangle3
+backTriangle t = record { a = backPoint (t .a); b = backPoint (t .b); c = backPoint (t .c) }
+
+pub triangle-unique : (a b : Triangle3) → asTriangle a ≡ asTriangle b → a ≡ b
+triangle-unique a b e = ap backTriangle e
+
+abbrev backDots : Triangles.Dots → Dots
+backDots d = record { d1 = d .d1; d2 = d .d2; d3 = d .d3; d4 = d .d4; d5 = d .d5; d6 = d .d6 }
+
+pub dots-unique : (a b : Dots) → asDots a ≡ asDots b → a ≡ b
+dots-unique a b e = ap backDots e
+
+abbrev backPart : Triangles.Part → Part
+backPart Triangles.face = Face
+backPart Triangles.cornerA = CornerA
+backPart Triangles.cornerB = CornerB
+backPart Triangles.cornerC = CornerC
+backPart Triangles.edgeAB = EdgeAB
+backPart Triangles.edgeAC = EdgeAC
+backPart Triangles.edgeBC = EdgeBC
+
+part-is : (a : Part) → backPart (asPart a) ≡ a
+part-is Face = refl
+part-is CornerA = refl
+part-is CornerB = refl
+part-is CornerC = refl
+part-is EdgeAB = refl
+part-is EdgeAC = refl
+part-is EdgeBC = refl
+
+pub part-unique : (a b : Part) → asPart a ≡ asPart b → a ≡ b
+part-unique a b e = sym (part-is a) ∙ ap backPart e ∙ part-is b
+
+abbrev backMeasured : Triangles.Measured → Measured
+backMeasured m = record { point = backPoint (m .point); squared = m .squared }
+
+pub measured-unique : (a b : Measured) → asMeasured a ≡ asMeasured b → a ≡ b
+measured-unique a b e = ap backMeasured e
+
+abbrev backPlane : Plane → Plane3
+backPlane p = record { normal = backPoint (p .normal); distance = p .distance }
+
+pub plane-unique : (a b : Plane3) → asPlane a ≡ asPlane b → a ≡ b
+plane-unique a b e = ap backPlane e

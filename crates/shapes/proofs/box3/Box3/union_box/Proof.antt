@@ -1,0 +1,19 @@
+-- `shapes::Box3::union_box` meets its contract: what `smallest` and `largest` ensure.
+-- Assumes nothing.
+use Rattle.spec_shapes.specs.Boxes.{union}
+use borrow.Author.Needs.{needs}
+use Rattle.shapes.proofs.box3.Box3.union_box.Statement.{statement}
+use Rattle.shapes.proofs.box3.Box3.union_box.Tie as tie
+
+smallest-requires : tie.Need-smallest-requires
+smallest-requires c κs = search needs
+
+largest-requires : tie.Need-largest-requires
+largest-requires c κs = search needs
+
+returns : tie.Need-returns
+unfolding union
+returns c = λ i. record { min = c .before .smallest .ensures i; max = c .largest .ensures i }
+
+pub union-box-spec : {M : Type 1} → statement M
+union-box-spec = tie.close (tie.spec smallest-requires largest-requires returns)

@@ -1,0 +1,23 @@
+-- `shapes::reach_of` meets its contract: what `absolute` ensures, on each axis.
+-- Assumes nothing.
+use Rattle.spec_shapes.specs.Planes.{reach}
+use borrow.Author.Needs.{needs}
+use Rattle.shapes.proofs.plane3.reach_of.Statement.{statement}
+use Rattle.shapes.proofs.plane3.reach_of.Tie as tie
+
+absolute-requires : tie.Need-absolute-requires
+absolute-requires c κs = search needs
+
+absolute-requires-2 : tie.Need-absolute-requires-2
+absolute-requires-2 c κs = search needs
+
+absolute-requires-3 : tie.Need-absolute-requires-3
+absolute-requires-3 c κs = search needs
+
+returns : tie.Need-returns
+unfolding reach
+returns c = rw (c .before .before .before .before .before .absolute .ensures, c .before .before .before .absolute2 .ensures, c .before .absolute3 .ensures)
+
+pub reach-of-spec : {M : Type 1} → statement M
+reach-of-spec =
+    tie.close (tie.spec absolute-requires absolute-requires-2 absolute-requires-3 returns)

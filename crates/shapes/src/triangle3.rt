@@ -1,0 +1,198 @@
+// A triangle, its box, its closest point to a point, and the sure query's held point. Each contract is
+// an equation with a definition of `spec_shapes`.
+ghost use mathlib.Core.Path.{_≡_};
+ghost use lib.Ieee.{binary32};
+ghost use Rattle.spec_shapes.specs.Triangles as Triangles;
+ghost use Rattle.shapes.specs.Values as Values;
+use crate::box3::Box3;
+use crate::vec3::Vec3;
+
+pub struct Triangle3 {
+    pub a: Vec3,
+    pub b: Vec3,
+    pub c: Vec3,
+}
+
+// The part of a triangle that is closest: the test that answered.
+pub enum Part {
+    Face,
+    CornerA,
+    CornerB,
+    CornerC,
+    EdgeAB,
+    EdgeAC,
+    EdgeBC,
+}
+
+// What the tests look at: the edges ab and ac, each with the point seen from a, from b and from c.
+pub struct Dots {
+    pub d1: f32,
+    pub d2: f32,
+    pub d3: f32,
+    pub d4: f32,
+    pub d5: f32,
+    pub d6: f32,
+}
+
+// The sure query's point of a triangle, and its squared distance.
+pub struct Measured {
+    pub point: Vec3,
+    pub squared: f32,
+}
+
+// ab - cd
+fn crossed(a: f32, b: f32, c: f32, d: f32) -> f32
+    ensures { λ r. ⌜ r ≡ Triangles.crossed binary32 a b c d ⌝ }
+{
+    a * b - c * d
+}
+
+// start + edge * s
+fn along(start: Vec3, edge: Vec3, s: f32) -> Vec3
+    ensures { λ r. ⌜ Values.asPoint r ≡ Triangles.along binary32 (Values.asPoint start) (Values.asPoint edge) s ⌝ }
+{
+    start.plus(edge.scale(s))
+}
+
+impl Dots {
+    fn va(self) -> f32
+        ensures { λ r. ⌜ r ≡ Triangles.va binary32 (Values.asDots self) ⌝ }
+    {
+        crossed(self.d3, self.d6, self.d5, self.d4)
+    }
+
+    fn vb(self) -> f32
+        ensures { λ r. ⌜ r ≡ Triangles.vb binary32 (Values.asDots self) ⌝ }
+    {
+        crossed(self.d5, self.d2, self.d1, self.d6)
+    }
+
+    fn vc(self) -> f32
+        ensures { λ r. ⌜ r ≡ Triangles.vc binary32 (Values.asDots self) ⌝ }
+    {
+        crossed(self.d1, self.d4, self.d3, self.d2)
+    }
+
+    // The first of the source's tests that answers.
+    pub fn part(self) -> Part
+        ensures { λ r. ⌜ Values.asPart r ≡ Triangles.part binary32 (Values.asDots self) ⌝ }
+    {
+        if (self.d1 <= 0.0) & (self.d2 <= 0.0) {
+            return Part::CornerA;
+        }
+        if (self.d3 >= 0.0) & (self.d4 <= self.d3) {
+            return Part::CornerB;
+        }
+        if (self.vc() <= 0.0) & (self.d1 >= 0.0) & (self.d3 <= 0.0) {
+            return Part::EdgeAB;
+        }
+        if (self.d6 >= 0.0) & (self.d5 <= self.d6) {
+            return Part::CornerC;
+        }
+        if (self.vb() <= 0.0) & (self.d2 >= 0.0) & (self.d6 <= 0.0) {
+            return Part::EdgeAC;
+        }
+        if (self.va() <= 0.0) & (self.d4 - self.d3 >= 0.0) & (self.d5 - self.d6 >= 0.0) {
+            return Part::EdgeBC;
+        }
+        Part::Face
+    }
+}
+
+impl Triangle3 {
+    pub fn bbox(self) -> Box3
+        ensures { λ r. ⌜ Values.asBox r ≡ Triangles.boxOf (Values.asTriangle self) ⌝ }
+    {
+        Box3 {
+            min: self.c.smallest(self.a.smallest(self.b)),
+            max: self.c.largest(self.a.largest(self.b)),
+        }
+    }
+
+    pub fn dots(self, p: Vec3) -> Dots
+        ensures { λ r. ⌜ Values.asDots r ≡ Triangles.dots binary32 (Values.asTriangle self) (Values.asPoint p) ⌝ }
+    {
+        let ab = self.b.minus(self.a);
+        let ac = self.c.minus(self.a);
+        let ap = p.minus(self.a);
+        let bp = p.minus(self.b);
+        let cp = p.minus(self.c);
+        Dots {
+            d1: ab.dot(ap),
+            d2: ac.dot(ap),
+            d3: ab.dot(bp),
+            d4: ac.dot(bp),
+            d5: ab.dot(cp),
+            d6: ac.dot(cp),
+        }
+    }
+
+    fn point_in_face(self, d: Dots) -> Vec3
+        ensures { λ r. ⌜ Values.asPoint r ≡ Triangles.facePoint binary32 (Values.asTriangle self) (Values.asDots d) ⌝ }
+    {
+        let vb = d.vb();
+        let vc = d.vc();
+        let denom = 1.0 / (d.va() + vb + vc);
+        let on_ab = along(self.a, self.b.minus(self.a), vb * denom);
+        along(on_ab, self.c.minus(self.a), vc * denom)
+    }
+
+    // The point of a part of the triangle.
+    pub fn point_on(self, d: Dots, part: Part) -> Vec3
+        ensures { λ r. ⌜ Values.asPoint r ≡ Triangles.pointOn binary32 (Values.asTriangle self) (Values.asDots d) (Values.asPart part) ⌝ }
+    {
+        match part {
+            Part::Face => self.point_in_face(d),
+            Part::CornerA => self.a,
+            Part::CornerB => self.b,
+            Part::CornerC => self.c,
+            Part::EdgeAB => along(self.a, self.b.minus(self.a), d.d1 / (d.d1 - d.d3)),
+            Part::EdgeAC => along(self.a, self.c.minus(self.a), d.d2 / (d.d2 - d.d6)),
+            Part::EdgeBC => {
+                let to_b = d.d4 - d.d3;
+                let to_c = d.d5 - d.d6;
+                along(self.b, self.c.minus(self.b), to_b / (to_b + to_c))
+            }
+        }
+    }
+
+    // The source's closest point.
+    pub fn closest_point(self, p: Vec3) -> Vec3
+        ensures { λ r. ⌜ Values.asPoint r ≡ Triangles.closestPoint binary32 (Values.asTriangle self) (Values.asPoint p) ⌝ }
+    {
+        let d = self.dots(p);
+        self.point_on(d, d.part())
+    }
+
+    // q, or corner a where q is not finite, held into the triangle's box, zeros plus zero.
+    pub fn held(self, q: Vec3) -> Vec3
+        ensures { λ r. ⌜ Values.asPoint r ≡ Triangles.heldFrom (Values.asTriangle self) (Values.asPoint q) ⌝ }
+    {
+        self.bbox().hold(finite_or(self.a, q)).plus_zero()
+    }
+
+    // The sure query's point: the closest point, held.
+    pub fn held_point(self, p: Vec3) -> Vec3
+        ensures { λ r. ⌜ Values.asPoint r ≡ Triangles.heldPoint binary32 (Values.asTriangle self) (Values.asPoint p) ⌝ }
+    {
+        self.held(self.closest_point(p))
+    }
+
+    // That point, and its squared distance to p.
+    pub fn measure(self, p: Vec3) -> Measured
+        ensures { λ r. ⌜ Values.asMeasured r ≡ Triangles.measured binary32 (Values.asTriangle self) (Values.asPoint p) ⌝ }
+    {
+        let point = self.held_point(p);
+        Measured {
+            point,
+            squared: point.squared_distance(p),
+        }
+    }
+}
+
+// q, or a where a coordinate of q is not finite.
+fn finite_or(a: Vec3, q: Vec3) -> Vec3
+    ensures { λ r. ⌜ Values.asPoint r ≡ Triangles.finiteOr (Values.asPoint a) (Values.asPoint q) ⌝ }
+{
+    if q.is_finite() { q } else { a }
+}

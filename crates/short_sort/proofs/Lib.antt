@@ -1,5 +1,0 @@
-pub mod Ordering
-pub mod Parts
-mod Inserting
-pub mod Standing
-pub mod Sides

@@ -1,5 +1,0 @@
-pub mod PointBytes
-pub mod Asked
-pub mod Loaded
-pub mod Told
-pub mod Laws

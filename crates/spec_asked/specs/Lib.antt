@@ -1,3 +1,0 @@
-pub mod PointBytes
-pub mod Asked
-pub mod Loading

@@ -1,0 +1,82 @@
+-- A call asks the image that was written as a list call asks the lists that it was written from, and what it tells is read back. Assumes nothing.
+use mathlib.Core.Path.{_≡_, refl, sym, ap, _∙_}
+use mathlib.Core.Bool.{true}
+use mathlib.Core.List.{List, _∷_}
+use Prim.Native.Nat.{ℕ, _/_, _%_, _^_, _<_}
+use native.Mathlib.Omega.{arith}
+use borrow.Author.Tests.{eq-eqb}
+use lib.Dec.{eqb}
+use lib.ListN.{length}
+use lib.Ieee.{Float}
+use Rattle.spec_records.specs.Little.{Bytes}
+use Rattle.spec_records.specs.Records.{bodies, laidOut}
+use Rattle.spec_records.specs.Layouts.{version1, imageWants, imageSpans}
+use Rattle.spec_image.specs.Image.{Image, imageBytes}
+use Rattle.spec_image.specs.Stored.{Storable, used}
+use Rattle.spec_image.proofs.Written.{written-laid, written-read}
+use Rattle.spec_lists.specs.Refusals.{Verdict, passes, refused, firstRefusal, trianglesRefusal, settingsRefusal, pointsRefusal}
+use Rattle.spec_search.specs.Calls.{queryRefusal}
+use Rattle.spec_angles.specs.Windings.{windingRefusal}
+use Rattle.spec_host.specs.Told.{told, Heard}
+use Rattle.spec_host.proofs.Told.{told-heard}
+use Rattle.spec_host.specs.Build.{numbersOf}
+use Rattle.spec_host.proofs.Build.{numbers-long}
+use Rattle.spec_host.specs.PointBytes.{pointBytesRefusal}
+use Rattle.spec_host.specs.Requests.{contents, checkedRefusal, askedRefusal, woundRefusal, checkVerdict, queryVerdict, windingVerdict}
+use Rattle.spec_host.proofs.PointBytes.{points-count}
+use Rattle.spec_host.proofs.Requests.{contents-are, inner-decides}
+use Rattle.spec_host.proofs.RequestsTold.{query-told, winding-told}
+
+-- ---- an image that was written
+module _ (x : Image) (ok : Storable version1 x) where
+  abbrev written : List ℕ
+  written = imageBytes version1 x
+
+  laid : laidOut (imageWants version1) written 0 ≡ bodies (imageSpans version1 (length (x .order)) (x .nodes))
+  laid = written-laid version1 x ok
+
+  pub written-contents : contents written ≡ used x
+  written-contents = contents-are written (length (x .order)) (x .nodes) laid ∙ written-read version1 x ok
+
+  pub written-checked : checkVerdict written ≡ checkedRefusal (used x)
+  unfolding checkVerdict
+  written-checked = sym (inner-decides written (length (x .order)) (x .nodes) laid checkedRefusal (checkedRefusal (used x)) (ap checkedRefusal (sym (written-read version1 x ok))))
+
+  pub written-asked : (points : List ℕ) (distance : Float) (room : ℕ) → queryVerdict written points distance room ≡ askedRefusal (used x) points distance room
+  unfolding queryVerdict
+  written-asked points distance room =
+      sym (inner-decides written (length (x .order)) (x .nodes) laid (λ y. askedRefusal y points distance room) (askedRefusal (used x) points distance room)
+      (ap (λ (y : Image). askedRefusal y points distance room) (sym (written-read version1 x ok))))
+
+-- ---- what is told is read back
+module _ (image points : List ℕ) (ok : Bytes image) (fits : length points < 2 ^ 63) (few : length points / 12 < 2 ^ 56) (room : ℕ) where
+  pub query-heard : (distance : Float) → Heard (queryVerdict image points distance room) (length points / 12) (told (queryVerdict image points distance room) (length points / 12))
+  query-heard distance = told-heard (queryVerdict image points distance room) (length points / 12) (record { verdict = query-told image points ok fits room distance; counted = few })
+
+  pub winding-heard : Heard (windingVerdict image points room) (length points / 12) (told (windingVerdict image points room) (length points / 12))
+  winding-heard = told-heard (windingVerdict image points room) (length points / 12) (record { verdict = winding-told image points ok fits room; counted = few })
+
+-- ---- on whole points a call refuses as the list call does on what the image holds
+points-as-lists : (points : List ℕ) → length points % 12 ≡ 0 → pointBytesRefusal points ≡ pointsRefusal (numbersOf points)
+unfolding pointBytesRefusal pointsRefusal
+points-as-lists points whole =
+    let ragged : eqb (length points % 12) 0 ≡ true = eq-eqb (length points % 12) 0 whole in
+    let raggedToo : eqb (length (numbersOf points) % 3) 0 ≡ true = eq-eqb (length (numbersOf points) % 3) 0 (rw (numbers-long points) (omega arith)) in
+    rw (ragged, raggedToo)
+
+drop-second : (a : Verdict) (rest : List Verdict) → firstRefusal (a ∷ passes ∷ rest) ≡ firstRefusal (a ∷ rest)
+unfolding firstRefusal
+drop-second passes rest = refl
+drop-second (refused n p) rest = refl
+
+-- a list query has no settings
+pub asks-as-lists : (x : Image) (points : List ℕ) (distance : Float) (room : ℕ) → settingsRefusal (x .settings) ≡ passes → length points % 12 ≡ 0
+    → askedRefusal x points distance room ≡ queryRefusal (x .triangles) (x .order) (x .links) (x .boxes) (x .nodes) (numbersOf points) distance (room / 4)
+unfolding askedRefusal queryRefusal
+asks-as-lists x points distance room fine whole =
+    let rooms : room / 4 / 6 ≡ room / 24 = omega arith in
+    rw (fine, rooms, points-count points, points-as-lists points whole) (drop-second (trianglesRefusal (x .triangles)) _)
+
+pub winds-as-lists : (triangles : List Float) (points : List ℕ) (room : ℕ) → length points % 12 ≡ 0 → woundRefusal triangles points room ≡ windingRefusal triangles (numbersOf points) (room / 4)
+unfolding woundRefusal windingRefusal
+winds-as-lists triangles points room whole = rw (points-count points, points-as-lists points whole)

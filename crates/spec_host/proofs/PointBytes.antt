@@ -1,0 +1,143 @@
+-- What is read of point bytes, what bytes that passed give, and what a loop over the points writes. Assumes nothing.
+use mathlib.Core.Path.{_≡_, refl, sym, ap, _∙_}
+use mathlib.Core.Bool.{true}
+use mathlib.Core.List.{List, _++_, append-assoc, append-nil}
+use Prim.Native.Nat.{ℕ, zero, suc, _+_, _*_, _/_, _%_, _≤_, _<_}
+use native.Mathlib.Nat.{zero-add, add-zero, add-suc}
+use native.Mathlib.Omega.{arith}
+use borrow.Author.Tests.{eqb-true}
+use lib.Dec.{eqb}
+use lib.ListN.{length, getD, length-append, drop-of-length-le, List·getD-append}
+use lib.Seq.{getD-append-add}
+use lib.Ieee.{Float, nan, binary32, ofBits, toBits}
+use Rattle.spec_tables.specs.Tables.{over, many}
+use Rattle.spec_tables.proofs.Tables.{many-same}
+use Rattle.spec_tables.proofs.Pieces.{getD-many}
+use Rattle.spec_tables.proofs.Runs.{Run, run-start, run-front, run-end}
+use Rattle.spec_records.specs.Little.{little, littleAt}
+use Rattle.spec_records.specs.Entries.{numberBytes}
+use Rattle.spec_records.proofs.Little.{length-little}
+use Rattle.spec_records.proofs.Entries.{length-numbers}
+use Rattle.spec_shapes.specs.Points.{Point}
+use Rattle.spec_lists.specs.Reading.{pointAt, pointCount}
+use Rattle.spec_lists.specs.Refusals.{Verdict, passes, refuses}
+use Rattle.spec_lists.specs.Passed.{GoodPoints}
+use Rattle.spec_lists.proofs.Verdicts.{all-pass, so, refusal-leaves}
+use Rattle.spec_lists.proofs.Passed.{coordinates-passed}
+use Rattle.spec_search.specs.Answers.{Answer, nothing, found, sixWords}
+use Rattle.spec_search.specs.Calls.{answerWords}
+use Rattle.spec_angles.specs.Windings.{windingAt}
+use Rattle.spec_host.specs.Build.{numbersOf}
+use Rattle.spec_host.proofs.Build.{numbers-long}
+use Rattle.spec_host.specs.PointBytes.{pointBytesRefusal, wordBytes, answerBytes, windings, windingBytes, afterBytes}
+
+-- ---- what is read
+module _ (s : List ℕ) where
+  pub points-count : pointCount (numbersOf s) ≡ length s / 12
+  unfolding pointCount
+  points-count = rw numbers-long (omega arith)
+
+  -- number i stands at byte 4 i
+  pub number-is : (i : ℕ) → i < length s / 4 → getD (numbersOf s) i nan ≡ ofBits binary32 (littleAt 4 s (4 * i))
+  number-is i h = getD-many nan _ (length s / 4) i h ∙ ap (λ (at : ℕ). ofBits binary32 (littleAt 4 s at)) (zero-add (4 * i))
+
+  pub point-bytes-passed : pointBytesRefusal s ≡ passes → GoodPoints (numbersOf s)
+  unfolding pointBytesRefusal pointCount
+  point-bytes-passed e =
+      let p = all-pass _ e in
+      let ragged = eqb-true (length s % 12) 0 (so (eqb (length s % 12) 0) 8 (length s) (p .0)) in
+      record { whole = rw numbers-long (omega arith); coordinates = coordinates-passed 8 (numbersOf s) (p .1 .0) }
+
+-- ---- numbers as bytes, list by list
+pub many-add : {A : Type 0} (f : ℕ → List A) (m n : ℕ) → many f (m + n) ≡ many f m ++ many (λ i. f (m + i)) n
+unfolding many
+many-add f m zero = rw (add-zero, append-nil)
+many-add f m (suc n) = rw (add-suc, many-add f m n) (append-assoc (many f m) (many (λ i. f (m + i)) n) (f (m + n)))
+
+word-append : (a b : List ℕ) → wordBytes (a ++ b) ≡ wordBytes a ++ wordBytes b
+word-append a b =
+    let g : ℕ → List ℕ = λ i. little 4 (getD (a ++ b) (0 + i) 0) in
+    ap (many g) (length-append a b) ∙ many-add g (length a) (length b)
+    ∙ ap (λ (l : List ℕ). l ++ many (λ i. g (length a + i)) (length b)) (many-same g (λ i. little 4 (getD a (0 + i) 0)) (length a) (λ i h. simp zero-add (ap (little 4) (List·getD-append a b 0 i h))))
+    ∙ ap (λ (l : List ℕ). wordBytes a ++ l) (many-same (λ i. g (length a + i)) (λ i. little 4 (getD b (0 + i) 0)) (length b) (λ i h. simp zero-add (ap (little 4) (getD-append-add a b i 0))))
+
+word-many : (f : ℕ → List ℕ) (n : ℕ) → wordBytes (many f n) ≡ many (λ k. wordBytes (f k)) n
+unfolding many
+word-many f zero = refl
+word-many f (suc n) = word-append (many f n) (f n) ∙ ap (λ (l : List ℕ). l ++ wordBytes (f n)) (word-many f n)
+
+-- ---- the loop over the points that writes answers
+six-long : (a : Answer) → length (sixWords binary32 a) ≡ 6
+unfolding sixWords
+six-long nothing = refl
+six-long (found h) = refl
+
+pub answer-long : (a : Answer) → length (wordBytes (sixWords binary32 a)) ≡ 24
+answer-long a = length-numbers 4 (sixWords binary32 a) 0 (length (sixWords binary32 a)) ∙ ap (λ (n : ℕ). 4 * n) (six-long a)
+
+over-all : {A : Type 0} (new old : List A) → length old ≡ length new → over 0 new old ≡ new
+unfolding over
+over-all new old e = let h : length old ≤ length new = omega arith in rw (zero-add, drop-of-length-le old h, append-nil)
+
+-- the six words of an answer in a list of six, as bytes
+pub six-bytes : (a : Answer) (old : List ℕ) → length old ≡ 6 → numberBytes 4 (over 0 (sixWords binary32 a) old) 0 6 ≡ wordBytes (sixWords binary32 a)
+six-bytes a old e =
+    ap (λ (l : List ℕ). numberBytes 4 l 0 6) (over-all (sixWords binary32 a) old (e ∙ sym (six-long a)))
+    ∙ ap (numberBytes 4 (sixWords binary32 a) 0) (sym (six-long a))
+
+module _ (answer : Point → Answer) (points old : List ℕ) where
+  abbrev piece : ℕ → List ℕ
+  piece k = wordBytes (sixWords binary32 (answer (pointAt (numbersOf points) (3 * k))))
+
+  -- k of n answers stand at the front of out
+  abbrev pub Answered : (n : ℕ) (out : List ℕ) (k : ℕ) → Type 0
+  Answered n out k = Run piece 0 n old out k
+
+  pub answered-start : (n : ℕ) → Answered n old 0
+  answered-start n = run-start piece 24 0 n old
+
+  pub answered-more : (n : ℕ) (out new : List ℕ) (k : ℕ) (a : Answer) → 24 * n ≤ length old → k < n → Answered n out k → a ≡ answer (pointAt (numbersOf points) (3 * k))
+      → new ≡ over (24 * k) (wordBytes (sixWords binary32 a)) out → Answered n new (k + 1)
+  answered-more n out new k a room l r e h =
+      run-front piece 24 n old out new k (λ j. answer-long (answer (pointAt (numbersOf points) (3 * j)))) room l r (h ∙ ap (λ (b : Answer). over (24 * k) (wordBytes (sixWords binary32 b)) out) e)
+
+  pub answered-end : (n : ℕ) (out : List ℕ) (k : ℕ) → n ≡ length points / 12 → n ≤ k → Answered n out k → out ≡ over 0 (answerBytes answer points) old
+  unfolding answerBytes answerWords
+  answered-end n out k e l r =
+      run-end piece 0 n old out k l r
+      ∙ ap (λ (m : ℕ). over 0 (many piece m) old) (e ∙ sym (points-count points))
+      ∙ ap (λ (new : List ℕ). over 0 new old) (sym (word-many (λ j. sixWords binary32 (answer (pointAt (numbersOf points) (3 * j)))) (pointCount (numbersOf points))))
+
+-- ---- the loop over the points that writes winding numbers
+module _ (triangles : List Float) (points old : List ℕ) where
+  abbrev turn : ℕ → List ℕ
+  turn k = little 4 (toBits binary32 (windingAt binary32 triangles (numbersOf points) k))
+
+  -- k of n winding numbers stand at the front of out
+  abbrev pub Wound : (n : ℕ) (out : List ℕ) (k : ℕ) → Type 0
+  Wound n out k = Run turn 0 n old out k
+
+  pub wound-start : (n : ℕ) → Wound n old 0
+  wound-start n = run-start turn 4 0 n old
+
+  pub wound-more : (n : ℕ) (out new : List ℕ) (k bits : ℕ) → 4 * n ≤ length old → k < n → Wound n out k → bits ≡ toBits binary32 (windingAt binary32 triangles (numbersOf points) k)
+      → new ≡ over (4 * k) (little 4 bits) out → Wound n new (k + 1)
+  wound-more n out new k bits room l r e h =
+      run-front turn 4 n old out new k (λ j. length-little 4 _) room l r (h ∙ ap (λ (b : ℕ). over (4 * k) (little 4 b) out) e)
+
+  pub wound-end : (n : ℕ) (out : List ℕ) (k : ℕ) → n ≡ length points / 12 → n ≤ k → Wound n out k → out ≡ over 0 (windingBytes triangles points) old
+  unfolding windingBytes windings
+  wound-end n out k e l r =
+      run-end turn 0 n old out k l r
+      ∙ ap (λ (m : ℕ). over 0 (many turn m) old) (e ∙ sym (points-count points))
+      ∙ ap (λ (new : List ℕ). over 0 new old)
+      (many-same turn _ (pointCount (numbersOf points)) (λ i h. ap (λ (x : Float). little 4 (toBits binary32 x)) (sym (getD-many nan (windingAt binary32 triangles (numbersOf points)) (pointCount (numbersOf points)) (0 + i) (rw zero-add h) ∙ ap (windingAt binary32 triangles (numbersOf points)) (zero-add i)))))
+
+-- ---- the lent bytes afterwards
+pub as-it-was : (v : Verdict) (new old : List ℕ) → refuses v ≡ true → old ≡ afterBytes v new old
+unfolding afterBytes
+as-it-was v new old h = refusal-leaves v (over 0 new old) old h
+
+pub as-written : (v : Verdict) (new old out : List ℕ) → v ≡ passes → out ≡ over 0 new old → out ≡ afterBytes v new old
+unfolding afterBytes
+as-written v new old out e h = rw e h

@@ -1,0 +1,192 @@
+-- The tests of the calls made in turn, by what was found of the image, and what passing them gives. Assumes nothing.
+use mathlib.Core.Path.{_≡_, refl, sym, ap, _∙_}
+use mathlib.Core.Bool.{Bool, true, false, not}
+use mathlib.Core.List.{List, [], _∷_, _++_}
+use Prim.Native.Nat.{ℕ, _*_, _/_, _%_, _≤_, _<_}
+use native.Mathlib.Omega.{arith}
+use borrow.Author.Tests.{eqb-false, ltb-false, eq-eqb}
+use lib.Dec.{ltb, eqb}
+use lib.ListN.{length, take}
+use lib.Ieee.{Float, binary32, le}
+use Rattle.spec_tables.specs.Tables.{over, many}
+use Rattle.spec_tables.proofs.Tables.{length-many}
+use Rattle.spec_tables.proofs.Pieces.{length-singles, take-over}
+use Rattle.spec_records.specs.Entries.{numbersIn, floatsIn}
+use Rattle.spec_records.specs.Records.{wrong, bodies, laidOut}
+use Rattle.spec_records.specs.Layouts.{version1, imageWants, imageSpans, imageSize, orderStart, nodesStart}
+use Rattle.spec_image.specs.Image.{Image, linksIn, sidesIn, imageIn}
+use Rattle.spec_image.proofs.Sizes.{length-links, length-box, image-is}
+use Rattle.spec_numbers.specs.Values.{zero}
+use Rattle.spec_lists.specs.Limits.{mostTriangles}
+use Rattle.spec_lists.specs.Reading.{boxAt, triangleCount}
+use Rattle.spec_lists.specs.Refusals.{Verdict, passes, refused, refuses, refusedIf, firstRefusal, raggedRefusal, noneRefusal, tooManyRefusal, coordinateRefusal, trianglesRefusal, Settings, settingsRefusal, roomRefusal, distanceRefusal, isDistance, firstBad}
+use Rattle.spec_lists.specs.Passed.{GoodTriangles, GoodPoints}
+use Rattle.spec_lists.proofs.Verdicts.{stops, goes-on, ends, all-pass, not-refused, so, did-pass}
+use Rattle.spec_lists.proofs.Passed.{triangles-passed, room-passed}
+use Rattle.spec_tree.specs.Accepted.{accepted}
+use Rattle.spec_tree.specs.Refusals.{treeRefusal}
+use Rattle.spec_tree.proofs.Accepted.{accepted-listed, listing-most}
+use Rattle.spec_search.specs.Calls.{Searchable}
+use Rattle.spec_host.specs.Build.{numbersOf}
+use Rattle.spec_host.specs.PointBytes.{pointBytesRefusal}
+use Rattle.spec_host.specs.Requests.{layoutRefusal, contents, treeIn, checkedRefusal, askedRefusal, woundRefusal, checkVerdict, queryVerdict}
+use Rattle.spec_host.specs.Loading.{countRefusal, earlyRefusal, lateRefusal, lateIn, Ready}
+use Rattle.spec_host.proofs.PointBytes.{point-bytes-passed}
+
+-- ---- a row of tests that is made in two parts
+pub row-then : (xs ys : List Verdict) → firstRefusal (xs ++ ys) ≡ firstRefusal (firstRefusal xs ∷ firstRefusal ys ∷ [])
+unfolding firstRefusal
+row-then [] ys = ends (firstRefusal ys) (firstRefusal ys) refl
+row-then (passes ∷ xs) ys = row-then xs ys
+row-then (refused number place ∷ xs) ys = refl
+
+module _ (v : Verdict) (xs ys : List Verdict) (b : Bool) (is : v ≡ firstRefusal xs) (told : b ≡ refuses v) where
+  pub row-stops : b ≡ true → v ≡ firstRefusal (xs ++ ys)
+  row-stops t = stops v (firstRefusal xs) (firstRefusal ys ∷ []) b is told t ∙ sym (row-then xs ys)
+
+  pub row-goes-on : b ≡ false → (rest : Verdict) → rest ≡ firstRefusal ys → rest ≡ firstRefusal (xs ++ ys)
+  row-goes-on f rest e = goes-on v (firstRefusal xs) (firstRefusal ys ∷ []) b rest is told f (ends rest (firstRefusal ys) e) ∙ sym (row-then xs ys)
+
+-- ---- the layout
+pub layout-refuses : (s : List ℕ) (at : ℕ) → laidOut (imageWants version1) s 0 ≡ wrong at → (inner : Verdict) → refused 10 at ≡ firstRefusal (layoutRefusal s ∷ inner ∷ [])
+unfolding layoutRefusal firstRefusal
+layout-refuses s at laid inner = rw laid
+
+module _ (s : List ℕ) (t n : ℕ) (laid : laidOut (imageWants version1) s 0 ≡ bodies (imageSpans version1 t n)) where
+  pub image-long : imageSize version1 t n ≡ length s
+  image-long = image-is version1 s t n laid .long
+
+  layout-passes : layoutRefusal s ≡ passes
+  unfolding layoutRefusal
+  layout-passes = rw laid
+
+  pub contents-are : contents s ≡ imageIn version1 s t n
+  unfolding contents imageSpans
+  contents-are =
+      let a : 36 * t / 36 ≡ t = omega arith in
+      let b : 30 * n / 30 ≡ n = omega arith in
+      rw (laid, a, b)
+
+  -- what is refused of what an image holds is refused of the image
+  pub inner-decides : (inner : Image → Verdict) (v : Verdict) → v ≡ inner (imageIn version1 s t n) → v ≡ firstRefusal (layoutRefusal s ∷ inner (contents s) ∷ [])
+  unfolding firstRefusal
+  inner-decides inner v e = rw (layout-passes, contents-are) (ends v (inner (imageIn version1 s t n)) e)
+
+-- ---- the count
+module _ (xs : List Float) (t : ℕ) (nine : length xs ≡ 9 * t) where
+  pub count-counts : triangleCount xs ≡ t
+  unfolding triangleCount
+  count-counts = rw nine (omega arith)
+
+  -- what the count refuses is refused of the list
+  pub count-stops : (v : Verdict) (b : Bool) (rest : List Verdict) → v ≡ countRefusal t → b ≡ refuses v → b ≡ true → v ≡ firstRefusal (trianglesRefusal xs ∷ rest)
+  unfolding countRefusal trianglesRefusal raggedRefusal noneRefusal tooManyRefusal firstRefusal
+  count-stops v b rest e r h =
+      let whole : eqb (length xs % 9) 0 ≡ true = eq-eqb (length xs % 9) 0 (rw nine (omega arith)) in
+      let early : v ≡ trianglesRefusal xs = rw (whole, count-counts) (row-stops v (refusedIf (eqb t 0) 2 0 ∷ refusedIf (ltb mostTriangles t) 3 0 ∷ []) (coordinateRefusal 4 xs ∷ []) b e r h) in
+      stops v (trianglesRefusal xs) rest b early r h
+
+count-passed : (t : ℕ) → countRefusal t ≡ passes → (1 ≤ t) × (t ≤ mostTriangles)
+unfolding countRefusal
+count-passed t e =
+    let p = all-pass _ e in
+    let none = eqb-false t 0 (not-refused (eqb t 0) 2 0 (p .0)) in
+    (omega arith, ltb-false mostTriangles t (not-refused (ltb mostTriangles t) 3 0 (p .1 .0)))
+
+pub count-few : (t : ℕ) (v : Verdict) (b : Bool) → v ≡ countRefusal t → b ≡ refuses v → b ≡ false → t ≤ mostTriangles
+count-few t v b e r f = count-passed t (did-pass v (countRefusal t) b e r f) .1
+
+-- ---- the lists of an image of t triangles and n nodes, as they are read
+module _ (s : List ℕ) (t n : ℕ) where
+  pub triangles-read : (old new : List Float) → new ≡ over 0 (floatsIn binary32 s 20 (9 * t)) old → take (9 * t) new ≡ imageIn version1 s t n .triangles
+  unfolding imageIn
+  triangles-read old new e = ap (take (9 * t)) e ∙ take-over (9 * t) _ old (length-singles _ (9 * t))
+
+  pub triangles-long : length (imageIn version1 s t n .triangles) ≡ 9 * t
+  unfolding imageIn
+  triangles-long = length-singles _ (9 * t)
+
+  pub order-read : (old new : List ℕ) → new ≡ over 0 (numbersIn 2 s (orderStart version1 t) t) old → take t new ≡ imageIn version1 s t n .order
+  unfolding imageIn
+  order-read old new e = ap (take t) e ∙ take-over t _ old (length-singles _ t)
+
+  pub links-read : (old new : List ℕ) → new ≡ over 0 (many (linksIn version1 s (nodesStart version1 t)) n) old → take (3 * n) new ≡ imageIn version1 s t n .links
+  unfolding imageIn
+  links-read old new e = ap (take (3 * n)) e ∙ take-over (3 * n) _ old (length-many _ 3 n (length-links version1 s (nodesStart version1 t)))
+
+  pub boxes-read : (old new : List Float) → new ≡ over 0 (many (sidesIn version1 s (nodesStart version1 t)) n) old → take (6 * n) new ≡ imageIn version1 s t n .boxes
+  unfolding imageIn
+  boxes-read old new e = ap (take (6 * n)) e ∙ take-over (6 * n) _ old (length-many _ 6 n (length-box version1 s (nodesStart version1 t)))
+
+-- how many triangles an image holds
+pub held-none : (s : List ℕ) (at : ℕ) → laidOut (imageWants version1) s 0 ≡ wrong at → 0 ≡ triangleCount (contents s .triangles)
+unfolding contents
+held-none s at laid = rw laid (sym (count-counts _ 0 (triangles-long s 0 0)))
+
+pub held-count : (s : List ℕ) (t n : ℕ) → laidOut (imageWants version1) s 0 ≡ bodies (imageSpans version1 t n) → t ≡ triangleCount (contents s .triangles)
+held-count s t n laid = rw (contents-are s t n laid) (sym (count-counts _ t (triangles-long s t n)))
+
+-- ---- the tree check says no to more nodes than a tree over the most triangles has
+pub too-many-nodes : (triangles : List Float) (order links : List ℕ) (boxes : List Float) (nodes : ℕ) → triangleCount triangles ≤ mostTriangles → 8191 < nodes
+    → refused 7 0 ≡ treeRefusal triangles order links boxes nodes
+unfolding treeRefusal
+too-many-nodes triangles order links boxes nodes few many = go (accepted (boxAt triangles) (triangleCount triangles) order links boxes nodes) (λ e.
+    let l = accepted-listed (boxAt triangles) (triangleCount triangles) order links boxes nodes e in
+    omega (arith, listing-most (boxAt triangles) (triangleCount triangles) order links boxes nodes (l .0) (l .1)))
+  where
+    go : (b : Bool) → (b ≡ true → ⊥) → refused 7 0 ≡ refusedIf (not b) 7 0
+    go true h = absurd (h refl)
+    go false h = refl
+
+-- ---- what passed
+module _ (triangles : List Float) (points : List ℕ) where
+  pub early-passed : (settings : Settings) (room : ℕ) → earlyRefusal triangles settings (room / 24) (length points / 12) ≡ passes → Ready triangles points room
+  unfolding earlyRefusal
+  early-passed settings room e =
+      let p = all-pass _ e in
+      let enough : length points / 12 ≤ room / 24 = room-passed _ _ (p .1 .1 .0) in
+      record { triangles-good = triangles-passed triangles (p .0); room-enough = omega arith }
+
+  pub late-passed : (order links : List ℕ) (boxes : List Float) (nodes : ℕ) (distance : Float) → GoodTriangles triangles → lateRefusal triangles order links boxes nodes points distance ≡ passes
+      → Searchable triangles order links boxes nodes × GoodPoints (numbersOf points)
+  unfolding lateRefusal treeRefusal
+  late-passed order links boxes nodes distance good e =
+      let p = all-pass _ e in
+      (record { triangles-good = good; tree-accepted = so _ _ _ (p .0) }, point-bytes-passed points (p .1 .0))
+
+  pub wound-passed : (room : ℕ) → woundRefusal triangles points room ≡ passes → 4 * (length points / 12) ≤ room
+  unfolding woundRefusal
+  wound-passed room e =
+      let enough : length points / 12 ≤ room / 4 = room-passed _ _ (all-pass _ e .1 .0) in
+      omega arith
+
+-- ---- the tests before the tree is loaded, and those behind
+module _ (x : Image) (points : List ℕ) (distance : Float) (room : ℕ) (v : Verdict) (b : Bool) (is : v ≡ earlyRefusal (x .triangles) (x .settings) (room / 24) (length points / 12)) (told : b ≡ refuses v) where
+  pub early-stops : b ≡ true → v ≡ askedRefusal x points distance room
+  unfolding earlyRefusal askedRefusal
+  early-stops t = row-stops v _ (treeIn x ∷ pointBytesRefusal points ∷ distanceRefusal distance ∷ []) b is told t
+
+  pub late-decides : b ≡ false → (rest : Verdict) → rest ≡ lateIn x points distance → rest ≡ askedRefusal x points distance room
+  unfolding earlyRefusal lateRefusal askedRefusal
+  late-decides f rest e = row-goes-on v _ (treeIn x ∷ pointBytesRefusal points ∷ distanceRefusal distance ∷ []) b is told f rest e
+
+  pub tree-stops : b ≡ false → refused 7 0 ≡ treeIn x → refused 7 0 ≡ askedRefusal x points distance room
+  unfolding lateRefusal
+  tree-stops f e = late-decides f (refused 7 0) (stops (refused 7 0) (treeIn x) (pointBytesRefusal points ∷ distanceRefusal distance ∷ []) true e refl refl)
+
+-- ---- a check is a query at no points
+none-passes : pointBytesRefusal [] ≡ passes
+unfolding pointBytesRefusal coordinateRefusal firstBad firstRefusal many
+none-passes = refl
+
+drop-passed : (a b c d : Verdict) → firstRefusal (a ∷ firstRefusal (b ∷ c ∷ passes ∷ d ∷ passes ∷ passes ∷ []) ∷ []) ≡ firstRefusal (a ∷ firstRefusal (b ∷ c ∷ d ∷ []) ∷ [])
+unfolding firstRefusal
+drop-passed (refused n p) b c d = refl
+drop-passed passes (refused n p) c d = refl
+drop-passed passes passes (refused n p) d = refl
+drop-passed passes passes passes (refused n p) = refl
+drop-passed passes passes passes passes = refl
+
+pub check-asks-nothing : (image : List ℕ) → queryVerdict image [] zero 1 ≡ checkVerdict image
+unfolding queryVerdict checkVerdict askedRefusal checkedRefusal roomRefusal distanceRefusal isDistance le
+check-asks-nothing image = rw none-passes (drop-passed (layoutRefusal image) (trianglesRefusal (contents image .triangles)) (settingsRefusal (contents image .settings)) (treeIn (contents image)))

@@ -1,0 +1,39 @@
+-- Points as bytes, twelve a point, and what is answered at them as bytes. Definitions only.
+use Prim.Native.Nat.{ℕ, _%_}
+use mathlib.Core.Bool.{not}
+use mathlib.Core.List.{List, [], _∷_}
+use lib.Dec.{eqb}
+use lib.ListN.{length}
+use lib.Ieee.{Float, binary32}
+use Rattle.spec_tables.specs.Tables.{many, over}
+use Rattle.spec_records.specs.Entries.{numberBytes, floatBytes}
+use Rattle.spec_shapes.specs.Points.{Point}
+use Rattle.spec_lists.specs.Reading.{pointCount}
+use Rattle.spec_lists.specs.Refusals.{Verdict, refusedIf, firstRefusal, coordinateRefusal, afterVerdict}
+use Rattle.spec_search.specs.Answers.{Answer}
+use Rattle.spec_search.specs.Calls.{answerWords}
+use Rattle.spec_angles.specs.Windings.{windingAt}
+use Rattle.spec_host.specs.Build.{numbersOf}
+
+-- 8: bytes that are no multiple of twelve at their length, else a bad coordinate at the index of its number
+unfoldable pub pointBytesRefusal : List ℕ → Verdict
+pointBytesRefusal bytes = firstRefusal (refusedIf (not (eqb (length bytes % 12) 0)) 8 (length bytes) ∷ coordinateRefusal 8 (numbersOf bytes) ∷ [])
+
+-- numbers as bytes, four each
+abbrev pub wordBytes : List ℕ → List ℕ
+wordBytes words = numberBytes 4 words 0 (length words)
+
+-- the answers at all points: the bytes of what a list query answers at them
+unfoldable pub answerBytes : (Point → Answer) → (points : List ℕ) → List ℕ
+answerBytes answer points = wordBytes (answerWords binary32 answer (numbersOf points))
+
+-- the winding numbers about all points
+unfoldable pub windings : (triangles points : List Float) → List Float
+windings triangles points = many (λ k. windingAt binary32 triangles points k ∷ []) (pointCount points)
+
+unfoldable pub windingBytes : (triangles : List Float) (points : List ℕ) → List ℕ
+windingBytes triangles points = floatBytes binary32 (windings triangles (numbersOf points)) 0 (pointCount (numbersOf points))
+
+-- the lent bytes afterwards: with what is written at the front, and on a refusal as they were
+unfoldable pub afterBytes : Verdict → (new old : List ℕ) → List ℕ
+afterBytes verdict new old = afterVerdict verdict (over 0 new old) old

@@ -1,0 +1,4 @@
+pub mod Each
+pub mod Merges
+pub mod Permutes
+pub mod Stable

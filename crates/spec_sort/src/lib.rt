@@ -1,0 +1,1 @@
+// Definitions and laws of the stable sort by keys: no code.

@@ -1,0 +1,4 @@
+pub mod Splits
+pub mod Median
+pub mod Buckets
+pub mod Area

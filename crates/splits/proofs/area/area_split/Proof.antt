@@ -1,0 +1,58 @@
+-- `splits::area_split` meets its contract: what each call ensures, put in. The buckets' counts are small, since the part is short, and their
+-- boxes plain, since the triangles' are.
+-- Assumes nothing.
+use lib.ListN.{length-map}
+use lib.Ieee.{binary32}
+use Rattle.shapes.specs.Values.{asAxis}
+use Rattle.spec_splits.specs.Splits.{boxIn, boxesIn}
+use Rattle.spec_splits.specs.Area.{areaSplit}
+use Rattle.spec_splits.proofs.Buckets.{filled-small, filled-plain}
+use Rattle.spec_splits.proofs.Area.{bucket-on-axis}
+use borrow.Author.Needs.{needs}
+use Rattle.splits.proofs.area.area_split.Statement.{statement}
+use Rattle.splits.proofs.area.area_split.Tie as tie
+
+centre-span-requires : tie.Need-centre-span-requires
+centre-span-requires c κs = search needs
+
+fill-requires : tie.Need-fill-requires
+fill-requires c κs = search needs
+
+costs-of-requires : tie.Need-costs-of-requires
+costs-of-requires c κs =
+    let start = c .before .before .before .before in
+    let args = start .args in
+    rw (c .fill .ensures) (
+      filled-small binary32 _ (boxesIn (args .bounds .now) (args .part .now)) (rw length-map (start .pre .0)),
+      filled-plain binary32 _ (boxIn (args .bounds .now)) (args .part .now) (start .pre .1 .plain),
+    )
+
+cheapest-of-requires : tie.Need-cheapest-of-requires
+cheapest-of-requires c κs = search needs
+
+cut-by-requires : tie.Need-cut-by-requires
+cut-by-requires c κs = search needs
+
+returns : tie.Need-returns
+unfolding areaSplit
+returns c =
+    let args = c .before .before .before .before .before .before .before .args in
+    let within = c .before .before .before .before .centre-span in
+    rw (
+      c .cut-by .ensures,
+      c .before .cheapest-of .ensures,
+      c .before .before .costs-of .ensures,
+      c .before .before .before .fill .ensures,
+      bucket-on-axis binary32 (asAxis (args .axis)) _ (within .result .lo) (within .result .hi) (within .ensures),
+    )
+
+pub area-split-spec : {M : Type 1} → statement M
+area-split-spec =
+    tie.close
+    (tie.spec
+    centre-span-requires
+    fill-requires
+    costs-of-requires
+    cheapest-of-requires
+    cut-by-requires
+    returns)

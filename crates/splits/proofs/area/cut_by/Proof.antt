@@ -1,0 +1,34 @@
+-- `splits::cut_by` meets its contract: each arm returns what the test picks.
+-- Assumes nothing.
+use lib.ListN.{length-map}
+use Rattle.spec_splits.specs.Area.{cutBy}
+use borrow.Author.Needs.{needs}
+use Rattle.splits.proofs.area.cut_by.Statement.{statement}
+use Rattle.splits.proofs.area.cut_by.Tie as tie
+
+cast-nearest-u32-to-f32 : tie.Need-cast-nearest-u32-to-f32
+cast-nearest-u32-to-f32 c = search needs
+
+nearest-u32-to-f32-requires : tie.Need-nearest-u32-to-f32-requires
+nearest-u32-to-f32-requires c κs = search needs
+
+first-later-requires : tie.Need-first-later-requires
+first-later-requires c κs = search needs
+
+returns : tie.Need-returns
+unfolding cutBy
+returns c = rw (length-map, ← c .before .before .before .before .nearest-u32-to-f32 .ensures, c .before .if1 .taken, c .first-later .ensures)
+
+returns-2 : tie.Need-returns-2
+unfolding cutBy
+returns-2 c = rw (length-map, ← c .before .before .before .nearest-u32-to-f32 .ensures, c .if1 .left)
+
+pub cut-by-spec : {M : Type 1} → statement M
+cut-by-spec =
+    tie.close
+    (tie.spec
+    cast-nearest-u32-to-f32
+    nearest-u32-to-f32-requires
+    first-later-requires
+    returns
+    returns-2)

@@ -1,0 +1,77 @@
+-- `splits::first_later` meets its contract. The invariant: looking on from here gives what looking from the start gives.
+-- Assumes nothing.
+use mathlib.Core.Path.{_≡_, refl, sym, ap, _∙_}
+use Prim.Native.Nat.{_-_}
+use native.Mathlib.Omega.{arith}
+use borrow.Author.Needs.{needs}
+use borrow.Author.Tests.{lt-ltb, le-ltb}
+use lib.Dec.{ltb}
+use lib.ListN.{length, drop}
+use lib.Ieee.{binary32}
+use Rattle.shapes.specs.Values.{asAxis}
+use Rattle.spec_splits.specs.Splits.{boxIn, boxesIn}
+use Rattle.spec_splits.specs.Area.{bucketBetween, firstLater}
+use Rattle.spec_splits.proofs.Area.{looking-finds, looking-goes-on, looking-ends}
+use Rattle.splits.proofs.area.first_later.Statement.{statement}
+use Rattle.splits.proofs.area.first_later.Tie as tie
+
+abbrev Inv-loop : tie.InvT-loop
+Inv-loop bounds part axis within k i₀ i =
+    firstLater (bucketBetween binary32 (asAxis axis) (within .lo) (within .hi)) k (boxesIn bounds (drop i part)) i ≡ firstLater (bucketBetween binary32 (asAxis axis) (within .lo) (within .hi)) k (boxesIn bounds part) 0
+
+abbrev μ-loop : tie.MeasureT-loop
+μ-loop bounds part axis within k i₀ i = length part - i
+
+loop-holds : tie.Need-loop-holds Inv-loop μ-loop
+loop-holds c = refl
+
+mul-bucket-of : tie.Need-mul-bucket-of Inv-loop μ-loop
+mul-bucket-of c = search needs
+
+shared-slice-read-bucket-of : tie.Need-shared-slice-read-bucket-of Inv-loop μ-loop
+shared-slice-read-bucket-of c = search needs
+
+bucket-of-requires : tie.Need-bucket-of-requires Inv-loop μ-loop
+bucket-of-requires c κs = c .before .before .before .before .before .pre (c .before .before .loop .i) (c .before .loop-test .taken)
+
+returns : tie.Need-returns Inv-loop μ-loop
+returns c =
+    let args = c .before .before .before .before .before .before .before .args in
+    let loop = c .before .before .before .before .loop in
+    looking-finds (bucketBetween binary32 (asAxis (args .axis)) (args .within .lo) (args .within .hi)) (args .k) (boxIn (args .bounds .now)) (args .part .now) (loop .i) _
+    (c .before .before .before .loop-test .taken) (sym (ap (ltb (args .k)) (c .before .bucket-of .ensures)) ∙ lt-ltb _ _ (c .if1 .taken)) (loop .inv)
+
+add-i : tie.Need-add-i Inv-loop μ-loop
+add-i c = search needs
+
+loop-less : tie.Need-loop-less Inv-loop μ-loop
+loop-less c = omega arith
+
+loop-again : tie.Need-loop-again Inv-loop μ-loop
+loop-again c =
+    let args = c .before .before .before .before .before .before .before .args in
+    let loop = c .before .before .before .before .loop in
+    looking-goes-on (bucketBetween binary32 (asAxis (args .axis)) (args .within .lo) (args .within .hi)) (args .k) (boxIn (args .bounds .now)) (args .part .now) (loop .i) _
+    (c .before .before .before .loop-test .taken) (sym (ap (ltb (args .k)) (c .before .bucket-of .ensures)) ∙ le-ltb _ _ (c .if1 .left)) (loop .inv)
+
+returns-2 : tie.Need-returns-2 Inv-loop μ-loop
+returns-2 c =
+    let args = c .before .before .before .before .args in
+    let loop = c .before .loop in
+    looking-ends (bucketBetween binary32 (asAxis (args .axis)) (args .within .lo) (args .within .hi)) (args .k) (boxIn (args .bounds .now)) (args .part .now) (loop .i) _ (c .loop-test .left) (loop .inv)
+
+pub first-later-spec : {M : Type 1} → statement M
+first-later-spec =
+    tie.close
+    (tie.spec
+    Inv-loop
+    μ-loop
+    loop-holds
+    mul-bucket-of
+    shared-slice-read-bucket-of
+    bucket-of-requires
+    returns
+    add-i
+    loop-less
+    loop-again
+    returns-2)

@@ -1,0 +1,86 @@
+-- `splits::centre_span` meets its contract. The invariant: going on from the two ends with the centres that are left gives what the whole part gives.
+-- Assumes nothing.
+use mathlib.Core.Path.{_≡_, refl, ap, _∙_}
+use mathlib.Core.List.{foldl}
+use Prim.Native.Nat.{_-_}
+use native.Mathlib.Omega.{arith}
+use borrow.Author.Needs.{needs}
+use lib.ListN.{length, drop}
+use lib.Ieee.{binary32, ofBits, neg}
+use Rattle.spec_numbers.specs.Values as Values
+use Rattle.spec_numbers.specs.Hold.{smaller, larger}
+use Rattle.shapes.specs.Values.{asAxis}
+use Rattle.spec_splits.specs.Splits.{boxIn, boxesIn}
+use Rattle.spec_splits.proofs.Area.{lowerEnd, upperEnd, lower-end, upper-end}
+use Rattle.spec_splits.proofs.Turns.{fold-on-named, fold-ended-named}
+use Rattle.splits.proofs.bucketing.centre_span.Statement.{statement}
+use Rattle.splits.proofs.bucketing.centre_span.Tie as tie
+
+abbrev Inv-loop : tie.InvT-loop
+Inv-loop bounds part axis lo₀ hi₀ i₀ lo hi i =
+    (foldl (lowerEnd binary32 (asAxis axis)) lo (boxesIn bounds (drop i part)) ≡ foldl (lowerEnd binary32 (asAxis axis)) (Values.largest binary32) (boxesIn bounds part))
+    × (foldl (upperEnd binary32 (asAxis axis)) hi (boxesIn bounds (drop i part)) ≡ foldl (upperEnd binary32 (asAxis axis)) (Values.least binary32) (boxesIn bounds part))
+
+abbrev μ-loop : tie.MeasureT-loop
+μ-loop bounds part axis lo₀ hi₀ i₀ lo hi i = length part - i
+
+loop-holds : tie.Need-loop-holds Inv-loop μ-loop
+unfolding ofBits neg
+loop-holds c = (refl, refl)
+
+mul-centre-on : tie.Need-mul-centre-on Inv-loop μ-loop
+mul-centre-on c = search needs
+
+shared-slice-read-centre-on : tie.Need-shared-slice-read-centre-on Inv-loop μ-loop
+shared-slice-read-centre-on c = search needs
+
+centre-on-requires : tie.Need-centre-on-requires Inv-loop μ-loop
+centre-on-requires c κs = c .before .before .before .before .before .pre (c .before .before .loop .i) (c .before .loop-test .taken)
+
+min2-requires : tie.Need-min2-requires Inv-loop μ-loop
+min2-requires c κs = search needs
+
+max2-requires : tie.Need-max2-requires Inv-loop μ-loop
+max2-requires c κs = search needs
+
+add-i : tie.Need-add-i Inv-loop μ-loop
+add-i c = search needs
+
+loop-less : tie.Need-loop-less Inv-loop μ-loop
+loop-less c = omega arith
+
+loop-again : tie.Need-loop-again Inv-loop μ-loop
+unfolding lowerEnd upperEnd
+loop-again c =
+    let args = c .before .before .before .before .before .before .before .before .args in
+    let loop = c .before .before .before .before .before .loop in (
+      fold-on-named (lowerEnd binary32 (asAxis (args .axis))) (boxIn (args .bounds .now)) (args .part .now) (loop .i) (loop .lo) _ (c .before .min2 .result) (c .before .before .before .before .loop-test .taken) (c .before .min2 .ensures ∙ ap (smaller (loop .lo)) (c .before .before .centre-on .ensures)) (loop .inv .0),
+      fold-on-named (upperEnd binary32 (asAxis (args .axis))) (boxIn (args .bounds .now)) (args .part .now) (loop .i) (loop .hi) _ (c .max2 .result) (c .before .before .before .before .loop-test .taken) (c .max2 .ensures ∙ ap (larger (loop .hi)) (c .before .before .centre-on .ensures)) (loop .inv .1),
+    )
+
+returns : tie.Need-returns Inv-loop μ-loop
+returns c =
+    let args = c .before .before .before .before .args in
+    let loop = c .before .loop in
+    let boxes = boxesIn (args .bounds .now) (args .part .now) in
+    record {
+      lo-is = fold-ended-named (lowerEnd binary32 (asAxis (args .axis))) (boxIn (args .bounds .now)) (args .part .now) (loop .i) (loop .lo) _ (c .loop-test .left) (loop .inv .0) ∙ lower-end binary32 (asAxis (args .axis)) boxes;
+      hi-is = fold-ended-named (upperEnd binary32 (asAxis (args .axis))) (boxIn (args .bounds .now)) (args .part .now) (loop .i) (loop .hi) _ (c .loop-test .left) (loop .inv .1) ∙ upper-end binary32 (asAxis (args .axis)) boxes;
+    }
+
+pub centre-span-spec : {M : Type 1} → statement M
+centre-span-spec =
+    tie.close
+    (tie.spec
+    Inv-loop
+    μ-loop
+    loop-holds
+    mul-centre-on
+    shared-slice-read-centre-on
+    centre-on-requires
+    min2-requires
+    max2-requires
+    add-i
+    loop-less
+    loop-again
+    returns)

@@ -1,0 +1,100 @@
+-- `splits::fill` meets its contract. The invariant: putting the boxes that are left into the buckets as they are gives what the whole part gives; and no count is above the number put.
+-- Assumes nothing.
+use Prim.Native.Nat.{_-_}
+use native.Mathlib.Omega.{arith}
+use borrow.Author.Needs.{needs}
+use lib.ListN.{length}
+use lib.Ieee.{binary32}
+use Rattle.shapes.specs.Values.{asAxis, asBox}
+use Rattle.spec_splits.specs.Splits.{boxIn}
+use Rattle.spec_splits.specs.Area.{bucketBetween}
+use Rattle.spec_splits.proofs.Buckets.{Filling, filling-starts, filling-small, filling-goes-on, filling-ends}
+use Rattle.spec_splits.proofs.Area.{between-below}
+use Rattle.splits.specs.Values.{asBucket}
+use Rattle.splits.proofs.Stored.{noBucket}
+use Rattle.splits.proofs.bucketing.fill.Statement.{statement}
+use Rattle.splits.proofs.bucketing.fill.Tie as tie
+
+abbrev Inv-loop : tie.InvT-loop
+Inv-loop bounds part axis within buckets₀ i₀ buckets i = Filling asBucket binary32 (bucketBetween binary32 (asAxis axis) (within .lo) (within .hi)) (boxIn bounds) part (buckets .each) i
+
+abbrev μ-loop : tie.MeasureT-loop
+μ-loop bounds part axis within buckets₀ i₀ buckets i = length part - i
+
+empty-requires : tie.Need-empty-requires Inv-loop μ-loop
+empty-requires c κs = search needs
+
+loop-holds : tie.Need-loop-holds Inv-loop μ-loop
+loop-holds c = let args = c .before .before .before .args in filling-starts asBucket binary32 (bucketBetween binary32 (asAxis (args .axis)) (args .within .lo) (args .within .hi)) (boxIn (args .bounds .now)) (args .part .now) (c .empty .result .each) (c .empty .ensures)
+
+mul-t : tie.Need-mul-t Inv-loop μ-loop
+mul-t c = search needs
+
+shared-slice-read-t : tie.Need-shared-slice-read-t Inv-loop μ-loop
+shared-slice-read-t c = search needs
+
+bucket-of-requires : tie.Need-bucket-of-requires Inv-loop μ-loop
+bucket-of-requires c κs = c .before .before .before .before .before .before .pre .1 (c .before .before .loop .i) (c .before .loop-test .taken)
+
+mul-old : tie.Need-mul-old Inv-loop μ-loop
+mul-old c = omega (arith, between-below binary32 _ _ _ _ (c .bucket-of .result) (c .bucket-of .ensures))
+
+element-copy-out-old : tie.Need-element-copy-out-old Inv-loop μ-loop
+element-copy-out-old c = between-below binary32 _ _ _ _ (c .bucket-of .result) (c .bucket-of .ensures)
+
+box-at-requires : tie.Need-box-at-requires Inv-loop μ-loop
+box-at-requires c κs = c .before .before .before .before .before .before .before .before .pre .1 (c .before .before .before .before .loop .i) (c .before .before .before .loop-test .taken)
+
+with-box-requires : tie.Need-with-box-requires Inv-loop μ-loop
+with-box-requires c κs =
+    let args = c .before .before .before .before .before .before .before .before .before .args in
+    let loop = c .before .before .before .before .before .loop in
+    filling-small asBucket binary32 (bucketBetween binary32 (asAxis (args .axis)) (args .within .lo) (args .within .hi)) (boxIn (args .bounds .now)) (args .part .now) (loop .buckets .each) (loop .i) (c .before .before .bucket-of .result) noBucket (loop .inv)
+    (between-below binary32 _ _ _ _ (c .before .before .bucket-of .result) (c .before .before .bucket-of .ensures)) (c .before .before .before .before .loop-test .taken) (c .before .before .before .before .before .before .before .before .before .pre .0)
+
+mul-new : tie.Need-mul-new Inv-loop μ-loop
+mul-new c = omega (arith, between-below binary32 _ _ _ _ (c .before .before .before .bucket-of .result) (c .before .before .before .bucket-of .ensures))
+
+element-set-from-new : tie.Need-element-set-from-new Inv-loop μ-loop
+element-set-from-new c = between-below binary32 _ _ _ _ (c .before .before .before .bucket-of .result) (c .before .before .before .bucket-of .ensures)
+
+add-i : tie.Need-add-i Inv-loop μ-loop
+add-i c = search needs
+
+loop-less : tie.Need-loop-less Inv-loop μ-loop
+loop-less c = omega arith
+
+loop-again : tie.Need-loop-again Inv-loop μ-loop
+loop-again c =
+    let args = c .before .before .before .before .before .before .before .before .before .before .args in
+    let loop = c .before .before .before .before .before .before .loop in
+    filling-goes-on asBucket binary32 (bucketBetween binary32 (asAxis (args .axis)) (args .within .lo) (args .within .hi)) (boxIn (args .bounds .now)) (args .part .now) (loop .buckets .each) (loop .i) (c .before .before .before .bucket-of .result) noBucket (loop .inv)
+    (between-below binary32 _ _ _ _ (c .before .before .before .bucket-of .result) (c .before .before .before .bucket-of .ensures)) (c .with-box .result) (asBox (c .before .box-at .result)) (c .before .before .before .before .before .loop-test .taken) (c .before .before .before .bucket-of .ensures) (c .with-box .ensures) (c .before .box-at .ensures)
+
+returns : tie.Need-returns Inv-loop μ-loop
+returns c =
+    let args = c .before .before .before .before .before .args in
+    let loop = c .before .loop in
+    filling-ends asBucket binary32 (bucketBetween binary32 (asAxis (args .axis)) (args .within .lo) (args .within .hi)) (boxIn (args .bounds .now)) (args .part .now) (loop .buckets .each) (loop .i) (c .loop-test .left) (loop .inv)
+
+pub fill-spec : {M : Type 1} → statement M
+fill-spec =
+    tie.close
+    (tie.spec
+    Inv-loop
+    μ-loop
+    empty-requires
+    loop-holds
+    mul-t
+    shared-slice-read-t
+    bucket-of-requires
+    mul-old
+    element-copy-out-old
+    box-at-requires
+    with-box-requires
+    mul-new
+    element-set-from-new
+    add-i
+    loop-less
+    loop-again
+    returns)

@@ -1,0 +1,20 @@
+-- `splits::Bucket::merged` meets its contract: what `union_box` ensures.
+-- Assumes nothing.
+use Prim.Native.Nat.{_+_}
+use Rattle.spec_splits.specs.Buckets.{merged}
+use borrow.Author.Needs.{needs}
+use Rattle.splits.proofs.buckets.Bucket.merged.Statement.{statement}
+use Rattle.splits.proofs.buckets.Bucket.merged.Tie as tie
+
+add-t3 : tie.Need-add-t3
+add-t3 c = search needs
+
+union-box-requires : tie.Need-union-box-requires
+union-box-requires c κs = search needs
+
+returns : tie.Need-returns
+unfolding merged
+returns c = λ i. record { count = c .before .before .before .args .self .count + c .before .before .before .args .other .count; bounds = c .union-box .ensures i }
+
+pub merged-spec : {M : Type 1} → statement M
+merged-spec = tie.close (tie.spec add-t3 union-box-requires returns)

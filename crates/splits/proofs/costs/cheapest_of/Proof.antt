@@ -1,0 +1,79 @@
+-- `splits::cheapest_of` meets its contract. The invariant: going through the costs that are left, from the best now, gives what all give.
+-- Assumes nothing.
+use mathlib.Core.Path.{_≡_, ap}
+use mathlib.Core.List.{foldl}
+use Prim.Native.Nat.{_-_, _≤_}
+use native.Mathlib.Omega.{arith}
+use borrow.Author.Needs.{needs}
+use lib.ListN.{length, drop}
+use lib.Ieee.{nan}
+use Rattle.spec_splits.specs.Area.{Cheapest, noneYet, withCost, cheapestOf}
+use Rattle.spec_splits.proofs.Turns.{fold-on, fold-ended}
+use Rattle.spec_splits.proofs.Area.{seen-goes-on}
+use Rattle.splits.specs.Values.{asCheapest}
+use Rattle.splits.proofs.costs.cheapest_of.Statement.{statement}
+use Rattle.splits.proofs.costs.cheapest_of.Tie as tie
+
+abbrev Inv-loop : tie.InvT-loop
+Inv-loop costs best₀ i₀ best i = (i ≤ 11) × ((best .seen ≡ i) × (foldl withCost (asCheapest best) (drop i costs) ≡ cheapestOf costs))
+
+abbrev μ-loop : tie.MeasureT-loop
+μ-loop costs best₀ i₀ best i = 11 - i
+
+none-yet-requires : tie.Need-none-yet-requires Inv-loop μ-loop
+none-yet-requires c κs = search needs
+
+loop-holds : tie.Need-loop-holds Inv-loop μ-loop
+unfolding noneYet cheapestOf
+loop-holds c =
+    (omega arith, (ap (λ (s : Cheapest). s .seen) (c .none-yet .ensures), ap (λ (s : Cheapest). foldl withCost s (c .before .args .t1)) (c .none-yet .ensures)))
+
+mul-with-cost : tie.Need-mul-with-cost Inv-loop μ-loop
+mul-with-cost c = search needs
+
+array-read-with-cost : tie.Need-array-read-with-cost Inv-loop μ-loop
+array-read-with-cost c = search needs
+
+with-cost-requires : tie.Need-with-cost-requires Inv-loop μ-loop
+with-cost-requires c κs = omega arith
+
+add-i : tie.Need-add-i Inv-loop μ-loop
+add-i c = search needs
+
+loop-less : tie.Need-loop-less Inv-loop μ-loop
+loop-less c = omega arith
+
+loop-again : tie.Need-loop-again Inv-loop μ-loop
+loop-again c =
+    let args = c .before .before .before .before .args in
+    let loop = c .before .before .loop in
+    let full : length (args .t1) ≡ 11 = search needs in (
+      omega arith,
+      (
+        seen-goes-on (asCheapest (loop .best)) (asCheapest (c .with-cost .result)) _ (loop .i) (c .with-cost .ensures) (loop .inv .1 .0),
+        fold-on nan withCost (args .t1) (loop .i) (asCheapest (loop .best)) _ (asCheapest (c .with-cost .result)) (omega (arith, full)) (c .with-cost .ensures) (loop .inv .1 .1),
+      ),
+    )
+
+returns : tie.Need-returns Inv-loop μ-loop
+returns c =
+    let args = c .before .before .before .args in
+    let loop = c .before .loop in
+    let full : length (args .t1) ≡ 11 = search needs in
+    fold-ended nan withCost (args .t1) (loop .i) (asCheapest (loop .best)) _ (omega (arith, full)) (loop .inv .1 .1)
+
+pub cheapest-of-spec : {M : Type 1} → statement M
+cheapest-of-spec =
+    tie.close
+    (tie.spec
+    Inv-loop
+    μ-loop
+    none-yet-requires
+    loop-holds
+    mul-with-cost
+    array-read-with-cost
+    with-cost-requires
+    add-i
+    loop-less
+    loop-again
+    returns)

@@ -1,0 +1,28 @@
+-- `splits::cost_of` meets its contract: infinite where a side is empty, and else the weights over the parent's area.
+-- Assumes nothing.
+use lib.Ieee.{ofBits, div}
+use Rattle.spec_splits.specs.Area.{cost}
+use borrow.Author.Needs.{needs}
+use Rattle.splits.proofs.costs.cost_of.Statement.{statement}
+use Rattle.splits.proofs.costs.cost_of.Tie as tie
+
+returns : tie.Need-returns
+unfolding cost ofBits div
+returns c = rw (c .if1 .taken)
+
+weight-of-requires : tie.Need-weight-of-requires
+weight-of-requires c κs = search needs
+
+weight-of-requires-2 : tie.Need-weight-of-requires-2
+weight-of-requires-2 c κs = search needs
+
+area-requires : tie.Need-area-requires
+area-requires c κs = search needs
+
+returns-2 : tie.Need-returns-2
+unfolding cost ofBits
+returns-2 c = rw (c .before .before .before .if1 .left, c .area .ensures, c .before .weight-of2 .ensures, c .before .before .weight-of .ensures)
+
+pub cost-of-spec : {M : Type 1} → statement M
+cost-of-spec =
+    tie.close (tie.spec returns weight-of-requires weight-of-requires-2 area-requires returns-2)

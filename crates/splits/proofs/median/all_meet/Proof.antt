@@ -1,0 +1,79 @@
+-- `splits::all_meet` meets its contract. The invariant: asking the boxes that are left gives what asking the whole part gives.
+-- Assumes nothing.
+use mathlib.Core.Path.{_≡_, refl, sym, ap, _∙_}
+use Prim.Native.Nat.{_-_}
+use native.Mathlib.Omega.{arith}
+use borrow.Author.Needs.{needs}
+use lib.ListN.{length, drop}
+use lib.Ieee.{binary32}
+use Rattle.spec_shapes.specs.Planes.{meetsBox}
+use Rattle.shapes.specs.Values.{asPlane}
+use Rattle.spec_splits.specs.Splits.{boxIn, boxesIn}
+use Rattle.spec_splits.specs.Median.{allMeet}
+use Rattle.spec_splits.proofs.Median.{not-true, not-false, meeting-stops, meeting-goes-on, meeting-ends}
+use Rattle.splits.proofs.median.all_meet.Statement.{statement}
+use Rattle.splits.proofs.median.all_meet.Tie as tie
+
+abbrev Inv-loop : tie.InvT-loop
+Inv-loop bounds part plane i₀ i = allMeet binary32 (asPlane plane) (boxesIn bounds (drop i part)) ≡ allMeet binary32 (asPlane plane) (boxesIn bounds part)
+
+abbrev μ-loop : tie.MeasureT-loop
+μ-loop bounds part plane i₀ i = length part - i
+
+loop-holds : tie.Need-loop-holds Inv-loop μ-loop
+loop-holds c = refl
+
+mul-box-at : tie.Need-mul-box-at Inv-loop μ-loop
+mul-box-at c = search needs
+
+shared-slice-read-box-at : tie.Need-shared-slice-read-box-at Inv-loop μ-loop
+shared-slice-read-box-at c = search needs
+
+box-at-requires : tie.Need-box-at-requires Inv-loop μ-loop
+box-at-requires c κs = c .before .before .before .before .before .pre (c .before .before .loop .i) (c .before .loop-test .taken)
+
+intersects-box3-requires : tie.Need-intersects-box3-requires Inv-loop μ-loop
+intersects-box3-requires c κs = search needs
+
+returns : tie.Need-returns Inv-loop μ-loop
+returns c =
+    let args = c .before .before .before .before .before .before .before .before .args in
+    let loop = c .before .before .before .before .before .loop in
+    let test = sym (c .before .intersects-box3 .ensures ∙ ap (meetsBox binary32 (asPlane (args .plane))) (c .before .before .box-at .ensures)) in
+    meeting-stops binary32 (asPlane (args .plane)) (boxIn (args .bounds .now)) (args .part .now) (loop .i) _ (c .before .before .before .before .loop-test .taken) (test ∙ not-true _ (c .if1 .taken)) (loop .inv)
+
+add-i : tie.Need-add-i Inv-loop μ-loop
+add-i c = search needs
+
+loop-less : tie.Need-loop-less Inv-loop μ-loop
+loop-less c = omega arith
+
+loop-again : tie.Need-loop-again Inv-loop μ-loop
+loop-again c =
+    let args = c .before .before .before .before .before .before .before .before .args in
+    let loop = c .before .before .before .before .before .loop in
+    let test = sym (c .before .intersects-box3 .ensures ∙ ap (meetsBox binary32 (asPlane (args .plane))) (c .before .before .box-at .ensures)) in
+    meeting-goes-on binary32 (asPlane (args .plane)) (boxIn (args .bounds .now)) (args .part .now) (loop .i) _ (c .before .before .before .before .loop-test .taken) (test ∙ not-false _ (c .if1 .left)) (loop .inv)
+
+returns-2 : tie.Need-returns-2 Inv-loop μ-loop
+returns-2 c =
+    let args = c .before .before .before .before .args in
+    let loop = c .before .loop in
+    meeting-ends binary32 (asPlane (args .plane)) (boxIn (args .bounds .now)) (args .part .now) (loop .i) _ (c .loop-test .left) (loop .inv)
+
+pub all-meet-spec : {M : Type 1} → statement M
+all-meet-spec =
+    tie.close
+    (tie.spec
+    Inv-loop
+    μ-loop
+    loop-holds
+    mul-box-at
+    shared-slice-read-box-at
+    box-at-requires
+    intersects-box3-requires
+    returns
+    add-i
+    loop-less
+    loop-again
+    returns-2)

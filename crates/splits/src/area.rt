@@ -1,0 +1,59 @@
+// The area rule.
+ghost use mathlib.Core.Path.{_≡_};
+ghost use Prim.Native.Nat.{_^_, _<_};
+ghost use lib.ListN.{length};
+ghost use lib.Ieee.{binary32};
+ghost use Rattle.shapes.specs.Values as Shapes;
+ghost use Rattle.spec_splits.specs.Splits as Splits;
+ghost use Rattle.spec_splits.specs.Area as Area;
+ghost use Rattle.splits.specs.Values as Costs;
+ghost use Rattle.splits.specs.Values as Cuts;
+use crate::bucketing::Span;
+use crate::bucketing::bucket_of;
+use crate::bucketing::centre_span;
+use crate::bucketing::fill;
+use crate::costs::Cheapest;
+use crate::costs::cheapest_of;
+use crate::costs::costs_of;
+use crate::split::Split;
+use shapes::box3::Box3;
+use shapes::vec3::Axis;
+
+// Before the first object that lies in a bucket later than k.
+fn first_later(bounds: &[f32], part: &[u32], axis: Axis, within: Span, k: usize) -> Split
+    requires { ⌜ Splits.AllInTable (now bounds) (now part) ⌝ }
+    ensures { λ r. ⌜ Cuts.asSplit r ≡ Area.firstLater (Area.bucketBetween binary32 (Shapes.asAxis axis) (within .lo) (within .hi)) k (Splits.boxesIn (now (bounds .entry)) (now (part .entry))) 0 ⌝ }
+{
+    let mut i = 0;
+    while i < part.len() {
+        if k < bucket_of(bounds, part[i], axis, within) {
+            return Split::At(i);
+        }
+        i += 1;
+    }
+    Split::Nowhere
+}
+
+// Where the first smallest cost cuts, if it is below the object count.
+fn cut_by(bounds: &[f32], part: &[u32], axis: Axis, within: Span, best: Cheapest) -> Split
+    requires { ⌜ length (now part) < 2 ^ 28 ⌝ }
+    requires { ⌜ Splits.AllInTable (now bounds) (now part) ⌝ }
+    ensures { λ r. ⌜ Cuts.asSplit r ≡ Area.cutBy binary32 (Area.bucketBetween binary32 (Shapes.asAxis axis) (within .lo) (within .hi)) (Costs.asCheapest best) (Splits.boxesIn (now (bounds .entry)) (now (part .entry))) ⌝ }
+{
+    let leaf_cost = std::num::nearest_u32_to_f32(part.len() as u32);
+    if best.are_numbers & (best.cost < leaf_cost) {
+        return first_later(bounds, part, axis, within, best.index);
+    }
+    Split::Nowhere
+}
+
+pub fn area_split(bounds: &[f32], part: &[u32], axis: Axis, parent: Box3) -> Split
+    requires { ⌜ length (now part) < 2 ^ 28 ⌝ }
+    requires { ⌜ Splits.Boxed binary32 (now bounds) (now part) ⌝ }
+    ensures { λ r. ⌜ Cuts.asSplit r ≡ Area.areaSplit binary32 (Shapes.asAxis axis) (Shapes.asBox parent) (Splits.boxesIn (now (bounds .entry)) (now (part .entry))) ⌝ }
+{
+    let within = centre_span(bounds, part, axis);
+    let buckets = fill(bounds, part, axis, within);
+    let best = cheapest_of(costs_of(buckets, parent));
+    cut_by(bounds, part, axis, within, best)
+}

@@ -1,0 +1,78 @@
+// The boxes of a part, put into twelve buckets by where their centres lie on an axis.
+ghost use mathlib.Core.Path.{_≡_};
+ghost use Prim.Native.Nat.{_^_, _<_};
+ghost use lib.ListN.{length};
+ghost use lib.Ieee.{binary32};
+ghost use Rattle.shapes.specs.Values as Shapes;
+ghost use Rattle.spec_splits.specs.Splits as Splits;
+ghost use Rattle.spec_splits.specs.Area as Area;
+ghost use Rattle.splits.specs.Values as Costs;
+use crate::buckets::Buckets;
+use crate::table::box_at;
+use crate::table::centre_on;
+use shapes::box3::offset_on;
+use shapes::vec3::Axis;
+
+// 12 times the offset, cut to a whole number, at most 11: a NaN and what is below zero are 0.
+fn bucket_for(offset: f32) -> usize
+    ensures { λ r. ⌜ r ≡ Area.bucketFor binary32 offset ⌝ }
+{
+    let x = 12.0 * offset;
+    if x >= 11.0 {
+        return 11;
+    }
+    if x >= 0.0 {
+        return std::num::truncating_f32_to_u64(x) as usize;
+    }
+    0
+}
+
+// Where the centres lie on an axis.
+pub struct Span {
+    pub lo: f32,
+    pub hi: f32,
+}
+
+// The bucket of triangle t's box.
+pub fn bucket_of(bounds: &[f32], t: u32, axis: Axis, within: Span) -> usize
+    requires { ⌜ Splits.InTable (now bounds) t ⌝ }
+    ensures { λ r. ⌜ r ≡ Area.bucketBetween binary32 (Shapes.asAxis axis) (within .lo) (within .hi) (Splits.boxIn (now (bounds .entry)) t) ⌝ }
+{
+    bucket_for(offset_on(within.lo, within.hi, centre_on(bounds, t, axis)))
+}
+
+// The ends of the centres' bounds on the axis: the other two axes are never asked for.
+pub fn centre_span(bounds: &[f32], part: &[u32], axis: Axis) -> Span
+    requires { ⌜ Splits.AllInTable (now bounds) (now part) ⌝ }
+    ensures { λ r. ⌜ Area.EndsOf (Shapes.asAxis axis) (Area.centreBounds binary32 (Splits.boxesIn (now (bounds .entry)) (now (part .entry)))) (r .lo) (r .hi) ⌝ }
+{
+    let mut lo = 3.4028235e38;
+    let mut hi = -3.4028235e38;
+    let mut i = 0;
+    while i < part.len() {
+        let centre = centre_on(bounds, part[i], axis);
+        lo = floats::min2(lo, centre);
+        hi = floats::max2(hi, centre);
+        i += 1;
+    }
+    Span { lo, hi }
+}
+
+// The part's boxes in their buckets.
+pub fn fill(bounds: &[f32], part: &[u32], axis: Axis, within: Span) -> Buckets
+    requires { ⌜ length (now part) < 2 ^ 28 ⌝ }
+    requires { ⌜ Splits.AllInTable (now bounds) (now part) ⌝ }
+    ensures { λ r. ⌜ Costs.asBuckets r ≡ Area.filled binary32 (Area.bucketBetween binary32 (Shapes.asAxis axis) (within .lo) (within .hi)) (Splits.boxesIn (now (bounds .entry)) (now (part .entry))) ⌝ }
+{
+    let mut buckets = Buckets::empty();
+    let mut i = 0;
+    while i < part.len() {
+        let t = part[i];
+        let k = bucket_of(bounds, t, axis, within);
+        let old = buckets.each[k];
+        let new = old.with_box(box_at(bounds, t));
+        buckets.each[k] = new;
+        i += 1;
+    }
+    buckets
+}

@@ -1,3 +1,0 @@
-mod Dividing
-mod SetApart
-mod BothSides

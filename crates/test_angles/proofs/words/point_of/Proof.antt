@@ -1,0 +1,39 @@
+-- `replay_angles::words::point_of` meets its contract. Assumes nothing.
+use Rattle.test_angles.specs.Words.{pointAt}
+use borrow.Author.Needs.{needs}
+use Rattle.test_angles.proofs.words.point_of.Statement.{statement}
+use Rattle.test_angles.proofs.words.point_of.Tie as tie
+
+place-requires : tie.Need-place-requires
+place-requires c κs = search needs
+
+number-at-requires : tie.Need-number-at-requires
+number-at-requires c κs = search needs
+
+place-requires-2 : tie.Need-place-requires-2
+place-requires-2 c κs = search needs
+
+number-at-requires-2 : tie.Need-number-at-requires-2
+number-at-requires-2 c κs = search needs
+
+place-requires-3 : tie.Need-place-requires-3
+place-requires-3 c κs = search needs
+
+number-at-requires-3 : tie.Need-number-at-requires-3
+number-at-requires-3 c κs = search needs
+
+returns : tie.Need-returns
+unfolding pointAt
+returns c = rw (c .number-at3 .ensures, c .before .place3 .ensures, c .before .before .number-at2 .ensures, c .before .before .before .place2 .ensures, c .before .before .before .before .number-at .ensures, c .before .before .before .before .before .place .ensures)
+
+pub point-of-spec : {M : Type 1} → statement M
+point-of-spec =
+    tie.close
+    (tie.spec
+    place-requires
+    number-at-requires
+    place-requires-2
+    number-at-requires-2
+    place-requires-3
+    number-at-requires-3
+    returns)

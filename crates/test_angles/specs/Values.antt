@@ -1,0 +1,6 @@
+-- The program's values as the definitions' own. Definitions only.
+use Rattle.test_angles.specs.Cases.{Compared}
+use Rattle.test_angles.specs.declared.cases.Case.{Case}
+
+abbrev pub asCompared : Case → Compared
+asCompared c = record { right = c .right; ours = c .ours; theirs = c .theirs }

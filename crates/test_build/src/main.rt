@@ -1,0 +1,9 @@
+// Prints what the build makes of many triangles, and what it answers where the room just does or does not. The file
+// `stdout` beside src/ has the Rust's trees, from tests/oracle/large.rs, and at its end four lines written by hand.
+mod large;
+mod rooms;
+
+fn main() {
+    crate::large::put_all();
+    crate::rooms::put_all();
+}

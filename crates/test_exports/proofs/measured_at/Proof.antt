@@ -1,0 +1,18 @@
+-- `test_exports::measured_at` tells how many triangles the sure search measures. Assumes nothing.
+use mathlib.Core.Path.{ap}
+use Rattle.spec_search.specs.Answers.{Answer}
+use Rattle.spec_search.specs.Walk.{Sought}
+use Rattle.spec_search.specs.Sure.{limitOf}
+use borrow.Author.Needs.{needs}
+use Rattle.test_exports.proofs.measured_at.Statement.{statement}
+use Rattle.test_exports.proofs.measured_at.Tie as tie
+
+search-requires : tie.Need-search-requires
+search-requires c κs = search needs
+
+returns : tie.Need-returns
+unfolding limitOf
+returns c = ap (λ (s : Sought Answer). s .measured) (c .search .ensures)
+
+pub measured-at-spec : {M : Type 1} → statement M
+measured-at-spec = tie.close (tie.spec search-requires returns)

@@ -1,0 +1,73 @@
+-- `test_exports::timing_measured` calls the search only where its lists passed. Assumes nothing.
+use mathlib.Core.Path.{_≡_, _∙_, sym, ap}
+use mathlib.Core.Bool.{Bool}
+use Rattle.spec_lists.specs.Refusals.{Verdict, refuses}
+use Rattle.test_exports.specs.Told.{measuredFirst}
+use Rattle.test_exports.proofs.Branches.{when, unless}
+use Rattle.spec_lists.proofs.Verdicts.{did-pass}
+use Rattle.spec_lists.proofs.Passed.{triangles-passed}
+use borrow.Author.Needs.{needs}
+use borrow.Author.Tests.{le-leb, lt-leb}
+use Rattle.test_exports.proofs.timing_measured.Statement.{statement}
+use Rattle.test_exports.proofs.timing_measured.Tie as tie
+
+-- what was asked of a verdict, of the test that it answers
+asked : (v test : Verdict) (b a : Bool) → v ≡ test → b ≡ refuses v → b ≡ a → refuses test ≡ a
+asked v test b a e r t = sym (ap refuses e) ∙ sym r ∙ t
+
+triangles-refusal-requires : tie.Need-triangles-refusal-requires
+triangles-refusal-requires c κs = search needs
+
+refuses-requires : tie.Need-refuses-requires
+refuses-requires c κs = search needs
+
+returns : tie.Need-returns
+unfolding measuredFirst
+returns c = when _ _ _ (asked _ _ _ _ (c .before .before .triangles-refusal .ensures) (c .before .refuses .ensures) (c .if1 .taken))
+
+is-accepted-requires : tie.Need-is-accepted-requires
+is-accepted-requires c κs = triangles-passed _ (did-pass _ _ _ (c .before .before .triangles-refusal .ensures) (c .before .refuses .ensures) (c .if1 .left)) .few
+
+point-at-requires : tie.Need-point-at-requires
+point-at-requires c κs = search needs
+
+measured-at-requires : tie.Need-measured-at-requires
+measured-at-requires c κs = record {
+  triangles-good = triangles-passed _ (did-pass _ _ _ (c .before .before .before .before .before .before .triangles-refusal .ensures) (c .before .before .before .before .before .refuses .ensures) (c .before .before .before .before .if1 .left));
+  tree-accepted = sym (c .before .before .before .is-accepted .ensures) ∙ c .before .before .if2 .taken;
+}
+
+returns-2 : tie.Need-returns-2
+unfolding measuredFirst
+returns-2 c =
+    rw (c .before .point-at .ensures) at (c .measured-at .ensures)
+    ∙ when _ _ _ (le-leb _ _ (c .before .before .if3 .taken))
+    ∙ when _ _ _ (sym (c .before .before .before .before .is-accepted .ensures) ∙ c .before .before .before .if2 .taken)
+    ∙ unless _ _ _ (asked _ _ _ _ (c .before .before .before .before .before .before .before .triangles-refusal .ensures) (c .before .before .before .before .before .before .refuses .ensures) (c .before .before .before .before .before .if1 .left))
+
+returns-3 : tie.Need-returns-3
+unfolding measuredFirst
+returns-3 c =
+    unless _ _ _ (lt-leb _ _ (c .if3 .left))
+    ∙ when _ _ _ (sym (c .before .before .is-accepted .ensures) ∙ c .before .if2 .taken)
+    ∙ unless _ _ _ (asked _ _ _ _ (c .before .before .before .before .before .triangles-refusal .ensures) (c .before .before .before .before .refuses .ensures) (c .before .before .before .if1 .left))
+
+returns-4 : tie.Need-returns-4
+unfolding measuredFirst
+returns-4 c =
+    unless _ _ _ (sym (c .before .is-accepted .ensures) ∙ c .if2 .left)
+    ∙ unless _ _ _ (asked _ _ _ _ (c .before .before .before .before .triangles-refusal .ensures) (c .before .before .before .refuses .ensures) (c .before .before .if1 .left))
+
+pub timing-measured-spec : {M : Type 1} → statement M
+timing-measured-spec =
+    tie.close
+    (tie.spec
+    triangles-refusal-requires
+    refuses-requires
+    returns
+    is-accepted-requires
+    point-at-requires
+    measured-at-requires
+    returns-2
+    returns-3
+    returns-4)

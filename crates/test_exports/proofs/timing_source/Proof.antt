@@ -1,0 +1,22 @@
+-- `test_exports::timing_source` writes the query's answers, and tells whether there are any. Assumes nothing.
+use mathlib.Core.Path.{ap, _∙_}
+use Rattle.test_exports.specs.Told.{onePassed}
+use borrow.Author.Needs.{needs}
+use Rattle.test_exports.proofs.timing_source.Statement.{statement}
+use Rattle.test_exports.proofs.timing_source.Tie as tie
+
+source-query-requires : tie.Need-source-query-requires
+source-query-requires c κs = search needs
+
+one-passed-requires : tie.Need-one-passed-requires
+one-passed-requires c κs = search needs
+
+same-length : tie.Need-same-length
+same-length c = search needs
+
+returns : tie.Need-returns
+returns c = (c .one-passed .ensures ∙ ap onePassed (c .before .before .before .source-query .ensures .0), rw (c .before .before .before .source-query .ensures .0) at (c .before .before .before .source-query .ensures .1))
+
+pub timing-source-spec : {M : Type 1} → statement M
+timing-source-spec =
+    tie.close (tie.spec source-query-requires one-passed-requires same-length returns)

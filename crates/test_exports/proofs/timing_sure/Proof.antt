@@ -1,0 +1,21 @@
+-- `test_exports::timing_sure` writes the query's answers, and tells whether there are any. Assumes nothing.
+use mathlib.Core.Path.{ap, _∙_}
+use Rattle.test_exports.specs.Told.{onePassed}
+use borrow.Author.Needs.{needs}
+use Rattle.test_exports.proofs.timing_sure.Statement.{statement}
+use Rattle.test_exports.proofs.timing_sure.Tie as tie
+
+sure-query-requires : tie.Need-sure-query-requires
+sure-query-requires c κs = search needs
+
+one-passed-requires : tie.Need-one-passed-requires
+one-passed-requires c κs = search needs
+
+same-length : tie.Need-same-length
+same-length c = search needs
+
+returns : tie.Need-returns
+returns c = (c .one-passed .ensures ∙ ap onePassed (c .before .before .before .sure-query .ensures .0), rw (c .before .before .before .sure-query .ensures .0) at (c .before .before .before .sure-query .ensures .1))
+
+pub timing-sure-spec : {M : Type 1} → statement M
+timing-sure-spec = tie.close (tie.spec sure-query-requires one-passed-requires same-length returns)

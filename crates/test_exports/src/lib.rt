@@ -1,0 +1,239 @@
+// Exports for tests/timing, tests/compare and tests/peers; no part of the engine.
+ghost use mathlib.Core.Path.{_≡_};
+ghost use lib.ListN.{length};
+ghost use lib.Ieee.{binary32};
+ghost use Rattle.lists.specs.Values as Lists;
+ghost use Rattle.shapes.specs.Values as Shapes;
+ghost use Rattle.build.specs.Values as Builds;
+ghost use Rattle.spec_tree.specs.Refusals as Trees;
+ghost use Rattle.spec_angles.specs.Windings as Windings;
+ghost use Rattle.spec_search.specs.Sure as Sure;
+ghost use Rattle.spec_search.specs.Calls as Calls;
+ghost use Rattle.test_exports.specs.Told as Told;
+use build::calls::Built;
+use lists::reading::point_at;
+use lists::reading::triangle_at;
+use lists::tests::triangles_refusal;
+use lists::verdict::Verdict;
+use shapes::vec3::Vec3;
+use tree::check::is_accepted;
+use walks::answer::Asked;
+use walks::sure::search;
+
+fn one_passed(verdict: Verdict) -> u32
+    ensures { λ r. ⌜ r ≡ Told.onePassed (Lists.asVerdict verdict) ⌝ }
+{
+    match verdict {
+        Verdict::Passed => 1,
+        Verdict::Refused { .. } => 0,
+    }
+}
+
+fn nodes_told(built: Built) -> usize
+    ensures { λ r. ⌜ r ≡ Told.nodesTold (Builds.asBuilt built) ⌝ }
+{
+    match built {
+        Built::Tree { nodes, depth: _ } => nodes,
+        Built::Refused { .. } => 0,
+    }
+}
+
+fn depth_told(built: Built) -> usize
+    ensures { λ r. ⌜ r ≡ Told.depthTold (Builds.asBuilt built) ⌝ }
+{
+    match built {
+        Built::Tree { nodes: _, depth } => depth,
+        Built::Refused { .. } => 0,
+    }
+}
+
+// How many nodes were built, 0 for a refusal.
+#[no_mangle]
+pub extern "C" fn timing_build(
+    triangles: &[f32],
+    strategy: usize,
+    leaf_minimum: usize,
+    maximum_depth: usize,
+    order: &mut [u32],
+    links: &mut [u32],
+    boxes: &mut [f32],
+) -> usize
+    ensures { λ r. ⌜ Told.BuildTold Told.nodesTold binary32 (now (triangles .entry)) (record { strategy = strategy; leafMinimum = «leaf_minimum»; maximumDepth = «maximum_depth» }) (now (order .entry)) (now (links .entry)) (now (boxes .entry)) r (now (order .exit)) (now (links .exit)) (now (boxes .exit)) ⌝ }
+{
+    let built = build::calls::build(
+        triangles,
+        strategy,
+        leaf_minimum,
+        maximum_depth,
+        order,
+        links,
+        boxes,
+    );
+    nodes_told(built)
+}
+
+// The depth that the build tells, 0 for a refusal.
+#[no_mangle]
+pub extern "C" fn timing_depth(
+    triangles: &[f32],
+    strategy: usize,
+    leaf_minimum: usize,
+    maximum_depth: usize,
+    order: &mut [u32],
+    links: &mut [u32],
+    boxes: &mut [f32],
+) -> usize
+    ensures { λ r. ⌜ Told.BuildTold Told.depthTold binary32 (now (triangles .entry)) (record { strategy = strategy; leafMinimum = «leaf_minimum»; maximumDepth = «maximum_depth» }) (now (order .entry)) (now (links .entry)) (now (boxes .entry)) r (now (order .exit)) (now (links .exit)) (now (boxes .exit)) ⌝ }
+{
+    let built = build::calls::build(
+        triangles,
+        strategy,
+        leaf_minimum,
+        maximum_depth,
+        order,
+        links,
+        boxes,
+    );
+    depth_told(built)
+}
+
+// 1 where the query was answered.
+#[no_mangle]
+pub extern "C" fn timing_sure(
+    triangles: &[f32],
+    order: &[u32],
+    links: &[u32],
+    boxes: &[f32],
+    nodes: usize,
+    points: &[f32],
+    distance: f32,
+    answers: &mut [u32],
+) -> u32
+    ensures passed { λ r. ⌜ r ≡ Told.onePassed (Calls.queryRefusal (now (triangles .entry)) (now (order .entry)) (now (links .entry)) (now (boxes .entry)) nodes (now (points .entry)) distance (length (now (answers .entry)))) ⌝ }
+    ensures answers { λ _. ⌜ now (answers .exit) ≡ Calls.afterQuery binary32 (Calls.sureAnswer binary32 (now (triangles .entry)) distance) (now (points .entry)) (Calls.queryRefusal (now (triangles .entry)) (now (order .entry)) (now (links .entry)) (now (boxes .entry)) nodes (now (points .entry)) distance (length (now (answers .entry)))) (now (answers .entry)) ⌝ }
+{
+    let verdict = queries::calls::sure_query(
+        triangles,
+        order,
+        links,
+        boxes,
+        nodes,
+        points,
+        distance,
+        answers,
+    );
+    one_passed(verdict)
+}
+
+#[no_mangle]
+pub extern "C" fn timing_source(
+    triangles: &[f32],
+    order: &[u32],
+    links: &[u32],
+    boxes: &[f32],
+    nodes: usize,
+    points: &[f32],
+    distance: f32,
+    answers: &mut [u32],
+) -> u32
+    ensures passed { λ r. ⌜ r ≡ Told.onePassed (Calls.queryRefusal (now (triangles .entry)) (now (order .entry)) (now (links .entry)) (now (boxes .entry)) nodes (now (points .entry)) distance (length (now (answers .entry)))) ⌝ }
+    ensures answers { λ _. ⌜ now (answers .exit) ≡ Calls.afterQuery binary32 (Calls.sourceAnswer binary32 (now (triangles .entry)) (now (order .entry)) (now (links .entry)) (now (boxes .entry)) nodes distance) (now (points .entry)) (Calls.queryRefusal (now (triangles .entry)) (now (order .entry)) (now (links .entry)) (now (boxes .entry)) nodes (now (points .entry)) distance (length (now (answers .entry)))) (now (answers .entry)) ⌝ }
+{
+    let verdict = queries::calls::source_query(
+        triangles,
+        order,
+        links,
+        boxes,
+        nodes,
+        points,
+        distance,
+        answers,
+    );
+    one_passed(verdict)
+}
+
+#[no_mangle]
+pub extern "C" fn timing_check(
+    triangles: &[f32],
+    order: &[u32],
+    links: &[u32],
+    boxes: &[f32],
+    nodes: usize,
+) -> u32
+    ensures { λ r. ⌜ r ≡ Told.onePassed (Trees.checkRefusal (now (triangles .entry)) (now (order .entry)) (now (links .entry)) (now (boxes .entry)) nodes) ⌝ }
+{
+    let verdict = tree::calls::check(triangles, order, links, boxes, nodes);
+    one_passed(verdict)
+}
+
+fn measured_at(
+    triangles: &[f32],
+    order: &[u32],
+    links: &[u32],
+    boxes: &[f32],
+    nodes: usize,
+    p: Vec3,
+    distance: f32,
+) -> usize
+    requires { ⌜ Calls.Searchable (now triangles) (now order) (now links) (now boxes) nodes ⌝ }
+    ensures { λ r. ⌜ r ≡ Sure.sureWalk binary32 (now (triangles .entry)) (now (order .entry)) (now (links .entry)) (now (boxes .entry)) nodes (Shapes.asPoint p) (Sure.limitOf binary32 distance) .measured ⌝ }
+{
+    let asked = Asked {
+        point: p,
+        limit: distance * distance,
+    };
+    let sought = search(triangles, order, links, boxes, nodes, asked);
+    sought.measured
+}
+
+// How many triangles the sure search measures for the first point.
+#[no_mangle]
+pub extern "C" fn timing_measured(
+    triangles: &[f32],
+    order: &[u32],
+    links: &[u32],
+    boxes: &[f32],
+    nodes: usize,
+    points: &[f32],
+    distance: f32,
+) -> usize
+    ensures { λ r. ⌜ r ≡ Told.measuredFirst binary32 (now (triangles .entry)) (now (order .entry)) (now (links .entry)) (now (boxes .entry)) nodes (now (points .entry)) distance ⌝ }
+{
+    let verdict = triangles_refusal(triangles);
+    if verdict.refuses() {
+        return 0;
+    }
+    if is_accepted(triangles, order, links, boxes, nodes) {
+        if points.len() >= 3 {
+            let p = point_at(points, 0);
+            return measured_at(triangles, order, links, boxes, nodes, p, distance);
+        }
+    }
+    0
+}
+
+// 1 where the winding numbers were written.
+#[no_mangle]
+pub extern "C" fn timing_winding(triangles: &[f32], points: &[f32], windings: &mut [f32]) -> u32
+    ensures passed { λ r. ⌜ r ≡ Told.onePassed (Windings.windingRefusal (now (triangles .entry)) (now (points .entry)) (length (now (windings .entry)))) ⌝ }
+    ensures windings { λ _. ⌜ now (windings .exit) ≡ Windings.afterWinding binary32 (now (triangles .entry)) (now (points .entry)) (now (windings .entry)) ⌝ }
+{
+    let verdict = angles::winding::winding(triangles, points, windings);
+    one_passed(verdict)
+}
+
+// The solid angle of one triangle from one point; no number where there are more or fewer.
+#[no_mangle]
+pub extern "C" fn timing_solid(triangle: &[f32], point: &[f32]) -> f32
+    ensures { λ r. ⌜ r ≡ Told.angleOfOne binary32 (now (triangle .entry)) (now (point .entry)) ⌝ }
+{
+    if triangle.len() != 9 {
+        return 0.0 / 0.0;
+    }
+    if point.len() != 3 {
+        return 0.0 / 0.0;
+    }
+    let t = triangle_at(triangle, 0);
+    let p = point_at(point, 0);
+    angles::solid_angle::solid_angle(t, p)
+}

@@ -1,0 +1,41 @@
+-- `test_gauge::print_one` is safe and ends: what was printed is within the list that it was printed into.
+-- An array's length is had by the law of `replicate`: computed, it costs by the length.
+-- Assumes nothing.
+use mathlib.Core.Path.{sym}
+use Prim.Native.Nat.{ℕ}
+use native.Mathlib.Nat.{le-of-eq}
+use lib.ListN.{length-replicate}
+use lib.Seq.{length-take-le}
+use Rattle.spec_tables.proofs.Tables.{put-long}
+use borrow.Author.Needs.{needs}
+use Rattle.test_gauge.proofs.print_one.Statement.{statement}
+use Rattle.test_gauge.proofs.print_one.Tie as tie
+
+slice-aggregate-print : tie.Need-slice-aggregate-print
+slice-aggregate-print c = sym (length-replicate {A = ℕ} 229405 0)
+
+print-requires : tie.Need-print-requires
+print-requires c κs = le-of-eq (sym (length-replicate {A = ℕ} 229405 0))
+
+array-share-prefix-out : tie.Need-array-share-prefix-out
+array-share-prefix-out c = rw (put-long (c .before .print .ensures)) (c .before .print .ensures .within)
+
+slice-aggregate-write-all : tie.Need-slice-aggregate-write-all
+slice-aggregate-write-all c = sym (length-take-le _ _ (array-share-prefix-out (c .before)))
+
+write-all-requires : tie.Need-write-all-requires
+write-all-requires c κs = search needs
+
+returns : tie.Need-returns
+returns c = search needs
+
+pub print-one-spec : {M : Type 1} → statement M
+print-one-spec =
+    tie.close
+    (tie.spec
+    slice-aggregate-print
+    print-requires
+    array-share-prefix-out
+    slice-aggregate-write-all
+    write-all-requires
+    returns)

@@ -1,0 +1,167 @@
+// Prints what each case on standard input is: as an image, as `gauge`'s input, and, where the image
+// reader takes it, whether putting what was read gives the same bytes, and what the writer says. A case
+// is its length, in four bytes, and its bytes; tests/records/generate.rs made the cases and, by a reading
+// of its own, `stdout`.
+ghost use mathlib.Core.Path.{_≡_};
+ghost use Prim.Native.Nat.{_*_, _≤_};
+ghost use lib.ListN.{length};
+use image::read::ImageRead;
+use image::write::ImageWritten;
+use lists::settings::Settings;
+use records::layout::GaugeLayout;
+use records::layout::ImageLayout;
+
+fn show(line: [u8; 96], end: usize) {
+    if end <= 96 {
+        io::write_all(1, &line[..end]);
+    }
+}
+
+fn image_line(bytes: &[u8], line: &mut [u8; 96]) -> usize {
+    match records::layout::image_layout(bytes) {
+        ImageLayout::Wrong(at) => printing::lines::put_refused(line, 0, 10, at),
+        ImageLayout::Right { triangles, nodes } => printing::lines::put_counts(
+            line,
+            0,
+            triangles,
+            nodes,
+            0,
+        ),
+    }
+}
+
+fn gauge_line(bytes: &[u8], line: &mut [u8; 96]) -> usize {
+    match records::layout::gauge_layout(bytes) {
+        GaugeLayout::Wrong(at) => printing::lines::put_refused(line, 0, 10, at),
+        GaugeLayout::Right { triangles, points } => printing::lines::put_counts(
+            line,
+            0,
+            triangles,
+            points,
+            0,
+        ),
+    }
+}
+
+fn put_layouts(bytes: &[u8]) {
+    let mut line = [0; 96];
+    let end = image_line(bytes, &mut line);
+    show(line, end);
+    let last = gauge_line(bytes, &mut line);
+    show(line, last);
+}
+
+fn put_refusal(number: usize, place: usize) {
+    let mut line = [0; 96];
+    let end = printing::lines::put_refused(&mut line, 0, number, place);
+    show(line, end);
+}
+
+fn put_same(same: bool) {
+    if same {
+        io::write_all(1, b"the same bytes\n");
+    } else {
+        io::write_all(1, b"other bytes\n");
+    }
+}
+
+// The writer is lent fewer bytes than the largest image that is read has.
+fn write_tested(
+    bytes: &[u8],
+    settings: Settings,
+    triangles: &[f32],
+    order: &[u32],
+    links: &[u32],
+    boxes: &[f32],
+    nodes: usize,
+) {
+    let mut out = [0; 300];
+    let written = image::write::write_image(
+        settings.strategy,
+        settings.leaf_minimum,
+        settings.maximum_depth,
+        triangles,
+        order,
+        links,
+        boxes,
+        nodes,
+        &mut out,
+    );
+    match written {
+        ImageWritten::Refused { number, place } => put_refusal(number, place),
+        ImageWritten::Bytes(end) => {
+            if end <= 300 {
+                put_same(check::same(&out[..end], bytes));
+            }
+        }
+    }
+}
+
+fn write_again(
+    bytes: &[u8],
+    settings: Settings,
+    triangles: &[f32],
+    order: &[u32],
+    links: &[u32],
+    boxes: &[f32],
+    nodes: usize,
+)
+    requires { ⌜ (length (now triangles) ≡ 9 * length (now order)) × (length (now order) ≤ 4) ⌝ }
+    requires { ⌜ (3 * nodes ≤ length (now links)) × (6 * nodes ≤ length (now boxes)) × (nodes ≤ 7) ⌝ }
+{
+    let mut out = [0; 400];
+    let end = image::put::put_image(settings, triangles, order, links, boxes, nodes, &mut out);
+    put_same(check::same(&out[..end], bytes));
+    write_tested(bytes, settings, triangles, order, links, boxes, nodes);
+}
+
+// There is room for four triangles and seven nodes.
+fn put_contents(bytes: &[u8]) {
+    let mut triangles = [0.0; 36];
+    let mut order = [0; 4];
+    let mut links = [0; 21];
+    let mut boxes = [0.0; 42];
+    match image::read::read_image(bytes, &mut triangles, &mut order, &mut links, &mut boxes) {
+        ImageRead::Refused { number, place } => put_refusal(number, place),
+        ImageRead::Read {
+            settings,
+            triangles: count,
+            nodes,
+        } => {
+            if count <= 4 {
+                if nodes <= 7 {
+                    write_again(
+                        bytes,
+                        settings,
+                        &triangles[..9 * count],
+                        &order[..count],
+                        &links,
+                        &boxes,
+                        nodes,
+                    );
+                }
+            }
+        }
+    }
+}
+
+fn put_cases(bytes: &[u8]) {
+    let mut at = 0;
+    while at + 4 <= bytes.len() {
+        let start = at + 4;
+        let size = records::numbers::u32_at(bytes, at) as usize;
+        if bytes.len() - start < size {
+            return;
+        }
+        let end = start + size;
+        put_layouts(&bytes[start..end]);
+        put_contents(&bytes[start..end]);
+        at = end;
+    }
+}
+
+fn main() {
+    let mut buffer = io::large_buffer();
+    let n = io::read_full(0, &mut buffer);
+    put_cases(&buffer[..n]);
+}

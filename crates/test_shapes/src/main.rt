@@ -1,0 +1,208 @@
+// Replays what the Rust answers for boxes, planes and closest points (tests/oracle/shapes.rs made
+// the list on standard input): prints how many cases there are and how many words differ, and the
+// first ten that do. A case is 62 words: two triangles, a point, then the answers.
+ghost use Prim.Native.Nat.{_<_};
+use shapes::box3::Box3;
+use shapes::plane3::Plane3;
+use shapes::triangle3::Triangle3;
+use shapes::vec3::Axis;
+use shapes::vec3::Vec3;
+
+// How many cases were seen and how many words differed.
+struct Tally {
+    cases: u64,
+    differ: u64,
+}
+
+fn one_more(n: u64) -> u64 {
+    if n < 1000000000 { n + 1 } else { n }
+}
+
+fn put_difference(case: u64, word: u64, ours: u32, theirs: u32) {
+    io::write_all(1, b"case ");
+    io::print_decimal(1, case);
+    io::write_all(1, b" word ");
+    io::print_decimal(1, word);
+    io::write_all(1, b" ours ");
+    io::print_hex(1, ours as u64, 8);
+    io::write_all(1, b" theirs ");
+    io::print_hex(1, theirs as u64, 8);
+    io::write_all(1, b"\n");
+}
+
+fn word_of(words: &[u32; 62], at: usize) -> u32 {
+    if at < 62 { words[at] } else { 0 }
+}
+
+fn vec_of(words: &[u32; 62], at: usize) -> Vec3 {
+    if at < 60 {
+        Vec3 {
+            x: floats::from_bits(words[at]),
+            y: floats::from_bits(words[at + 1]),
+            z: floats::from_bits(words[at + 2]),
+        }
+    } else {
+        Vec3 {
+            x: 0.0,
+            y: 0.0,
+            z: 0.0,
+        }
+    }
+}
+
+impl Tally {
+    fn word(self, words: &[u32; 62], at: usize, ours: u32) -> Tally {
+        let theirs = word_of(words, at);
+        if ours == theirs {
+            return self;
+        }
+        if self.differ < 10 {
+            put_difference(self.cases, at as u64, ours, theirs);
+        }
+        Tally {
+            cases: self.cases,
+            differ: one_more(self.differ),
+        }
+    }
+
+    fn float(self, words: &[u32; 62], at: usize, ours: f32) -> Tally {
+        self.word(words, at, floats::bits_of(ours))
+    }
+
+    fn vec(self, words: &[u32; 62], at: usize, ours: Vec3) -> Tally {
+        let after_x = self.float(words, at % 60, ours.x);
+        let after_y = after_x.float(words, at % 60 + 1, ours.y);
+        after_y.float(words, at % 60 + 2, ours.z)
+    }
+
+    fn bounds(self, words: &[u32; 62], at: usize, ours: Box3) -> Tally {
+        self.vec(words, at % 60, ours.min)
+            .vec(words, at % 60 + 3, ours.max)
+    }
+
+    fn triangle(self, words: &[u32; 62], t: Triangle3, p: Vec3) -> Tally {
+        let q = t.closest_point(p);
+        self.vec(words, 21, q)
+            .float(words, 24, q.squared_distance(p))
+    }
+
+    fn unions(self, words: &[u32; 62], b: Box3, other: Box3, p: Vec3) -> Tally {
+        let own = self.bounds(words, 25, b);
+        own.bounds(words, 31, b.union_box(other))
+            .bounds(words, 37, b.union_point(p))
+    }
+
+    fn measures(self, words: &[u32; 62], b: Box3, p: Vec3) -> Tally {
+        let sized = self.vec(words, 43, b.centre()).vec(words, 46, b.sizes());
+        let filled = sized
+            .float(words, 49, b.area())
+            .float(words, 50, b.volume());
+        let placed = filled.vec(words, 51, b.offset(p));
+        let near = placed.float(words, 54, b.squared_distance(p));
+        near.word(words, 55, b.contains_point(p) as u32)
+            .vec(words, 56, b.closest_point(p))
+    }
+
+    fn plane(self, words: &[u32; 62], at: usize, axis: Axis, b: Box3, p: Vec3) -> Tally {
+        let plane = Plane3 {
+            normal: shapes::plane3::unit_of(axis),
+            distance: p.on(axis),
+        };
+        self.word(words, at, plane.intersects_box3(b) as u32)
+    }
+
+    fn planes(self, words: &[u32; 62], b: Box3, p: Vec3) -> Tally {
+        let after_x = self.plane(words, 59, Axis::X, b, p);
+        let after_y = after_x.plane(words, 60, Axis::Y, b, p);
+        after_y.plane(words, 61, Axis::Z, b, p)
+    }
+}
+
+fn triangle_of(words: &[u32; 62], at: usize) -> Triangle3 {
+    Triangle3 {
+        a: vec_of(words, at % 50),
+        b: vec_of(words, at % 50 + 3),
+        c: vec_of(words, at % 50 + 6),
+    }
+}
+
+fn replay(words: &[u32; 62], tally: Tally) -> Tally {
+    let t = triangle_of(words, 0);
+    let other = triangle_of(words, 9).bbox();
+    let p = vec_of(words, 18);
+    let b = t.bbox();
+    let closest = tally.triangle(words, t, p);
+    let all = closest
+        .unions(words, b, other, p)
+        .measures(words, b, p)
+        .planes(words, b, p);
+    Tally {
+        cases: one_more(all.cases),
+        differ: all.differ,
+    }
+}
+
+fn wide(b: u8) -> u32
+    ensures { λ r. ⌜ r < 256 ⌝ }
+{
+    b as u32
+}
+
+fn word_at(block: &[u8], at: usize) -> u32 {
+    if at < 65472 {
+        if at + 4 <= block.len() {
+            let low = wide(block[at]) + 256 * wide(block[at + 1]);
+            let high = wide(block[at + 2]) + 256 * wide(block[at + 3]);
+            return low + 65536 * high;
+        }
+    }
+    0
+}
+
+fn words_at(block: &[u8], at: usize) -> [u32; 62] {
+    let mut words = [0u32; 62];
+    for i in 0..62 {
+        words[i] = word_at(block, at % 65472 + 4 * i);
+    }
+    words
+}
+
+// The cases of one block.
+fn replay_block(block: &[u8], tally: Tally) -> Tally {
+    let mut now = tally;
+    for k in 0..264 {
+        if 248 * k + 248 <= block.len() {
+            let words = words_at(block, 248 * k);
+            now = replay(&words, now);
+        }
+    }
+    now
+}
+
+// The next block of standard input: 264 cases, or what is left.
+fn replay_next(tally: Tally) -> Tally {
+    let mut block = [0u8; 65472];
+    let n = io::read_full(0, &mut block);
+    replay_block(&block[..n], tally)
+}
+
+fn replay_all() -> Tally {
+    let mut tally = Tally {
+        cases: 0,
+        differ: 0,
+    };
+    let mut turn: usize = 0;
+    while turn < 100 {
+        tally = replay_next(tally);
+        turn += 1;
+    }
+    tally
+}
+
+fn main() {
+    let tally = replay_all();
+    io::print_decimal(1, tally.cases);
+    io::write_all(1, b" cases, ");
+    io::print_decimal(1, tally.differ);
+    io::write_all(1, b" words differ\n");
+}

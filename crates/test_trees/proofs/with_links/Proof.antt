@@ -1,0 +1,36 @@
+-- `test_trees::with_links` is safe and ends: each part lies in its array.
+-- Assumes nothing.
+use native.Mathlib.Omega.{arith}
+use lib.ListN.{length-take}
+use borrow.Author.Needs.{needs}
+use Rattle.test_trees.proofs.with_links.Statement.{statement}
+use Rattle.test_trees.proofs.with_links.Tie as tie
+
+mul-all : tie.Need-mul-all
+mul-all c = search needs
+
+array-borrow-prefix-all : tie.Need-array-borrow-prefix-all
+array-borrow-prefix-all c = search needs
+
+slice-aggregate-links : tie.Need-slice-aggregate-links
+slice-aggregate-links c = simp length-take (omega arith)
+
+fill-numbers-requires : tie.Need-fill-numbers-requires
+fill-numbers-requires c κs = search needs
+
+with-boxes-requires : tie.Need-with-boxes-requires
+with-boxes-requires c κs = search needs
+
+returns : tie.Need-returns
+returns c = search needs
+
+pub with-links-spec : {M : Type 1} → statement M
+with-links-spec =
+    tie.close
+    (tie.spec
+    mul-all
+    array-borrow-prefix-all
+    slice-aggregate-links
+    fill-numbers-requires
+    with-boxes-requires
+    returns)

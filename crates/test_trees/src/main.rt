@@ -1,0 +1,411 @@
+// Replays trees and source answers of the Rust, and sure answers of a plain scan
+// (tests/oracle/trees.rs made the list on standard input): prints how many cases, trees and points
+// there are and how many words differ, and the first ten that do.
+use build::calls::Built;
+use lists::verdict::Verdict;
+use test_words::fill_floats;
+use test_words::fill_numbers;
+use test_words::more;
+use test_words::pattern_at;
+
+// The first eight words of a case.
+struct Head {
+    triangles: usize,
+    strategy: usize,
+    leaf_minimum: usize,
+    maximum_depth: usize,
+    distance: f32,
+    points: usize,
+    nodes: usize,
+    depth: usize,
+}
+
+// Where the lists of a case begin in its bytes.
+struct Places {
+    points: usize,
+    order: usize,
+    links: usize,
+    boxes: usize,
+    source: usize,
+    sure: usize,
+}
+
+struct Tally {
+    cases: usize,
+    points: usize,
+    differ: usize,
+}
+
+fn number_at(bytes: &[u8], at: usize) -> usize {
+    pattern_at(bytes, at) as usize
+}
+
+fn head_of(bytes: &[u8]) -> Head {
+    Head {
+        triangles: number_at(bytes, 0),
+        strategy: number_at(bytes, 4),
+        leaf_minimum: number_at(bytes, 8),
+        maximum_depth: number_at(bytes, 12),
+        distance: floats::from_bits(pattern_at(bytes, 16)),
+        points: number_at(bytes, 20),
+        nodes: number_at(bytes, 24),
+        depth: number_at(bytes, 28),
+    }
+}
+
+// Whether the case fits the arrays below.
+fn is_small(head: Head) -> bool {
+    (head.triangles <= 24) & (head.points <= 20) & (head.nodes <= 47)
+}
+
+fn places_of(head: Head) -> Places {
+    if is_small(head) {
+        let points = 36 * (head.triangles % 25);
+        let order = points + 12 * (head.points % 21);
+        let links = order + 4 * (head.triangles % 25);
+        let boxes = links + 12 * (head.nodes % 48);
+        let source = boxes + 24 * (head.nodes % 48);
+        let sure = source + 24 * (head.points % 21);
+        return Places {
+            points,
+            order,
+            links,
+            boxes,
+            source,
+            sure,
+        };
+    }
+    Places {
+        points: 0,
+        order: 0,
+        links: 0,
+        boxes: 0,
+        source: 0,
+        sure: 0,
+    }
+}
+
+// How many bytes follow the head.
+fn body_size(head: Head, places: Places) -> usize {
+    more(places.sure, 24 * (head.points % 21))
+}
+
+impl Tally {
+    fn difference(self, what: &[u8], word: usize, ours: u32, theirs: u32) -> Tally {
+        if self.differ < 10 {
+            io::write_all(1, b"case ");
+            io::print_decimal(1, self.cases as u64);
+            io::write_all(1, b" ");
+            io::write_all(1, what);
+            io::write_all(1, b" word ");
+            io::print_decimal(1, word as u64);
+            io::write_all(1, b" ours ");
+            io::print_hex(1, ours as u64, 8);
+            io::write_all(1, b" theirs ");
+            io::print_hex(1, theirs as u64, 8);
+            io::write_all(1, b"\n");
+        }
+        Tally {
+            cases: self.cases,
+            points: self.points,
+            differ: more(self.differ, 1),
+        }
+    }
+
+    fn word(self, what: &[u8], word: usize, ours: u32, theirs: u32) -> Tally {
+        if ours == theirs {
+            return self;
+        }
+        self.difference(what, word, ours, theirs)
+    }
+
+    fn verdict(self, what: &[u8], verdict: Verdict) -> Tally {
+        if verdict.refuses() {
+            return self.difference(what, 0, 1, 0);
+        }
+        self
+    }
+
+    fn counts(self, head: Head, built: Built) -> Tally {
+        match built {
+            Built::Refused { .. } => self.difference(b"build", 0, 1, 0),
+            Built::Tree { nodes, depth } => {
+                if nodes != head.nodes {
+                    return self.difference(b"nodes", 0, 1, 0);
+                }
+                if depth != head.depth {
+                    return self.difference(b"depth", 0, 1, 0);
+                }
+                self
+            }
+        }
+    }
+
+    // The words of ours beside those of the case from a place on.
+    fn words(self, what: &[u8], ours: &[u32], bytes: &[u8], from: usize) -> Tally {
+        let mut now = self;
+        let mut at = from;
+        let mut i = 0;
+        while i < ours.len() {
+            now = now.word(what, i, ours[i], pattern_at(bytes, at));
+            at = more(at, 4);
+            i += 1;
+        }
+        now
+    }
+
+    fn floats(self, what: &[u8], ours: &[f32], bytes: &[u8], from: usize) -> Tally {
+        let mut now = self;
+        let mut at = from;
+        let mut i = 0;
+        while i < ours.len() {
+            now = now.word(what, i, floats::bits_of(ours[i]), pattern_at(bytes, at));
+            at = more(at, 4);
+            i += 1;
+        }
+        now
+    }
+}
+
+fn compare_tree(
+    bytes: &[u8],
+    head: Head,
+    places: Places,
+    order: &[u32],
+    links: &[u32],
+    boxes: &[f32],
+    tally: Tally,
+) -> Tally {
+    let kinds = 3 * (head.nodes % 48);
+    let numbers = 6 * (head.nodes % 48);
+    if kinds > links.len() {
+        return tally;
+    }
+    if numbers > boxes.len() {
+        return tally;
+    }
+    let ordered = tally.words(b"order", order, bytes, places.order);
+    let linked = ordered.words(b"links", &links[..kinds], bytes, places.links);
+    linked.floats(b"boxes", &boxes[..numbers], bytes, places.boxes)
+}
+
+// The tree that is built of the case's triangles and settings, beside the Rust's.
+fn built_tree(
+    bytes: &[u8],
+    head: Head,
+    places: Places,
+    triangles: &[f32],
+    order: &mut [u32],
+    links: &mut [u32],
+    boxes: &mut [f32],
+    tally: Tally,
+) -> Tally {
+    let built = build::calls::build(
+        triangles,
+        head.strategy,
+        head.leaf_minimum,
+        head.maximum_depth,
+        order,
+        links,
+        boxes,
+    );
+    compare_tree(
+        bytes,
+        head,
+        places,
+        order,
+        links,
+        boxes,
+        tally.counts(head, built),
+    )
+}
+
+fn built(bytes: &[u8], head: Head, places: Places, triangles: &[f32], tally: Tally) -> Tally {
+    let mut all = [7u32; 24];
+    let mut links = [7u32; 141];
+    let mut boxes = [7.0f32; 282];
+    let order = &mut all[..head.triangles % 25];
+    built_tree(
+        bytes,
+        head,
+        places,
+        triangles,
+        order,
+        &mut links,
+        &mut boxes,
+        tally,
+    )
+}
+
+// Both queries over the tree that stands in the case.
+fn with_boxes(
+    bytes: &[u8],
+    head: Head,
+    places: Places,
+    triangles: &[f32],
+    points: &[f32],
+    order: &[u32],
+    links: &[u32],
+    tally: Tally,
+) -> Tally {
+    let mut all = [0.0f32; 282];
+    let boxes = &mut all[..6 * (head.nodes % 48)];
+    fill_floats(bytes, places.boxes, boxes);
+    answered(
+        bytes,
+        head,
+        places,
+        triangles,
+        points,
+        order,
+        links,
+        boxes,
+        tally,
+    )
+}
+
+fn answered(
+    bytes: &[u8],
+    head: Head,
+    places: Places,
+    triangles: &[f32],
+    points: &[f32],
+    order: &[u32],
+    links: &[u32],
+    boxes: &[f32],
+    tally: Tally,
+) -> Tally {
+    let size = 6 * (head.points % 21);
+    let mut first = [7u32; 120];
+    let source = &mut first[..size];
+    let sourced = queries::calls::source_query(
+        triangles,
+        order,
+        links,
+        boxes,
+        head.nodes,
+        points,
+        head.distance,
+        source,
+    );
+    let mut second = [7u32; 120];
+    let sure = &mut second[..size];
+    let sured = queries::calls::sure_query(
+        triangles,
+        order,
+        links,
+        boxes,
+        head.nodes,
+        points,
+        head.distance,
+        sure,
+    );
+    tally
+        .verdict(b"source", sourced)
+        .words(b"source", source, bytes, places.source)
+        .verdict(b"sure", sured)
+        .words(b"sure", sure, bytes, places.sure)
+}
+
+fn with_links(
+    bytes: &[u8],
+    head: Head,
+    places: Places,
+    triangles: &[f32],
+    points: &[f32],
+    order: &[u32],
+    tally: Tally,
+) -> Tally {
+    let mut all = [0u32; 141];
+    let links = &mut all[..3 * (head.nodes % 48)];
+    fill_numbers(bytes, places.links, links);
+    with_boxes(bytes, head, places, triangles, points, order, links, tally)
+}
+
+fn with_order(
+    bytes: &[u8],
+    head: Head,
+    places: Places,
+    triangles: &[f32],
+    points: &[f32],
+    tally: Tally,
+) -> Tally {
+    let mut all = [0u32; 24];
+    let order = &mut all[..head.triangles % 25];
+    fill_numbers(bytes, places.order, order);
+    with_links(bytes, head, places, triangles, points, order, tally)
+}
+
+fn with_points(bytes: &[u8], head: Head, places: Places, triangles: &[f32], tally: Tally) -> Tally {
+    let mut all = [0.0f32; 60];
+    let points = &mut all[..3 * (head.points % 21)];
+    fill_floats(bytes, places.points, points);
+    with_order(bytes, head, places, triangles, points, tally)
+}
+
+fn with_triangles(bytes: &[u8], head: Head, places: Places, tally: Tally) -> Tally {
+    let mut all = [0.0f32; 216];
+    let triangles = &mut all[..9 * (head.triangles % 25)];
+    fill_floats(bytes, 0, triangles);
+    let grown = built(bytes, head, places, triangles, tally);
+    with_points(bytes, head, places, triangles, grown)
+}
+
+// The body of the case with this head, from standard input.
+fn replay_body(head: Head, tally: Tally) -> Tally {
+    let places = places_of(head);
+    let size = body_size(head, places);
+    let mut all = [0u8; 8192];
+    if size > 8192 {
+        return tally;
+    }
+    let body = &mut all[..size];
+    let got = io::read_full(0, body);
+    if got < size {
+        return tally;
+    }
+    let after = with_triangles(body, head, places, tally);
+    Tally {
+        cases: more(after.cases, 1),
+        points: more(after.points, head.points),
+        differ: after.differ,
+    }
+}
+
+// The next case, if there is one that fits.
+fn replay_next(tally: Tally) -> Tally {
+    let mut bytes = [0u8; 32];
+    let got = io::read_full(0, &mut bytes);
+    if got < 32 {
+        return tally;
+    }
+    let head = head_of(&bytes);
+    if is_small(head) {
+        return replay_body(head, tally);
+    }
+    tally
+}
+
+fn replay_all() -> Tally {
+    let mut tally = Tally {
+        cases: 0,
+        points: 0,
+        differ: 0,
+    };
+    let mut turn: usize = 0;
+    while turn < 1000 {
+        tally = replay_next(tally);
+        turn += 1;
+    }
+    tally
+}
+
+fn main() {
+    let tally = replay_all();
+    io::print_decimal(1, tally.cases as u64);
+    io::write_all(1, b" trees, ");
+    io::print_decimal(1, tally.points as u64);
+    io::write_all(1, b" points, ");
+    io::print_decimal(1, tally.differ as u64);
+    io::write_all(1, b" words differ\n");
+}

@@ -1,0 +1,74 @@
+-- `test_words::fill_floats` meets its contract. The invariant: the first i stand in the list. Assumes nothing.
+use mathlib.Core.List.{[], _∷_}
+use Prim.Native.Nat.{_*_, _-_}
+use native.Mathlib.Omega.{arith}
+use borrow.Author.Needs.{needs}
+use lib.Ieee.{binary32, ofBits}
+use lib.ListN.{length, length-set}
+use Rattle.spec_tables.proofs.Runs.{Run, run-start}
+use Rattle.spec_tables.proofs.Stores.{run-store-front, run-whole}
+use Rattle.test_words.specs.Words.{wordAt, more, floatsFrom}
+use Rattle.test_words.proofs.fill_floats.Statement.{statement}
+use Rattle.test_words.proofs.fill_floats.Tie as tie
+
+abbrev Inv-loop : tie.InvT-loop
+Inv-loop bytes from out₀ i₀ out i = Run (λ j. ofBits binary32 (wordAt bytes (more from (4 * j))) ∷ []) 0 (length out₀) out₀ out i
+
+abbrev μ-loop : tie.MeasureT-loop
+μ-loop bytes from out₀ i₀ out i = length out - i
+
+loop-holds : tie.Need-loop-holds Inv-loop μ-loop
+loop-holds c = run-start _ 1 0 _ _
+
+mul-more : tie.Need-mul-more Inv-loop μ-loop
+mul-more c = search needs
+
+more-requires : tie.Need-more-requires Inv-loop μ-loop
+more-requires c κs = search needs
+
+pattern-at-requires : tie.Need-pattern-at-requires Inv-loop μ-loop
+pattern-at-requires c κs = search needs
+
+from-bits-requires : tie.Need-from-bits-requires Inv-loop μ-loop
+from-bits-requires c κs = search needs
+
+mul-out : tie.Need-mul-out Inv-loop μ-loop
+mul-out c = search needs
+
+slice-write-out : tie.Need-slice-write-out Inv-loop μ-loop
+slice-write-out c = search needs
+
+add-i : tie.Need-add-i Inv-loop μ-loop
+add-i c = search needs
+
+loop-less : tie.Need-loop-less Inv-loop μ-loop
+loop-less c = simp length-set (omega arith)
+
+loop-again : tie.Need-loop-again Inv-loop μ-loop
+loop-again c = run-store-front _ _ _ _ _ _ (omega arith) (omega (arith, c .before .before .before .loop-test .taken, c .before .before .before .before .loop .inv .long)) (c .before .before .before .before .loop .inv) (rw (c .before .pattern-at .ensures, c .before .before .more .ensures) at (c .from-bits .ensures))
+
+same-length : tie.Need-same-length Inv-loop μ-loop
+same-length c = c .before .loop .inv .long
+
+returns : tie.Need-returns Inv-loop μ-loop
+unfolding floatsFrom
+returns c = run-whole _ _ _ _ (omega (arith, c .loop-test .left, c .before .loop .inv .long)) (c .before .loop .inv)
+
+pub fill-floats-spec : {M : Type 1} → statement M
+fill-floats-spec =
+    tie.close
+    (tie.spec
+    Inv-loop
+    μ-loop
+    loop-holds
+    mul-more
+    more-requires
+    pattern-at-requires
+    from-bits-requires
+    mul-out
+    slice-write-out
+    add-i
+    loop-less
+    loop-again
+    same-length
+    returns)

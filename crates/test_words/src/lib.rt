@@ -1,0 +1,50 @@
+// The words of a stored case, for the programs that replay cases: numbers and floats of four bytes each, the lowest byte
+// first. Nothing is asked of the case or the place, so that a case that is cut short stops no replay.
+ghost use mathlib.Core.Path.{_≡_};
+ghost use lib.ListN.{length};
+ghost use Rattle.test_words.specs.Words as Words;
+
+// The sum, where neither is so large that it could wrap; else the first.
+pub fn more(n: usize, by: usize) -> usize
+    ensures { λ r. ⌜ r ≡ Words.more n by ⌝ }
+{
+    if n < 1000000000 {
+        if by < 1000000000 {
+            return n + by;
+        }
+    }
+    n
+}
+
+// A word of the case, as a pattern: 0 past its end.
+pub fn pattern_at(bytes: &[u8], at: usize) -> u32
+    ensures { λ r. ⌜ r ≡ Words.wordAt (now (bytes .entry)) at ⌝ }
+{
+    if bytes.len() < 4 {
+        return 0;
+    }
+    if bytes.len() - 4 < at {
+        return 0;
+    }
+    records::numbers::u32_at(bytes, at)
+}
+
+pub fn fill_floats(bytes: &[u8], from: usize, out: &mut [f32])
+    ensures { λ _. ⌜ now (out .exit) ≡ Words.floatsFrom (now (bytes .entry)) from (length (now (out .entry))) ⌝ }
+{
+    let mut i = 0;
+    while i < out.len() {
+        out[i] = floats::from_bits(pattern_at(bytes, more(from, 4 * i)));
+        i += 1;
+    }
+}
+
+pub fn fill_numbers(bytes: &[u8], from: usize, out: &mut [u32])
+    ensures { λ _. ⌜ now (out .exit) ≡ Words.numbersFrom (now (bytes .entry)) from (length (now (out .entry))) ⌝ }
+{
+    let mut i = 0;
+    while i < out.len() {
+        out[i] = pattern_at(bytes, more(from, 4 * i));
+        i += 1;
+    }
+}

@@ -1,0 +1,3 @@
+pub mod Parts
+pub mod Unique
+pub mod Needs

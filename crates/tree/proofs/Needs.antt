@@ -1,0 +1,51 @@
+-- What the check of a node asks it can ask of its subtrees, right one first, and the tests of the whole give what the root asks. Assumes nothing.
+use mathlib.Core.Path.{_≡_, sym, subst, _∙_}
+use mathlib.Core.Bool.{true}
+use mathlib.Core.List.{List}
+use Prim.Native.Nat.{ℕ, _+_, _-_, _≤_}
+use native.Mathlib.Omega.{arith}
+use borrow.Author.Tests.{eqb-true}
+use lib.Dec.{eqb}
+use lib.Ieee.{Float}
+use Rattle.spec_shapes.specs.Boxes.{Box}
+use Rattle.spec_lists.specs.Reading.{boxAt, triangleCount}
+use Rattle.spec_tree.specs.Trees.{leftAt, rightAt}
+use Rattle.spec_tree.specs.Order.{EntriesBelow, permutes}
+use Rattle.spec_tree.specs.Accepted.{Finding, spans, finding, Room, present}
+use Rattle.spec_tree.proofs.Steps.{found-within, root-room}
+use Rattle.spec_tree.proofs.Order.{test-permutes, permutes-entries}
+use Rattle.tree.specs.Needs.{Subtree, LeftSubtree}
+
+module _ (triangles : List Float) (order links : List ℕ) (boxes : List Float) where
+  pub right-asks : (node last right : ℕ) → Subtree triangles order links boxes node last → right ≡ rightAt links node → eqb (rightAt links node + 1) node ≡ true
+      → Subtree triangles order links boxes right last
+  right-asks node last right s p q =
+      let next : rightAt links node + 1 ≡ node = eqb-true (rightAt links node + 1) node q in
+      let room : Room order links boxes node last = s .room in
+      record { room = omega arith; entries = s .entries }
+
+  pub left-asks : (node first entry left : ℕ) → LeftSubtree triangles order links boxes node first entry → left ≡ leftAt links node → eqb (leftAt links node + 1) first ≡ true
+      → Subtree triangles order links boxes left entry
+  left-asks node first entry left s p q =
+      let next : leftAt links node + 1 ≡ first = eqb-true (leftAt links node + 1) first q in
+      let room : Room order links boxes node entry = s .room in
+      let before : first ≤ node = s .before in
+      record { room = omega arith; entries = s .entries }
+
+  -- once the right subtree is found
+  pub then-left-asks : (levels node last right first entry : ℕ) (box : Box) (f : Finding) → Subtree triangles order links boxes node last → right ≡ rightAt links node
+      → eqb (rightAt links node + 1) node ≡ true → f ≡ finding (boxAt triangles) order links boxes levels right last → f ≡ spans first entry box
+      → LeftSubtree triangles order links boxes node first entry
+  then-left-asks levels node last right first entry box f s p q g h =
+      let next : rightAt links node + 1 ≡ node = eqb-true (rightAt links node + 1) node q in
+      let room : Room order links boxes node last = s .room in
+      let within = found-within (boxAt triangles) order links boxes levels right last first entry box (right-asks node last right s p q .room) (sym g ∙ h) in
+      record { room = omega arith; entries = s .entries; before = omega arith }
+
+  -- the root
+  pub root-asks : (n nodes : ℕ) → n ≡ triangleCount triangles → permutes n order ≡ true → present links boxes nodes ≡ true → Subtree triangles order links boxes (nodes - 1) n
+  root-asks n nodes p q r =
+      record {
+        room = root-room (boxAt triangles) n order links boxes nodes q r;
+        entries = subst (λ (k : ℕ). EntriesBelow k order) p (permutes-entries n order (test-permutes n order q));
+      }

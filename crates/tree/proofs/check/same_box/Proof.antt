@@ -1,0 +1,20 @@
+-- `tree::same_box` meets its contract: what `same_point` ensures of both corners.
+-- Assumes nothing.
+use mathlib.Core.Bool.{_&&_}
+use Rattle.spec_tree.specs.Accepted.{sameBox}
+use borrow.Author.Needs.{needs}
+use Rattle.tree.proofs.check.same_box.Statement.{statement}
+use Rattle.tree.proofs.check.same_box.Tie as tie
+
+same-point-requires : tie.Need-same-point-requires
+same-point-requires c κs = search needs
+
+same-point-requires-2 : tie.Need-same-point-requires-2
+same-point-requires-2 c κs = search needs
+
+returns : tie.Need-returns
+unfolding sameBox
+returns c = λ i. c .before .same-point .ensures i && c .same-point2 .ensures i
+
+pub same-box-spec : {M : Type 1} → statement M
+same-box-spec = tie.close (tie.spec same-point-requires same-point-requires-2 returns)

@@ -1,0 +1,27 @@
+-- `tree::leaf_at` meets its contract: each number and the box are what the reads ensure.
+-- Assumes nothing.
+use Rattle.spec_tree.specs.Leaves as Leaves
+use borrow.Author.Needs.{needs}
+use Rattle.tree.proofs.leaves.leaf_at.Statement.{statement}
+use Rattle.tree.proofs.leaves.leaf_at.Tie as tie
+
+left-at-requires : tie.Need-left-at-requires
+left-at-requires c κs = search needs
+
+right-at-requires : tie.Need-right-at-requires
+right-at-requires c κs = search needs
+
+node-box-requires : tie.Need-node-box-requires
+node-box-requires c κs = search needs
+
+returns : tie.Need-returns
+returns c =
+    λ i. Leaves.found (record {
+      node = c .before .before .before .before .before .args .node;
+      first = c .before .before .left-at .ensures i;
+      last = c .before .right-at .ensures i;
+      box = c .node-box .ensures i;
+    })
+
+pub leaf-at-spec : {M : Type 1} → statement M
+leaf-at-spec = tie.close (tie.spec left-at-requires right-at-requires node-box-requires returns)

@@ -1,0 +1,67 @@
+-- `tree::leaf_from` meets its contract. Before each node, the leaf that is sought is found from that node on.
+-- Assumes nothing.
+use mathlib.Core.Path.{_≡_, refl, sym, ap, _∙_}
+use mathlib.Core.Logic.{⊎-elim}
+use Prim.Native.Nat.{_-_}
+use native.Mathlib.Omega.{arith}
+use borrow.Author.Needs.{needs}
+use Rattle.spec_tree.specs.Leaves.{leafFrom}
+use Rattle.spec_tree.proofs.Seeking.{seek-here, seek-past, seek-on, seek-ends}
+use Rattle.tree.proofs.leaves.leaf_from.Statement.{statement}
+use Rattle.tree.proofs.leaves.leaf_from.Tie as tie
+
+abbrev Inv-loop : tie.InvT-loop
+Inv-loop links boxes nodes from k node₀ left₀ node left = leafFrom links boxes nodes node left ≡ leafFrom links boxes nodes from k
+
+abbrev μ-loop : tie.MeasureT-loop
+μ-loop links boxes nodes from k node₀ left₀ node left = nodes - node
+
+loop-holds : tie.Need-loop-holds Inv-loop μ-loop
+loop-holds c = refl
+
+kind-at-requires : tie.Need-kind-at-requires Inv-loop μ-loop
+kind-at-requires c κs = omega (arith, c .before .before .before .before .pre .links-there)
+
+leaf-at-requires : tie.Need-leaf-at-requires Inv-loop μ-loop
+leaf-at-requires c κs = (omega (arith, c .before .before .before .before .before .before .before .pre .links-there), omega (arith, c .before .before .before .before .before .before .before .pre .boxes-there))
+
+returns : tie.Need-returns Inv-loop μ-loop
+returns c =
+    c .leaf-at .ensures
+    ∙ sym (seek-here _ _ _ _ (c .before .before .before .before .loop-test .taken) _ (sym (c .before .before .before .kind-at .ensures) ∙ c .before .before .if1 .taken) (c .before .if2 .taken))
+    ∙ c .before .before .before .before .before .loop .inv
+
+sub-left : tie.Need-sub-left Inv-loop μ-loop
+sub-left c = omega (arith, c .if2 .left)
+
+add-node : tie.Need-add-node Inv-loop μ-loop
+add-node c = search needs
+
+loop-less : tie.Need-loop-less Inv-loop μ-loop
+loop-less c = search needs
+
+loop-again : tie.Need-loop-again Inv-loop μ-loop
+loop-again c =
+    ⊎-elim
+    (λ w. ap (leafFrom _ _ _ _) (w .2) ∙ seek-past _ _ _ _ (c .before .before .loop-test .taken) _ (sym (c .before .kind-at .ensures) ∙ w .0 .taken) (w .1 .left) ∙ c .before .before .before .loop .inv)
+    (λ w. ap (leafFrom _ _ _ _) (w .1) ∙ seek-on _ _ _ _ (c .before .before .loop-test .taken) _ (λ p. w .0 .left (c .before .kind-at .ensures ∙ p)) ∙ c .before .before .before .loop .inv)
+    (c .if1 .came)
+
+returns-2 : tie.Need-returns-2 Inv-loop μ-loop
+returns-2 c = sym (seek-ends _ _ _ _ _ (omega (arith, c .loop-test .left))) ∙ c .before .loop .inv
+
+pub leaf-from-spec : {M : Type 1} → statement M
+leaf-from-spec =
+    tie.close
+    (tie.spec
+    Inv-loop
+    μ-loop
+    loop-holds
+    kind-at-requires
+    leaf-at-requires
+    returns
+    sub-left
+    add-node
+    loop-less
+    loop-again
+    returns-2)

@@ -1,0 +1,31 @@
+-- `tree::leaves` meets its contract: the refusal, or the count over lists that pass.
+-- Assumes nothing.
+use mathlib.Core.Path.{sym, ap, _∙_}
+use Rattle.lists.specs.Values.{asVerdict}
+use Rattle.spec_tree.proofs.Leaves.{passed-there, count-refused, count-made}
+use borrow.Author.Needs.{needs}
+use Rattle.tree.proofs.leaves.leaves.Statement.{statement}
+use Rattle.tree.proofs.leaves.leaves.Tie as tie
+
+check-requires : tie.Need-check-requires
+check-requires c κs = search needs
+
+enum-known-verdict : tie.Need-enum-known-verdict
+enum-known-verdict c = search needs
+
+enum-told : tie.Need-enum-told
+enum-told c = search needs
+
+leaf-count-requires : tie.Need-leaf-count-requires
+leaf-count-requires c κs = passed-there _ _ _ _ _ (sym (c .before .before .check .ensures) ∙ ap asVerdict (c .enum-told .given .1)) .links-there
+
+returns : tie.Need-returns
+returns c = count-refused _ _ _ _ _ _ _ (sym (c .before .before .before .check .ensures) ∙ ap asVerdict (c .before .verdict .given .1))
+
+returns-2 : tie.Need-returns-2
+returns-2 c = count-made _ _ _ _ _ _ (sym (c .before .before .before .check .ensures) ∙ ap asVerdict (c .before .enum-told .given .1)) (c .leaf-count .ensures)
+
+pub leaves-spec : {M : Type 1} → statement M
+leaves-spec =
+    tie.close
+    (tie.spec check-requires enum-known-verdict enum-told leaf-count-requires returns returns-2)

@@ -1,0 +1,26 @@
+-- `tree::is_permutation` meets its contract: a list of another length is refused, and a fresh array of marks serves for the rest.
+-- Assumes nothing.
+use lib.ListN.{length}
+use borrow.Author.Tests.{ne-eqb}
+use Rattle.spec_tree.specs.Order.{permutes}
+use Rattle.spec_tree.proofs.Marks.{all-unmarked}
+use borrow.Author.Needs.{needs}
+use Rattle.tree.proofs.permutation.is_permutation.Statement.{statement}
+use Rattle.tree.proofs.permutation.is_permutation.Tie as tie
+
+returns : tie.Need-returns
+unfolding permutes
+returns c = rw (ne-eqb (length (c .before .before .args .order .now)) (c .before .before .args .n) (c .if1 .taken))
+
+slice-aggregate-marks-all : tie.Need-slice-aggregate-marks-all
+slice-aggregate-marks-all c = search needs
+
+marks-all-requires : tie.Need-marks-all-requires
+marks-all-requires c κs = (c .before .if1 .left, all-unmarked (c .before .before .before .args .n) 4096 (c .before .before .before .pre))
+
+returns-2 : tie.Need-returns-2
+returns-2 c = search needs
+
+pub is-permutation-spec : {M : Type 1} → statement M
+is-permutation-spec =
+    tie.close (tie.spec returns slice-aggregate-marks-all marks-all-requires returns-2)

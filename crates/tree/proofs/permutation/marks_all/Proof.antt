@@ -1,0 +1,83 @@
+-- `tree::marks_all` meets its contract: the first i entries are below n and distinct, and those that occur among them are marked.
+-- Assumes nothing.
+use mathlib.Core.Path.{_≡_, refl, sym}
+use Prim.Native.Nat.{_-_}
+use native.Mathlib.Omega.{arith}
+use lib.ListN.{length, length-set}
+use Rattle.spec_tree.proofs.Marks.{Marked, marked-none, marked-more, marked-large, marked-twice, marked-all}
+use borrow.Author.Needs.{needs}
+use Rattle.tree.proofs.permutation.marks_all.Statement.{statement}
+use Rattle.tree.proofs.permutation.marks_all.Tie as tie
+
+abbrev Inv-loop : tie.InvT-loop
+Inv-loop n order seen₀ i₀ seen i = Marked n order seen i × (length seen ≡ length seen₀)
+
+abbrev μ-loop : tie.MeasureT-loop
+μ-loop n order seen₀ i₀ seen i = n - i
+
+loop-holds : tie.Need-loop-holds Inv-loop μ-loop
+loop-holds c = (marked-none _ _ _ (c .before .before .pre .1), refl)
+
+mul-wide : tie.Need-mul-wide Inv-loop μ-loop
+mul-wide c = search needs
+
+shared-slice-read-wide : tie.Need-shared-slice-read-wide Inv-loop μ-loop
+shared-slice-read-wide c = omega (arith, c .before .before .before .before .before .pre .0, c .before .loop-test .taken)
+
+wide-requires : tie.Need-wide-requires Inv-loop μ-loop
+wide-requires c κs = search needs
+
+same-length : tie.Need-same-length Inv-loop μ-loop
+same-length c = c .before .before .before .before .loop .inv .1
+
+returns : tie.Need-returns Inv-loop μ-loop
+returns c = sym (marked-large _ _ _ (c .before .before .before .before .loop .i) (c .before .before .before .before .loop .inv .0) (omega (arith, c .before .before .before .before .before .before .before .pre .0, c .before .before .before .loop-test .taken)) _ (c .before .wide .ensures) (c .if1 .taken))
+
+slice-read-if2 : tie.Need-slice-read-if2 Inv-loop μ-loop
+slice-read-if2 c = omega (arith, c .before .if1 .left, c .before .before .before .before .before .loop .inv .0 .room)
+
+same-length-2 : tie.Need-same-length-2 Inv-loop μ-loop
+same-length-2 c = c .before .before .before .before .before .before .loop .inv .1
+
+returns-2 : tie.Need-returns-2 Inv-loop μ-loop
+returns-2 c = sym (marked-twice _ _ _ (c .before .before .before .before .before .before .loop .i) (c .before .before .before .before .before .before .loop .inv .0) (omega (arith, c .before .before .before .before .before .before .before .before .before .pre .0, c .before .before .before .before .before .loop-test .taken)) _ (c .before .before .before .wide .ensures) (c .before .before .if1 .left) (c .if2 .taken))
+
+slice-write-seen : tie.Need-slice-write-seen Inv-loop μ-loop
+slice-write-seen c = omega (arith, c .before .before .if1 .left, c .before .before .before .before .before .before .loop .inv .0 .room)
+
+add-i : tie.Need-add-i Inv-loop μ-loop
+add-i c = omega (arith, c .before .before .before .before .before .loop-test .taken)
+
+loop-less : tie.Need-loop-less Inv-loop μ-loop
+loop-less c = omega (arith, c .before .before .before .before .before .loop-test .taken)
+
+loop-again : tie.Need-loop-again Inv-loop μ-loop
+loop-again c = (marked-more _ _ _ (c .before .before .before .before .before .before .loop .i) (c .before .before .before .before .before .before .loop .inv .0) (omega (arith, c .before .before .before .before .before .before .before .before .before .pre .0, c .before .before .before .before .before .loop-test .taken)) _ (c .before .before .before .wide .ensures) (c .before .before .if1 .left) (c .if2 .left), simp length-set (c .before .before .before .before .before .before .loop .inv .1))
+
+same-length-3 : tie.Need-same-length-3 Inv-loop μ-loop
+same-length-3 c = c .before .loop .inv .1
+
+returns-3 : tie.Need-returns-3 Inv-loop μ-loop
+returns-3 c = sym (marked-all _ _ _ (c .before .loop .i) (c .before .loop .inv .0) (c .before .before .before .before .pre .0) (c .loop-test .left))
+
+pub marks-all-spec : {M : Type 1} → statement M
+marks-all-spec =
+    tie.close
+    (tie.spec
+    Inv-loop
+    μ-loop
+    loop-holds
+    mul-wide
+    shared-slice-read-wide
+    wide-requires
+    same-length
+    returns
+    slice-read-if2
+    same-length-2
+    returns-2
+    slice-write-seen
+    add-i
+    loop-less
+    loop-again
+    same-length-3
+    returns-3)

@@ -1,0 +1,26 @@
+// The box over a part of the order list.
+ghost use mathlib.Core.Path.{_≡_};
+ghost use Prim.Native.Nat.{_<_};
+ghost use lib.ListN.{length};
+ghost use Rattle.shapes.specs.Values as Shapes;
+ghost use Rattle.spec_lists.specs.Reading as Reading;
+ghost use Rattle.spec_tree.specs.Trees as Trees;
+ghost use Rattle.spec_tree.specs.Order as Order;
+use crate::nodes::wide;
+use lists::reading::box_at;
+use shapes::box3::Box3;
+
+// The first triangle's box joined with those of the rest, from the left.
+pub fn joined(triangles: &[f32], part: &[u32]) -> Box3
+    requires some { ⌜ 0 < length (now part) ⌝ }
+    requires numbered { ⌜ Order.EntriesBelow (Reading.triangleCount (now triangles)) (now part) ⌝ }
+    ensures { λ r. ⌜ Shapes.asBox r ≡ Trees.joined (Reading.boxAt (now (triangles .entry))) (now (part .entry)) ⌝ }
+{
+    let mut over = box_at(triangles, wide(part[0]));
+    let mut i = 1;
+    while i < part.len() {
+        over = over.union_box(box_at(triangles, wide(part[i])));
+        i += 1;
+    }
+    over
+}

@@ -1,0 +1,42 @@
+// The tree check as a refusal, and as a call over any lists at all.
+ghost use mathlib.Core.Path.{_≡_};
+ghost use Prim.Native.Nat.{_≤_};
+ghost use Rattle.lists.specs.Values as Verdicts;
+ghost use Rattle.spec_lists.specs.Limits as Limits;
+ghost use Rattle.spec_lists.specs.Reading as Reading;
+ghost use Rattle.spec_tree.specs.Refusals as Refusals;
+use crate::check::is_accepted;
+use lists::tests::triangles_refusal;
+use lists::verdict::Verdict;
+use lists::verdict::refused_if;
+
+// 7: the tree check says no.
+pub fn tree_refusal(
+    triangles: &[f32],
+    order: &[u32],
+    links: &[u32],
+    boxes: &[f32],
+    nodes: usize,
+) -> Verdict
+    requires { ⌜ Reading.triangleCount (now triangles) ≤ Limits.mostTriangles ⌝ }
+    ensures { λ r. ⌜ Verdicts.asVerdict r ≡ Refusals.treeRefusal (now (triangles .entry)) (now (order .entry)) (now (links .entry)) (now (boxes .entry)) nodes ⌝ }
+{
+    refused_if(!is_accepted(triangles, order, links, boxes, nodes), 7, 0)
+}
+
+// Whether the lists hold a triangle list and a tree over it: tests 1 to 4 and 7.
+pub fn check(
+    triangles: &[f32],
+    order: &[u32],
+    links: &[u32],
+    boxes: &[f32],
+    nodes: usize,
+) -> Verdict
+    ensures { λ r. ⌜ Verdicts.asVerdict r ≡ Refusals.checkRefusal (now (triangles .entry)) (now (order .entry)) (now (links .entry)) (now (boxes .entry)) nodes ⌝ }
+{
+    let bad_triangles = triangles_refusal(triangles);
+    if bad_triangles.refuses() {
+        return bad_triangles;
+    }
+    tree_refusal(triangles, order, links, boxes, nodes)
+}

@@ -1,0 +1,77 @@
+// The leaf reader: a struct that shows a caller a leaf's part of the order list, and thin functions over it.
+// The borrow checker covers no function over a struct that holds a reference, so each is proved by hand. The work is done by plain functions,
+// and whoever calls `entry_of`, whose parameters are a slice and numbers, needs no proof by hand.
+ghost use mathlib.Core.Path.{_≡_};
+ghost use Prim.Native.Nat.{_-_, min};
+ghost use lib.ListN.{length};
+ghost use Rattle.spec_tables.specs.Tables as Tables;
+ghost use Rattle.spec_tree.specs.Leaves as Leaves;
+ghost use Rattle.tree.specs.Values as Values;
+
+pub struct Leaf<'a> {
+    pub part: &'a [u32],
+}
+
+// A triangle of a leaf.
+pub enum EntryFound {
+    Nothing,
+    Triangle(u32),
+    Refused { number: usize, place: usize },
+}
+
+fn lesser(a: usize, b: usize) -> usize
+    ensures { λ r. ⌜ r ≡ min a b ⌝ }
+{
+    if a < b { a } else { b }
+}
+
+// The order list from `first` to `last`, the end not included, as far as it goes.
+pub fn part_of(order: &[u32], first: usize, last: usize) -> &[u32]
+    ensures { λ r. ⌜ now r ≡ Tables.part (now (order .entry)) first (last - first) ⌝ }
+{
+    let end = lesser(last, order.len());
+    let start = lesser(first, end);
+    &order[start..end]
+}
+
+// What stands at a place of a leaf's part.
+pub fn entry_at(part: &[u32], i: usize) -> EntryFound
+    ensures { λ r. ⌜ Values.asEntryFound r ≡ Leaves.entryAt (now (part .entry)) i ⌝ }
+{
+    if i < part.len() {
+        return EntryFound::Triangle(part[i]);
+    }
+    EntryFound::Nothing
+}
+
+impl<'a> Leaf<'a> {
+    // Of the leaf with the order list's entries from `first` to `last`, the end not included.
+    pub fn of(order: &'a [u32], first: usize, last: usize) -> Leaf<'a>
+        ensures { λ r. ⌜ now (r .part) ≡ Tables.part (now (order .entry)) first (last - first) ⌝ }
+    {
+        Leaf {
+            part: part_of(order, first, last),
+        }
+    }
+
+    // How many triangles it has.
+    pub fn len(self) -> usize
+        ensures { λ r. ⌜ r ≡ length (now (self .entry .part)) ⌝ }
+    {
+        self.part.len()
+    }
+
+    // Its i-th triangle, counted from 0.
+    pub fn entry(self, i: usize) -> EntryFound
+        ensures { λ r. ⌜ Values.asEntryFound r ≡ Leaves.entryAt (now (self .entry .part)) i ⌝ }
+    {
+        entry_at(self.part, i)
+    }
+}
+
+// The i-th triangle of the leaf with these entries, by way of its reader.
+pub fn entry_of(order: &[u32], first: usize, last: usize, i: usize) -> EntryFound
+    ensures { λ r. ⌜ Values.asEntryFound r ≡ Leaves.entryAt (Tables.part (now (order .entry)) first (last - first)) i ⌝ }
+{
+    Leaf::of(order, first, last).entry(i)
+}

@@ -1,0 +1,41 @@
+// Whether the order list is a permutation of the triangle numbers.
+ghost use mathlib.Core.Path.{_≡_};
+ghost use Prim.Native.Nat.{_≤_};
+ghost use lib.ListN.{length};
+ghost use Rattle.spec_lists.specs.Limits as Limits;
+ghost use Rattle.spec_tree.specs.Order as Order;
+use crate::nodes::wide;
+use lists::limits;
+
+// Marks each entry in `seen`, until one is too large or marked already.
+fn marks_all(n: usize, order: &[u32], seen: &mut [bool]) -> bool
+    requires long { ⌜ length (now order) ≡ n ⌝ }
+    requires unmarked { ⌜ Order.Unmarked n (now seen) ⌝ }
+    ensures { λ r. ⌜ r ≡ Order.permutes n (now (order .entry)) ⌝ }
+{
+    let mut i = 0;
+    while i < n {
+        let k = wide(order[i]);
+        if k >= n {
+            return false;
+        }
+        if seen[k] {
+            return false;
+        }
+        seen[k] = true;
+        i += 1;
+    }
+    true
+}
+
+// n numbers, each below n, none of them twice.
+pub fn is_permutation(n: usize, order: &[u32]) -> bool
+    requires { ⌜ n ≤ Limits.mostTriangles ⌝ }
+    ensures { λ r. ⌜ r ≡ Order.permutes n (now (order .entry)) ⌝ }
+{
+    if order.len() != n {
+        return false;
+    }
+    let mut seen = [false; limits::MOST_TRIANGLES];
+    marks_all(n, order, &mut seen)
+}

@@ -1,0 +1,31 @@
+-- `answers::kept::offer` meets its contract: a hit that counts and is nearer takes the place of what was kept. Assumes nothing.
+use Rattle.spec_search.proofs.Kept.{both-said, offer-taken, offer-left}
+use Rattle.walks.specs.Values.{asHit, hitOf}
+use borrow.Author.Needs.{needs}
+use Rattle.walks.proofs.kept.offer.Statement.{statement}
+use Rattle.walks.proofs.kept.offer.Tie as tie
+
+does-count-requires : tie.Need-does-count-requires
+does-count-requires c κs = search needs
+
+is-nearer-requires : tie.Need-is-nearer-requires
+is-nearer-requires c κs = search needs
+
+keep-requires : tie.Need-keep-requires
+keep-requires c κs = search needs
+
+returns : tie.Need-returns
+returns c =
+    let a = c .before .before .before .before .before .before .before .before .args in
+    offer-taken (asHit (a .hit)) (hitOf (a .best .now) (a .number .now)) _ (a .limit)
+    (both-said _ _ _ _ _ (c .before .before .before .before .before .before .before .does-count .ensures) (c .before .before .before .before .is-nearer .ensures) (c .before .before .before .if1 .taken)) (c .keep .ensures)
+
+returns-2 : tie.Need-returns-2
+returns-2 c =
+    let a = c .before .before .before .before .before .args in
+    offer-left (asHit (a .hit)) (hitOf (a .best .now) (a .number .now)) (a .limit)
+    (both-said _ _ _ _ _ (c .before .before .before .before .does-count .ensures) (c .before .is-nearer .ensures) (c .if1 .left))
+
+pub offer-spec : {M : Type 1} → statement M
+offer-spec =
+    tie.close (tie.spec does-count-requires is-nearer-requires keep-requires returns returns-2)

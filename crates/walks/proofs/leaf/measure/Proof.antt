@@ -1,0 +1,88 @@
+-- `walks::measure` meets its contract: the triangle that was read, its computed or its held point, offered or met. Assumes nothing.
+use mathlib.Core.Path.{_≡_, ap, _∙_}
+use lib.Ieee.{binary32}
+use Prim.Native.Nat.{ℕ}
+use Rattle.shapes.specs.Values.{asPoint, asTriangle}
+use Rattle.spec_shapes.specs.Points.{Point, squaredDistance}
+use Rattle.spec_shapes.specs.Triangles.{Triangle, closestPoint, heldFrom, heldPoint, measured}
+use Rattle.spec_lists.specs.Reading.{triangleAt}
+use Rattle.spec_search.specs.Answers.{Hit}
+use Rattle.spec_search.specs.Sure.{hit, offered, tookSure}
+use Rattle.spec_search.specs.Source.{sourceHit, strictly, tookSource}
+use Rattle.spec_search.specs.Kept.{kept}
+use Rattle.walks.specs.Values.{asHit, pointOf, fourthOf, hitOf}
+use borrow.Author.Needs.{needs}
+use Rattle.walks.proofs.leaf.measure.Statement.{statement}
+use Rattle.walks.proofs.leaf.measure.Tie as tie
+
+abbrev seen : Point → Point → ℕ → Hit
+seen q p t = record { point = q; squared = squaredDistance binary32 q p; triangle = t }
+
+point-of-requires : tie.Need-point-of-requires
+point-of-requires c κs = search needs
+
+wide-requires : tie.Need-wide-requires
+wide-requires c κs = search needs
+
+triangle-at-requires : tie.Need-triangle-at-requires
+triangle-at-requires c κs = search needs
+
+closest-point-requires : tie.Need-closest-point-requires
+closest-point-requires c κs = search needs
+
+element-copy-out-offer : tie.Need-element-copy-out-offer
+element-copy-out-offer c = search needs
+
+held-requires : tie.Need-held-requires
+held-requires c κs = search needs
+
+hit-at-requires : tie.Need-hit-at-requires
+hit-at-requires c κs = search needs
+
+offer-requires : tie.Need-offer-requires
+offer-requires c κs = search needs
+
+returns : tie.Need-returns
+unfolding tookSure hit measured heldPoint
+returns c =
+    let a = c .before .before .before .before .before .before .before .before .before .before .before .before .args in
+    let p = pointOf (a .asked .now) in
+    let read = c .before .before .before .before .before .before .before .before .triangle-at .ensures ∙ ap (triangleAt (a .triangles .now)) (c .before .before .before .before .before .before .before .before .before .wide .ensures) in
+    let point : asPoint (c .before .before .before .before .held .result) ≡ heldPoint binary32 (triangleAt (a .triangles .now) (a .t)) p =
+    c .before .before .before .before .held .ensures ∙ ap (heldFrom (asTriangle (c .before .before .before .before .before .before .before .before .triangle-at .result))) (c .before .before .before .before .before .before .before .closest-point .ensures ∙ ap (closestPoint binary32 (asTriangle (c .before .before .before .before .before .before .before .before .triangle-at .result))) (c .before .before .before .before .before .before .before .before .before .before .point-of .ensures))
+    ∙ ap (λ (t : Triangle). heldFrom t (closestPoint binary32 t p)) read in
+    let is : asHit (c .before .before .before .hit-at .result) ≡ hit binary32 (a .triangles .now) p (a .t) =
+    c .before .before .before .hit-at .ensures ∙ ap (λ (x : Point). seen (asPoint (c .before .before .before .before .held .result)) x (a .t)) (c .before .before .before .before .before .before .before .before .before .before .point-of .ensures) ∙ ap (λ (q : Point). seen q p (a .t)) point in
+    rw (c .before .before .before .before .before .before .if1 .taken) (c .offer .ensures ∙ ap (λ (h : Hit). offered (fourthOf (a .asked .now)) h (kept (hitOf (a .best .now) (a .number .now)))) is)
+
+hit-at-requires-2 : tie.Need-hit-at-requires-2
+hit-at-requires-2 c κs = search needs
+
+meet-requires : tie.Need-meet-requires
+meet-requires c κs = search needs
+
+returns-2 : tie.Need-returns-2
+unfolding tookSource sourceHit
+returns-2 c =
+    let a = c .before .before .before .before .before .before .before .before .before .before .args in
+    let p = pointOf (a .asked .now) in
+    let is : asHit (c .before .before .before .hit-at2 .result) ≡ sourceHit binary32 (a .triangles .now) p (a .t) =
+    rw (c .before .before .before .hit-at2 .ensures, c .before .before .before .before .before .closest-point .ensures, c .before .before .before .before .before .before .triangle-at .ensures, c .before .before .before .before .before .before .before .wide .ensures, c .before .before .before .before .before .before .before .before .point-of .ensures) in
+    rw (c .before .before .before .before .if1 .left) (c .meet .ensures ∙ ap (λ (h : Hit). strictly h (kept (hitOf (a .best .now) (a .number .now)))) is)
+
+pub measure-spec : {M : Type 1} → statement M
+measure-spec =
+    tie.close
+    (tie.spec
+    point-of-requires
+    wide-requires
+    triangle-at-requires
+    closest-point-requires
+    element-copy-out-offer
+    held-requires
+    hit-at-requires
+    offer-requires
+    returns
+    hit-at-requires-2
+    meet-requires
+    returns-2)

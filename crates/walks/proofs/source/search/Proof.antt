@@ -1,0 +1,29 @@
+-- `walks::search` meets its contract: an accepted tree is safe to walk from its root, and what is kept at first stands for nothing.
+-- Assumes nothing.
+use mathlib.Core.Path.{_∙_}
+use lib.Ieee.{div, ofBits, eq}
+use Rattle.spec_search.specs.Kept.{kept}
+use Rattle.spec_search.specs.Source.{sourceWalk}
+use Rattle.spec_search.proofs.Calls.{root-there, root-safe}
+use borrow.Author.Needs.{needs}
+use Rattle.walks.proofs.source.search.Statement.{statement}
+use Rattle.walks.proofs.source.search.Tie as tie
+
+sub-look : tie.Need-sub-look
+sub-look c = search needs
+
+sub-look-2 : tie.Need-sub-look-2
+sub-look-2 c = root-there _ _ _ _ _ (c .before .before .before .before .before .pre)
+
+look-requires : tie.Need-look-requires
+look-requires c κs = root-safe _ _ _ _ _ (c .before .before .before .before .before .before .before .pre)
+
+answer-of-requires : tie.Need-answer-of-requires
+answer-of-requires c κs = search needs
+
+returns : tie.Need-returns
+unfolding sourceWalk kept div ofBits eq
+returns c = (λ i. record { best = c .answer-of .ensures i; measured = c .before .before .look .result }) ∙ c .before .before .look .ensures
+
+pub search-spec : {M : Type 1} → statement M
+search-spec = tie.close (tie.spec sub-look sub-look-2 look-requires answer-of-requires returns)

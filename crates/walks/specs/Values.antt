@@ -1,0 +1,38 @@
+-- The program's values as the records that the definitions speak of. Definitions only.
+use mathlib.Core.List.{List}
+use Prim.Native.Nat.{ℕ}
+use lib.ListN.{getD}
+use lib.Ieee.{Float, nan}
+use Rattle.shapes.specs.Values.{asPoint}
+use Rattle.spec_shapes.specs.Points.{Point}
+use Rattle.spec_search.specs.Answers as Answers
+use Rattle.spec_search.specs.Kept.{kept}
+use Rattle.spec_search.specs.Walk as Walk
+use Rattle.walks.specs.declared.answer.Hit.{Hit}
+use Rattle.walks.specs.declared.answer.Sought.{Sought}
+use Rattle.walks.specs.declared.answer.Answer.{Answer}
+use Rattle.walks.specs.declared.answer.Answer.the-variants.{Nothing, Found}
+
+abbrev pub asHit : Hit → Answers.Hit
+asHit h = record { point = asPoint (h .point); squared = h .squared; triangle = h .triangle }
+
+abbrev pub asAnswer : Answer → Answers.Answer
+asAnswer Nothing = Answers.nothing
+asAnswer (Found x y z squared triangle) = Answers.found (record { point = record { x = x; y = y; z = z }; squared = squared; triangle = triangle })
+
+abbrev pub asSought : Sought → Walk.Sought Answers.Answer
+asSought s = record { best = asAnswer (s .best); measured = s .measured }
+
+-- ---- four numbers that are lent: a point with its limit squared, or with its squared distance
+abbrev pub pointOf : List Float → Point
+pointOf four = record { x = getD four 0 nan; y = getD four 1 nan; z = getD four 2 nan }
+
+abbrev pub fourthOf : List Float → Float
+fourthOf four = getD four 3 nan
+
+abbrev pub hitOf : List Float → ℕ → Answers.Hit
+hitOf best number = record { point = pointOf best; squared = fourthOf best; triangle = number }
+
+-- what a search keeps, and how many triangles it measured
+abbrev pub soughtOf : List Float → ℕ → ℕ → Walk.Sought Answers.Answer
+soughtOf best number measured = record { best = kept (hitOf best number); measured = measured }

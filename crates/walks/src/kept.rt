@@ -1,0 +1,86 @@
+// What a search keeps, lent from call to call: a point with its squared distance, and its triangle's
+// number. At an infinite squared distance it stands for nothing.
+ghost use mathlib.Core.Path.{_≡_};
+ghost use Rattle.shapes.specs.Values as Shapes;
+ghost use Rattle.spec_search.specs.Kept as Kept;
+ghost use Rattle.spec_search.specs.Sure as Sure;
+ghost use Rattle.spec_search.specs.Source as Source;
+ghost use Rattle.walks.specs.Values as Values;
+use crate::answer::Answer;
+use crate::answer::Hit;
+use shapes::vec3::Vec3;
+
+// The point of four numbers.
+pub fn point_of(four: &[f32; 4]) -> Vec3
+    ensures { λ r. ⌜ Shapes.asPoint r ≡ Values.pointOf (now (four .entry)) ⌝ }
+{
+    Vec3 {
+        x: four[0],
+        y: four[1],
+        z: four[2],
+    }
+}
+
+fn keep(hit: Hit, best: &mut [f32; 4], number: &mut u32)
+    ensures { λ _. ⌜ Values.hitOf (now (best .exit)) (now (number .exit)) ≡ Values.asHit hit ⌝ }
+{
+    *best = [hit.point.x, hit.point.y, hit.point.z, hit.squared];
+    *number = hit.triangle;
+}
+
+// A squared distance counts.
+fn does_count(limit: f32, squared: f32) -> bool
+    ensures { λ r. ⌜ r ≡ Sure.counts limit squared ⌝ }
+{
+    squared < limit
+}
+
+// Smaller than what is kept, or level with it at a lower triangle number.
+fn is_nearer(hit: Hit, best: &[f32; 4], number: u32) -> bool
+    ensures { λ r. ⌜ r ≡ Kept.nearer (Values.asHit hit) (Values.hitOf (now (best .entry)) number) ⌝ }
+{
+    (hit.squared < best[3]) | ((hit.squared == best[3]) & (hit.triangle < number))
+}
+
+// A box at this squared distance is passed over: it does not count, or is above the best so far.
+pub fn is_passed(limit: f32, squared: f32, best: &[f32; 4], number: u32) -> bool
+    ensures { λ r. ⌜ r ≡ Sure.isPassed limit squared (Kept.kept (Values.hitOf (now (best .entry)) number)) ⌝ }
+{
+    !does_count(limit, squared) | (best[3] < squared)
+}
+
+// Keeps the hit where it counts and is nearer: the sure query's.
+pub fn offer(limit: f32, hit: Hit, best: &mut [f32; 4], number: &mut u32)
+    ensures { λ _. ⌜ Kept.kept (Values.hitOf (now (best .exit)) (now (number .exit))) ≡ Sure.offered limit (Values.asHit hit) (Kept.kept (Values.hitOf (now (best .entry)) (now (number .entry)))) ⌝ }
+{
+    if does_count(limit, hit.squared) & is_nearer(hit, best, *number) {
+        keep(hit, best, number);
+        return;
+    }
+}
+
+// Keeps the hit where it is strictly smaller: the source query's.
+pub fn meet(hit: Hit, best: &mut [f32; 4], number: &mut u32)
+    ensures { λ _. ⌜ Kept.kept (Values.hitOf (now (best .exit)) (now (number .exit))) ≡ Source.strictly (Values.asHit hit) (Kept.kept (Values.hitOf (now (best .entry)) (now (number .entry)))) ⌝ }
+{
+    if hit.squared < best[3] {
+        keep(hit, best, number);
+        return;
+    }
+}
+
+// What was kept, as an answer.
+pub fn answer_of(best: &[f32; 4], number: u32) -> Answer
+    ensures { λ r. ⌜ Values.asAnswer r ≡ Kept.kept (Values.hitOf (now (best .entry)) number) ⌝ }
+{
+    if best[3] == 1.0 / 0.0 {
+        return Answer::Nothing;
+    }
+    Answer::Found {
+        x: best[0],
+        y: best[1],
+        z: best[2],
+        squared: best[3],
+        triangle: number,
+    }
+}

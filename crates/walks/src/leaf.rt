@@ -1,0 +1,109 @@
+// The triangles of a leaf, measured one after another, for both queries: the sure query keeps held
+// points, the source query the computed ones.
+ghost use mathlib.Core.Path.{_≡_};
+ghost use Prim.Native.Nat.{_+_, _-_, _*_, _^_, _≤_, _<_};
+ghost use lib.ListN.{length};
+ghost use lib.Ieee.{binary32};
+ghost use Rattle.shapes.specs.Values as Shapes;
+ghost use Rattle.spec_shapes.specs.Points as Points;
+ghost use Rattle.spec_lists.specs.Reading as Reading;
+ghost use Rattle.spec_tables.specs.Tables as Tables;
+ghost use Rattle.spec_tree.specs.Order as Order;
+ghost use Rattle.spec_search.specs.Walk as Walk;
+ghost use Rattle.spec_search.specs.Kept as Kept;
+ghost use Rattle.walks.specs.Values as Values;
+use crate::answer::Hit;
+use crate::kept::meet;
+use crate::kept::offer;
+use crate::kept::point_of;
+use lists::reading::triangle_at;
+use shapes::vec3::Vec3;
+use tree::nodes::wide;
+
+// A triangle's point, with how far it is from p.
+fn hit_at(point: Vec3, p: Vec3, t: u32) -> Hit
+    ensures { λ r. ⌜ Values.asHit r ≡ record { point = Shapes.asPoint point; squared = Points.squaredDistance binary32 (Shapes.asPoint point) (Shapes.asPoint p); triangle = t } ⌝ }
+{
+    Hit {
+        point,
+        squared: point.squared_distance(p),
+        triangle: t,
+    }
+}
+
+// Measures one triangle.
+fn measure(
+    triangles: &[f32],
+    t: u32,
+    asked: &[f32; 4],
+    held: bool,
+    best: &mut [f32; 4],
+    number: &mut u32,
+)
+    requires { ⌜ 9 * t + 9 ≤ length (now triangles) ⌝ }
+    ensures { λ _. ⌜ Kept.kept (Values.hitOf (now (best .exit)) (now (number .exit))) ≡ Kept.tookBy held binary32 (now (triangles .entry)) (Values.pointOf (now (asked .entry))) (Values.fourthOf (now (asked .entry))) t (Kept.kept (Values.hitOf (now (best .entry)) (now (number .entry)))) ⌝ }
+{
+    let p = point_of(asked);
+    let triangle = triangle_at(triangles, wide(t));
+    let computed = triangle.closest_point(p);
+    if held {
+        offer(
+            asked[3],
+            hit_at(triangle.held(computed), p, t),
+            best,
+            number,
+        );
+        return;
+    }
+    meet(hit_at(computed, p, t), best, number);
+}
+
+// Measures each triangle of a leaf's part of the order list, and counts them.
+fn measure_part(
+    triangles: &[f32],
+    part: &[u32],
+    asked: &[f32; 4],
+    held: bool,
+    measured: usize,
+    best: &mut [f32; 4],
+    number: &mut u32,
+) -> usize
+    requires { ⌜ Order.EntriesBelow (Reading.triangleCount (now triangles)) (now part) ⌝ }
+    requires { ⌜ measured + length (now part) < 2 ^ 64 ⌝ }
+    ensures { λ r. ⌜ Values.soughtOf (now (best .exit)) (now (number .exit)) r ≡ Walk.tookAll (Kept.tookBy held binary32 (now (triangles .entry)) (Values.pointOf (now (asked .entry))) (Values.fourthOf (now (asked .entry)))) (now (part .entry)) (Values.soughtOf (now (best .entry)) (now (number .entry)) measured) ⌝ }
+{
+    let mut i = 0;
+    while i < part.len() {
+        measure(triangles, part[i], asked, held, best, number);
+        i += 1;
+    }
+    measured + i
+}
+
+// The same of the entries from `first` up to, not including, `last`.
+pub fn measure_leaf(
+    triangles: &[f32],
+    order: &[u32],
+    first: usize,
+    last: usize,
+    asked: &[f32; 4],
+    held: bool,
+    measured: usize,
+    best: &mut [f32; 4],
+    number: &mut u32,
+) -> usize
+    requires { ⌜ Order.EntriesBelow (Reading.triangleCount (now triangles)) (now order) ⌝ }
+    requires { ⌜ (first ≤ last) × (last ≤ length (now order)) ⌝ }
+    requires { ⌜ measured + (last - first) < 2 ^ 64 ⌝ }
+    ensures { λ r. ⌜ Values.soughtOf (now (best .exit)) (now (number .exit)) r ≡ Walk.tookAll (Kept.tookBy held binary32 (now (triangles .entry)) (Values.pointOf (now (asked .entry))) (Values.fourthOf (now (asked .entry)))) (Tables.part (now (order .entry)) first (last - first)) (Values.soughtOf (now (best .entry)) (now (number .entry)) measured) ⌝ }
+{
+    measure_part(
+        triangles,
+        &order[first..last],
+        asked,
+        held,
+        measured,
+        best,
+        number,
+    )
+}

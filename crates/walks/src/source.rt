@@ -1,0 +1,154 @@
+// The source query: the Rust's tests and order of visits, the right child first, with its leaf range
+// repaired. `asked` is the point and the limit squared.
+ghost use mathlib.Core.Path.{_≡_};
+ghost use Prim.Native.Nat.{_+_, _*_, _≤_};
+ghost use lib.ListN.{length};
+ghost use lib.Ieee.{binary32};
+ghost use Rattle.shapes.specs.Values as Shapes;
+ghost use Rattle.spec_search.specs.Walk as Walk;
+ghost use Rattle.spec_search.specs.Source as Source;
+ghost use Rattle.spec_search.specs.Safe as Safe;
+ghost use Rattle.spec_search.specs.Calls as Calls;
+ghost use Rattle.walks.specs.Values as Values;
+use crate::answer::Asked;
+use crate::answer::Sought;
+use crate::kept::answer_of;
+use crate::kept::point_of;
+use crate::leaf::measure_leaf;
+use crate::links::links_of;
+use lists::limits;
+use tree::nodes::node_box;
+
+// Whether a child enters: its box holds the point, or is nearer than the limit.
+fn does_enter(boxes: &[f32], node: usize, asked: &[f32; 4]) -> bool
+    requires { ⌜ 6 * node + 6 ≤ length (now boxes) ⌝ }
+    ensures { λ r. ⌜ r ≡ Source.enters binary32 (now (boxes .entry)) (Values.pointOf (now (asked .entry))) (Values.fourthOf (now (asked .entry))) node ⌝ }
+{
+    let over = node_box(boxes, node);
+    let p = point_of(asked);
+    over.contains_point(p) | (over.squared_distance(p) < asked[3])
+}
+
+// Looks at a node, whatever its box, with `depth` levels of branches left to open.
+pub fn look(
+    triangles: &[f32],
+    order: &[u32],
+    links: &[u32],
+    boxes: &[f32],
+    asked: &[f32; 4],
+    depth: usize,
+    node: usize,
+    measured: usize,
+    best: &mut [f32; 4],
+    number: &mut u32,
+) -> usize
+    requires { ⌜ Safe.NodeSafe (now triangles) (now order) (now links) (now boxes) depth node measured ⌝ }
+    ensures { λ r. ⌜ Values.soughtOf (now (best .exit)) (now (number .exit)) r ≡ Walk.rootWalk (Source.sourceSearch binary32 (now (triangles .entry)) (now (boxes .entry)) (Values.pointOf (now (asked .entry))) (Values.fourthOf (now (asked .entry)))) (now (order .entry)) (now (links .entry)) depth node (Values.soughtOf (now (best .entry)) (now (number .entry)) measured) ⌝ }
+{
+    let here = links_of(links, node);
+    if here.kind == 1 {
+        return measure_leaf(
+            triangles,
+            order,
+            here.left,
+            here.right,
+            asked,
+            false,
+            measured,
+            best,
+            number,
+        );
+    }
+    let below = depth - 1;
+    let then = look_if_entered(
+        triangles,
+        order,
+        links,
+        boxes,
+        asked,
+        below,
+        here.right,
+        measured,
+        best,
+        number,
+    );
+    look_if_entered(
+        triangles,
+        order,
+        links,
+        boxes,
+        asked,
+        below,
+        here.left,
+        then,
+        best,
+        number,
+    )
+}
+
+// Looks at a child that enters.
+pub fn look_if_entered(
+    triangles: &[f32],
+    order: &[u32],
+    links: &[u32],
+    boxes: &[f32],
+    asked: &[f32; 4],
+    depth: usize,
+    node: usize,
+    measured: usize,
+    best: &mut [f32; 4],
+    number: &mut u32,
+) -> usize
+    requires { ⌜ Safe.NodeSafe (now triangles) (now order) (now links) (now boxes) depth node measured ⌝ }
+    ensures { λ r. ⌜ Values.soughtOf (now (best .exit)) (now (number .exit)) r ≡ Walk.nodeWalk (Source.sourceSearch binary32 (now (triangles .entry)) (now (boxes .entry)) (Values.pointOf (now (asked .entry))) (Values.fourthOf (now (asked .entry)))) (now (order .entry)) (now (links .entry)) depth node (Values.soughtOf (now (best .entry)) (now (number .entry)) measured) ⌝ }
+{
+    if does_enter(boxes, node, asked) {
+        return look(
+            triangles,
+            order,
+            links,
+            boxes,
+            asked,
+            depth,
+            node,
+            measured,
+            best,
+            number,
+        );
+    }
+    measured
+}
+
+// The whole search, from the root, which is the last node.
+pub fn search(
+    triangles: &[f32],
+    order: &[u32],
+    links: &[u32],
+    boxes: &[f32],
+    nodes: usize,
+    asked: Asked,
+) -> Sought
+    requires { ⌜ Calls.Searchable (now triangles) (now order) (now links) (now boxes) nodes ⌝ }
+    ensures { λ r. ⌜ Values.asSought r ≡ Source.sourceWalk binary32 (now (triangles .entry)) (now (order .entry)) (now (links .entry)) (now (boxes .entry)) nodes (Shapes.asPoint (asked .point)) (asked .limit) ⌝ }
+{
+    let four = [asked.point.x, asked.point.y, asked.point.z, asked.limit];
+    let mut best = [0.0, 0.0, 0.0, 1.0 / 0.0];
+    let mut number: u32 = 0;
+    let measured = look(
+        triangles,
+        order,
+        links,
+        boxes,
+        &four,
+        limits::DEEPEST - 1,
+        nodes - 1,
+        0,
+        &mut best,
+        &mut number,
+    );
+    let found = answer_of(&best, number);
+    Sought {
+        best: found,
+        measured,
+    }
+}

@@ -1,0 +1,226 @@
+// The sure query's walk: the nearer child first, a box passed over where it does not count or is above
+// the best so far. `asked` is the point and the limit squared. The lists are lent by a reference to
+// each: that is one word, handed on as it is, where a list's own reference is copied at each call.
+ghost use mathlib.Core.Path.{_≡_};
+ghost use lib.Ieee.{binary32};
+ghost use Prim.Native.Nat.{_+_, _*_, _≤_};
+ghost use lib.ListN.{length};
+ghost use Rattle.shapes.specs.Values as Shapes;
+ghost use Rattle.spec_search.specs.Walk as Walk;
+ghost use Rattle.spec_search.specs.Sure as Sure;
+ghost use Rattle.spec_search.specs.Safe as Safe;
+ghost use Rattle.spec_search.specs.Calls as Calls;
+ghost use Rattle.walks.specs.Values as Values;
+use crate::answer::Asked;
+use crate::answer::Sought;
+use crate::kept::answer_of;
+use crate::kept::is_passed;
+use crate::kept::point_of;
+use crate::leaf::measure_leaf;
+use crate::links::links_of;
+use lists::limits;
+use tree::nodes::node_box;
+
+// The squared distance from the point to a node's box.
+fn node_squared(boxes: &[f32], node: usize, asked: &[f32; 4]) -> f32
+    requires { ⌜ 6 * node + 6 ≤ length (now boxes) ⌝ }
+    ensures { λ r. ⌜ r ≡ Sure.nodeSquared binary32 (now (boxes .entry)) (Values.pointOf (now (asked .entry))) node ⌝ }
+{
+    node_box(boxes, node).held_squared(point_of(asked))
+}
+
+// Looks at a node whose box is at this squared distance, with `depth` levels of branches left to
+// open.
+pub fn node_walk(
+    triangles: &&[f32],
+    order: &&[u32],
+    links: &&[u32],
+    boxes: &&[f32],
+    asked: &[f32; 4],
+    depth: usize,
+    node: usize,
+    squared: f32,
+    measured: usize,
+    best: &mut [f32; 4],
+    number: &mut u32,
+) -> usize
+    requires { ⌜ Safe.NodeSafe (now (now triangles)) (now (now order)) (now (now links)) (now (now boxes)) depth node measured ⌝ }
+    requires { ⌜ squared ≡ Sure.nodeSquared binary32 (now (now boxes)) (Values.pointOf (now asked)) node ⌝ }
+    ensures { λ r. ⌜ Values.soughtOf (now (best .exit)) (now (number .exit)) r ≡ Walk.nodeWalk (Sure.sureSearch binary32 (now (now (triangles .entry))) (now (now (boxes .entry))) (Values.pointOf (now (asked .entry))) (Values.fourthOf (now (asked .entry)))) (now (now (order .entry))) (now (now (links .entry))) depth node (Values.soughtOf (now (best .entry)) (now (number .entry)) measured) ⌝ }
+{
+    if is_passed(asked[3], squared, best, *number) {
+        return measured;
+    }
+    let here = links_of(*links, node);
+    if here.kind == 1 {
+        return measure_leaf(
+            *triangles,
+            *order,
+            here.left,
+            here.right,
+            asked,
+            true,
+            measured,
+            best,
+            number,
+        );
+    }
+    pair_walk(
+        triangles,
+        order,
+        links,
+        boxes,
+        asked,
+        depth - 1,
+        here.left,
+        here.right,
+        measured,
+        best,
+        number,
+    )
+}
+
+// Looks at two children, the nearer box first and the left one among equals. Each box is measured
+// here, once, and its squared distance handed down. Where the farther box is passed over before the
+// nearer child is walked, as it mostly is, it stays so, since what is kept only comes nearer: then the
+// nearer child is all that is left, and its walk is a last step, which needs no frame of its own.
+pub fn pair_walk(
+    triangles: &&[f32],
+    order: &&[u32],
+    links: &&[u32],
+    boxes: &&[f32],
+    asked: &[f32; 4],
+    depth: usize,
+    left: usize,
+    right: usize,
+    measured: usize,
+    best: &mut [f32; 4],
+    number: &mut u32,
+) -> usize
+    requires { ⌜ Safe.PairSafe (now (now triangles)) (now (now order)) (now (now links)) (now (now boxes)) depth left right measured ⌝ }
+    ensures { λ r. ⌜ Values.soughtOf (now (best .exit)) (now (number .exit)) r ≡ Walk.pairWalk (Sure.sureSearch binary32 (now (now (triangles .entry))) (now (now (boxes .entry))) (Values.pointOf (now (asked .entry))) (Values.fourthOf (now (asked .entry)))) (now (now (order .entry))) (now (now (links .entry))) depth left right (Values.soughtOf (now (best .entry)) (now (number .entry)) measured) ⌝ }
+{
+    let to_left = node_squared(*boxes, left, asked);
+    let to_right = node_squared(*boxes, right, asked);
+    if to_right < to_left {
+        if is_passed(asked[3], to_left, best, *number) {
+            return node_walk(
+                triangles,
+                order,
+                links,
+                boxes,
+                asked,
+                depth,
+                right,
+                to_right,
+                measured,
+                best,
+                number,
+            );
+        }
+        let then = node_walk(
+            triangles,
+            order,
+            links,
+            boxes,
+            asked,
+            depth,
+            right,
+            to_right,
+            measured,
+            best,
+            number,
+        );
+        return node_walk(
+            triangles,
+            order,
+            links,
+            boxes,
+            asked,
+            depth,
+            left,
+            to_left,
+            then,
+            best,
+            number,
+        );
+    }
+    if is_passed(asked[3], to_right, best, *number) {
+        return node_walk(
+            triangles,
+            order,
+            links,
+            boxes,
+            asked,
+            depth,
+            left,
+            to_left,
+            measured,
+            best,
+            number,
+        );
+    }
+    let then = node_walk(
+        triangles,
+        order,
+        links,
+        boxes,
+        asked,
+        depth,
+        left,
+        to_left,
+        measured,
+        best,
+        number,
+    );
+    node_walk(
+        triangles,
+        order,
+        links,
+        boxes,
+        asked,
+        depth,
+        right,
+        to_right,
+        then,
+        best,
+        number,
+    )
+}
+
+// The whole search, from the root, which is the last node.
+pub fn search(
+    triangles: &[f32],
+    order: &[u32],
+    links: &[u32],
+    boxes: &[f32],
+    nodes: usize,
+    asked: Asked,
+) -> Sought
+    requires { ⌜ Calls.Searchable (now triangles) (now order) (now links) (now boxes) nodes ⌝ }
+    ensures { λ r. ⌜ Values.asSought r ≡ Sure.sureWalk binary32 (now (triangles .entry)) (now (order .entry)) (now (links .entry)) (now (boxes .entry)) nodes (Shapes.asPoint (asked .point)) (asked .limit) ⌝ }
+{
+    let root = nodes - 1;
+    let four = [asked.point.x, asked.point.y, asked.point.z, asked.limit];
+    let squared = node_squared(boxes, root, &four);
+    let mut best = [0.0, 0.0, 0.0, 1.0 / 0.0];
+    let mut number: u32 = 0;
+    let measured = node_walk(
+        &triangles,
+        &order,
+        &links,
+        &boxes,
+        &four,
+        limits::DEEPEST - 1,
+        root,
+        squared,
+        0,
+        &mut best,
+        &mut number,
+    );
+    let found = answer_of(&best, number);
+    Sought {
+        best: found,
+        measured,
+    }
+}
