@@ -6,8 +6,7 @@ ghost use lib.Ieee.{binary32};
 ghost use Rattle.shapes.specs.Values as Shapes;
 ghost use Rattle.spec_splits.specs.Splits as Splits;
 ghost use Rattle.spec_splits.specs.Area as Area;
-ghost use Rattle.splits.specs.Values as Costs;
-ghost use Rattle.splits.specs.Values as Cuts;
+ghost use Rattle.splits.specs.Values as Values;
 use crate::bucketing::Span;
 use crate::bucketing::bucket_of;
 use crate::bucketing::centre_span;
@@ -22,7 +21,7 @@ use shapes::vec3::Axis;
 // Before the first object that lies in a bucket later than k.
 fn first_later(bounds: &[f32], part: &[u32], axis: Axis, within: Span, k: usize) -> Split
     requires { ⌜ Splits.AllInTable (now bounds) (now part) ⌝ }
-    ensures { λ r. ⌜ Cuts.asSplit r ≡ Area.firstLater (Area.bucketBetween binary32 (Shapes.asAxis axis) (within .lo) (within .hi)) k (Splits.boxesIn (now (bounds .entry)) (now (part .entry))) 0 ⌝ }
+    ensures { λ r. ⌜ Values.asSplit r ≡ Area.firstLater (Area.bucketBetween binary32 (Shapes.asAxis axis) (within .lo) (within .hi)) k (Splits.boxesIn (now (bounds .entry)) (now (part .entry))) 0 ⌝ }
 {
     let mut i = 0;
     while i < part.len() {
@@ -38,7 +37,7 @@ fn first_later(bounds: &[f32], part: &[u32], axis: Axis, within: Span, k: usize)
 fn cut_by(bounds: &[f32], part: &[u32], axis: Axis, within: Span, best: Cheapest) -> Split
     requires { ⌜ length (now part) < 2 ^ 28 ⌝ }
     requires { ⌜ Splits.AllInTable (now bounds) (now part) ⌝ }
-    ensures { λ r. ⌜ Cuts.asSplit r ≡ Area.cutBy binary32 (Area.bucketBetween binary32 (Shapes.asAxis axis) (within .lo) (within .hi)) (Costs.asCheapest best) (Splits.boxesIn (now (bounds .entry)) (now (part .entry))) ⌝ }
+    ensures { λ r. ⌜ Values.asSplit r ≡ Area.cutBy binary32 (Area.bucketBetween binary32 (Shapes.asAxis axis) (within .lo) (within .hi)) (Values.asCheapest best) (Splits.boxesIn (now (bounds .entry)) (now (part .entry))) ⌝ }
 {
     let leaf_cost = std::num::nearest_u32_to_f32(part.len() as u32);
     if best.are_numbers & (best.cost < leaf_cost) {
@@ -50,7 +49,7 @@ fn cut_by(bounds: &[f32], part: &[u32], axis: Axis, within: Span, best: Cheapest
 pub fn area_split(bounds: &[f32], part: &[u32], axis: Axis, parent: Box3) -> Split
     requires { ⌜ length (now part) < 2 ^ 28 ⌝ }
     requires { ⌜ Splits.Boxed binary32 (now bounds) (now part) ⌝ }
-    ensures { λ r. ⌜ Cuts.asSplit r ≡ Area.areaSplit binary32 (Shapes.asAxis axis) (Shapes.asBox parent) (Splits.boxesIn (now (bounds .entry)) (now (part .entry))) ⌝ }
+    ensures { λ r. ⌜ Values.asSplit r ≡ Area.areaSplit binary32 (Shapes.asAxis axis) (Shapes.asBox parent) (Splits.boxesIn (now (bounds .entry)) (now (part .entry))) ⌝ }
 {
     let within = centre_span(bounds, part, axis);
     let buckets = fill(bounds, part, axis, within);

@@ -4,7 +4,6 @@ ghost use mathlib.Core.Path.{_≡_};
 ghost use Prim.Native.Nat.{_+_, _*_, _≤_};
 ghost use lib.ListN.{length};
 ghost use Rattle.spec_tree.specs.Leaves as Leaves;
-ghost use Rattle.tree.specs.Values as Entries;
 ghost use Rattle.tree.specs.Values as Values;
 use crate::calls::check;
 use crate::leaf_reader::EntryFound;
@@ -131,7 +130,7 @@ pub fn leaf_entry(
     k: usize,
     i: usize,
 ) -> EntryFound
-    ensures { λ r. ⌜ Entries.asEntryFound r ≡ Leaves.entryAnswer (now (triangles .entry)) (now (order .entry)) (now (links .entry)) (now (boxes .entry)) nodes k i ⌝ }
+    ensures { λ r. ⌜ Values.asEntryFound r ≡ Leaves.entryAnswer (now (triangles .entry)) (now (order .entry)) (now (links .entry)) (now (boxes .entry)) nodes k i ⌝ }
 {
     let found = leaf(triangles, order, links, boxes, nodes, k);
     match found {
