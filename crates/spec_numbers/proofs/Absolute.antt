@@ -1,5 +1,4 @@
--- |x| by a test: the opposite of x below zero, and otherwise x with +0 for -0.
--- Assumes nothing.
+-- The magnitude of a number by one test, as code works it out: the opposite of what is below zero, and else the number plus zero.
 use mathlib.Core.Path.{_≡_, refl, ap, sym}
 use mathlib.Core.Bool.{true, false, not}
 use Prim.Native.Nat.{zero as none, suc, _+_, _*_}
@@ -11,12 +10,14 @@ use lib.Ieee.Fits.{up-pos}
 use Rattle.spec_numbers.specs.Values.{abs, plusZero, zero}
 use Rattle.spec_numbers.proofs.Unique.{zero-exponent}
 
+-- the branch below zero: the opposite of the number is its magnitude
 pub below-zero-turns : (x : Float) → T (lt x zero) → neg x ≡ abs x
 unfolding lt neg
 below-zero-turns (inf true) h = refl
 below-zero-turns (fin true m e) h = refl
 below-zero-turns (fin false m e) h = absurd (omega (arith, ltb→lt))
 
+-- the other branch: adding zero gives the magnitude, as it turns -0 into +0 and keeps a NaN
 pub otherwise-plus-zero : (f : Format) (x : Float) → T (fits f x) → T (not (lt x zero)) → plusZero x ≡ abs x
 unfolding lt
 otherwise-plus-zero f nan h k = refl

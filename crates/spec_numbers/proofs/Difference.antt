@@ -1,5 +1,5 @@
--- A rounded difference of finite floats grows with its first term, falls with its second, and has the sign of the order of the two: x - x is +0. It may overflow to an infinity.
--- Assumes nothing.
+-- A rounded difference of finite floats grows with its first term, falls with its second, and has the sign of the order of the two.
+-- It may overflow to an infinity, and is never a NaN.
 use mathlib.Core.Path.{_≡_, sym, _∙_}
 use mathlib.Core.Bool.{Bool, true, false, not}
 use Prim.Native.Nat.{ℕ, _*_, _<_}
@@ -21,14 +21,16 @@ unfolding neg
 neg-finite (fin s m e) h = tt
 
 -- ---- in its first term, and in both
+-- a difference of finite floats is no NaN
 pub sub-number : (f : Format) (x p : Float) → T (finite x) → T (finite p) → Number (sub f x p)
 unfolding sub
 sub-number f x p X P = add-number f x (neg p) X (neg-finite p P)
 
-pub sub-keeps-order : (f : Format) (x p y q : Float) → T (finite x) → T (finite p) → T (finite y) → T (finite q) → T (le x y) → T (le q p) → T (le (sub f x p) (sub f y q))
+sub-keeps-order : (f : Format) (x p y q : Float) → T (finite x) → T (finite p) → T (finite y) → T (finite q) → T (le x y) → T (le q p) → T (le (sub f x p) (sub f y q))
 unfolding sub
 sub-keeps-order f x p y q X P Y Q h k = finite-add-keeps-order f x (neg p) y (neg q) X (neg-finite p P) Y (neg-finite q Q) h (neg-reverses q p k)
 
+-- a difference grows with the number that is subtracted from
 pub sub-grows : (f : Format) (x y p : Float) → T (finite x) → T (finite y) → T (finite p) → T (le x y) → T (le (sub f x p) (sub f y p))
 sub-grows f x y p X Y P h = sub-keeps-order f _ _ _ _ X P Y P h (reflexive _ (finite-number _ P))
 
@@ -44,13 +46,16 @@ unfolding sum
 opposite f false a c C = rw (not-below-itself a, sub-self a) (round-nothing f c C)
 opposite f true a c C = rw (not-below-itself a, sub-self a) (round-nothing f c C)
 
+-- a finite number less itself is +0
 pub difference-with-itself : (f : Format) (x : Float) → T (finite x) → sub f x x ≡ zero
 unfolding sub
 difference-with-itself f (fin s m e) h = opposite f s (m * up e * down e) (down e * down e) (mul-pos (down-pos e) (down-pos e))
 
 -- ---- the sign of a difference
+-- a number less one that is not above it is not below zero: rounding does not turn the sign
 pub sub-not-below : (f : Format) (x p : Float) → T (finite x) → T (finite p) → T (le p x) → T (le zero (sub f x p))
 sub-not-below f x p X P h = rw (difference-with-itself f p P) at (sub-grows f p x p P X P h)
 
+-- a number less one that is not below it is not above zero
 pub sub-not-above : (f : Format) (x p : Float) → T (finite x) → T (finite p) → T (le x p) → T (le (sub f x p) zero)
 sub-not-above f x p X P h = rw (difference-with-itself f p P) at (sub-grows f x p p X P P h)

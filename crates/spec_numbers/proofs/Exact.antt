@@ -1,5 +1,5 @@
--- A float that fits its format rounds to itself. So x + 0 is x, but for -0, which becomes +0; and x - x compares equal with itself where x is finite, and only there.
--- Assumes nothing.
+-- A float that fits its format rounds to itself. So x + 0 is x, but for -0, which becomes +0;
+-- and x - x compares equal with itself where x is finite, and only there: code tests by that whether a number is finite.
 use mathlib.Core.Path.{_≡_, refl, ap, subst}
 use mathlib.Core.Bool.{Bool, true, false}
 use Prim.Native.Nat.{ℕ, zero, suc, _+_, _-_, _*_, _^_, _≤_, zero-le}
@@ -43,6 +43,7 @@ by-value : (f : Format) (y : Float) (s : Bool) (m : ℕ) (e : ℤ) → T (fits f
 by-value f (fin t n d) s m e h k v =
     subst (λ (u : Bool). T (fits f (fin u m e)) → fin t n d ≡ fin u m e) (v .0) (λ k'. unique-finite f t n d m e h k' (v .1)) k
 
+-- rounding does not change what the format holds exactly
 pub rounds-to-itself : (f : Format) (s : Bool) (m : ℕ) (e : ℤ) → T (fits f (fin s (suc m) e)) → round f s (suc m * up e) (down e) ≡ fin s (suc m) e
 rounds-to-itself f s m e h = by-value f (round f s (suc m * up e) (down e)) s (suc m) e (round-fits f s (suc m * up e) (down e)) h (kept-whole f s (suc m) e (normal f s m e h))
 
@@ -54,6 +55,7 @@ zero-plus-zero binary32 true = refl
 zero-plus-zero binary64 false = refl
 zero-plus-zero binary64 true = refl
 
+-- adding zero changes -0 alone: coordinates are read by this addition
 pub plus-zero : (f : Format) (x : Float) → T (fits f x) → add f x +0 ≡ plusZero x
 unfolding add
 plus-zero f nan h = refl
@@ -67,6 +69,7 @@ plus-zero f (fin true (suc m) e) h =
     simp (mul-one, zero-mul, sub-zero) (rw (none-below, above) (rounds-to-itself f true m e h))
 
 -- ---- x - x
+-- the difference of a number with itself is a number exactly where the number is finite
 pub difference-tells-finite : (f : Format) (x : Float) → eq (sub f x x) (sub f x x) ≡ finite x
 unfolding sub eq
 difference-tells-finite f nan = refl

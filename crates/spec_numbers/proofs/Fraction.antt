@@ -1,5 +1,5 @@
--- A finite float as a signed fraction, (over - under) / den: one of the first two is 0, by the sign. The float order is the order of the fractions, which needs no cases by sign.
--- Assumes nothing.
+-- A finite float as a signed fraction, (over - under) / den, where one of the first two is 0 by the sign.
+-- The order of floats is the order of these fractions: linear inequalities that `omega` reads, with no cases by sign.
 use mathlib.Core.Bool.{Bool, true, false, _||_, cond}
 use Prim.Native.Nat.{ℕ, _+_, _*_, _≤_, _<_}
 use native.Mathlib.Nat.{le-of-lt, mul-le-mul-right, le-of-mul-le-mul-right, eq-or-lt-of-le, zero-mul}
@@ -29,15 +29,18 @@ value nan = signed false 0 1
 value (inf s) = signed false 0 1
 value (fin s m e) = signed s (m * up e) (down e)
 
+-- the order of fractions, multiplied out, so that nothing is subtracted
 abbrev pub AtMost : Fraction → Fraction → Type 0
 AtMost a b = a .over * b .den + b .under * a .den ≤ b .over * a .den + a .under * b .den
 
 abbrev pub Less : Fraction → Fraction → Type 0
 Less a b = a .over * b .den + b .under * a .den < b .over * a .den + a .under * b .den
 
+-- comparisons of fractions chain, where the denominator in the middle is not zero
 pub at-most-transitive : (a b c : Fraction) → 0 < b .den → AtMost a b → AtMost b c → AtMost a c
 at-most-transitive a b c B h k = le-of-mul-le-mul-right (omega (arith, mul-le-mul-right (c .den) h, mul-le-mul-right (a .den) k)) B
 
+-- fractions always compare, one way or the other: so the order of floats is total
 pub less-or-at-most : (a b : Fraction) → Less a b ⊎ AtMost b a
 less-or-at-most a b = go (decLt _ _)
   where
@@ -79,7 +82,7 @@ joined-holds s a t b h = elim (eq-or-lt-of-le h) [
     same true false e = and-i (eqb a b) (eqb a 0) (eq→eqb {a = a} {b = b} (omega arith)) (eq→eqb {a = a} {b = 0} (omega arith))
     same true true e = and-i (eqb a b) true (eq→eqb {a = a} {b = b} (omega arith)) tt
 
--- the same with the numerators brought to one denominator
+-- a numerator brought to another denominator keeps its sign: so two fractions are compared over one denominator
 pub spread : (s : Bool) (a d : ℕ) → (cond s 0 a * d ≡ cond s 0 (a * d)) × (cond s a 0 * d ≡ cond s (a * d) 0)
 spread false a d = (refl, zero-mul d)
 spread true a d = (zero-mul d, refl)
@@ -91,6 +94,7 @@ pub record Compared (x y : Float) : Type 0 where
   pub le→at-most : T (le x y) → AtMost (value x) (value y)
   pub at-most→le : AtMost (value x) (value y) → T (le x y)
 
+-- the order of finite floats as an inequality of whole numbers, both ways: other laws of the order are proved through it
 pub compared : (x y : Float) → T (finite x) → T (finite y) → Compared x y
 unfolding lt le
 compared (fin s m e) (fin t n d) h k =
@@ -105,6 +109,7 @@ compared (fin s m e) (fin t n d) h k =
       at-most→le = λ l. joined-holds s a t b (omega arith);
     }
 
+-- no denominator is zero, so the laws of fractions apply to every float
 pub den-above-zero : (x : Float) → 0 < value x .den
 den-above-zero nan = pow-pos 0
 den-above-zero (inf s) = pow-pos 0

@@ -1,4 +1,4 @@
--- No finite number of a format is above its largest. Assumes nothing.
+-- No finite number of a format is above its largest: the bounds of centres begin with it.
 use mathlib.Core.Path.{_≡_, sym, ap, _∙_}
 use mathlib.Core.Bool.{true, false}
 use Prim.Native.Nat.{ℕ, zero, suc, _*_, _-_, _^_, _≤_, _<_}
@@ -41,6 +41,7 @@ module _ (f : Format) where
   bounded m (pos k) digits high = omega (arith, raised m k digits high)
   bounded m (negsuc k) digits high = omega (arith, le-mul-of-pos-right most (pow-pos top), le-mul-of-pos-right (most * 2 ^ top) (pow-pos (suc k)))
 
+  -- a minimum that begins with the largest number is the minimum of the finite numbers that it takes in
   pub at-most-largest : (x : Float) → T (fits f x) → T (finite x) → T (le x (largest f))
   at-most-largest (fin true m e) h k = compared (fin true m e) (largest f) tt tt .at-most→le (omega arith)
   at-most-largest (fin false zero e) h k = compared (fin false 0 e) (largest f) tt tt .at-most→le (omega arith)

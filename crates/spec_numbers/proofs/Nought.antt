@@ -1,4 +1,5 @@
--- A zero or a NaN stays one when it is divided, or multiplied by a finite number, and its whole part is 0. So the distance from a number to itself is nought in any measure. Assumes nothing.
+-- A zero or a NaN stays one when it is divided, or multiplied by a finite number, and its whole part is 0.
+-- So a centre at the lower end of the bounds has a nought for its offset, and falls into bucket 0.
 use mathlib.Core.Path.{_≡_, refl, sym, _∙_}
 use mathlib.Core.Bool.{Bool, true, false, cond}
 use Prim.Native.Nat.{ℕ, zero, suc, _*_, _-_, _^_, _<_}
@@ -21,7 +22,8 @@ Nought nan = Unit {0}
 Nought (inf s) = ⊥
 Nought (fin s m e) = m ≡ 0
 
--- ---- what is at most and at least zero
+-- ---- by the order
+-- what both comparisons with zero admit is a zero, of either sign
 pub nought-by-order : (x : Float) → T (le Values.zero x) → T (le x Values.zero) → Nought x
 unfolding le
 nought-by-order (inf false) h k = k
@@ -32,6 +34,7 @@ nought-by-order (fin true zero e) h k = refl
 nought-by-order (fin true (suc m) e) h k = absurd (omega (arith, compared Values.zero (fin true (suc m) e) tt tt .le→at-most h, mul-pos (zero-lt-suc m) (up-pos e)))
 
 -- ---- a number's difference with itself
+-- it is a zero where the number is finite, and else a NaN
 pub difference-nought : (f : Format) (x : Float) → Nought (sub f x x)
 unfolding sub add neg
 difference-nought f nan = tt
@@ -51,10 +54,12 @@ round-nought f s c C = by-sign s
     by-sign false = rw none refl
     by-sign true = rw (round-negated f 0 c, none) refl
 
+-- of two noughts a test picks a nought
 pub either : (b : Bool) (x y : Float) → Nought x → Nought y → Nought (cond b x y)
 either true x y h k = h
 either false x y h k = k
 
+-- a nought divided by anything is a nought
 pub over-nought : (f : Format) (x y : Float) → Nought x → Nought (div f x y)
 unfolding div
 over-nought f nan y h = tt
@@ -66,6 +71,7 @@ over-nought f (fin s zero e) (fin t (suc n) d) h =
     (rw (zero-mul (up e), zero-mul (down d)) (round-nought f (unlike s t) (suc n * up d * down e) (mul-pos (mul-pos (zero-lt-suc n) (up-pos d)) (down-pos e))))
 over-nought f (fin s (suc m) e) y h = absurd (omega arith)
 
+-- a nought times a finite number is a nought
 pub times-nought : (f : Format) (s : Bool) (a : ℕ) (b : ℤ) (y : Float) → Nought y → Nought (mul f (fin s a b) y)
 unfolding mul
 times-nought f s a b nan h = tt
@@ -73,6 +79,7 @@ times-nought f s a b (fin t zero d) h = rw (zero-mul (up d), mul-zero (a * up b)
 times-nought f s a b (fin t (suc n) d) h = absurd (omega arith)
 
 -- ---- its whole part
+-- so a nought falls into bucket 0
 pub cut-nought : (x : Float) → Nought x → Values.cut x ≡ 0
 unfolding toUnsigned
 cut-nought nan h = refl

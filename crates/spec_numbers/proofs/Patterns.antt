@@ -1,5 +1,5 @@
--- Which bit patterns are a NaN's, by one comparison with an infinity's: those above it read as the NaN, and the others as a number. What does not differ from itself
--- is a number. Assumes nothing.
+-- Which bit patterns are a NaN's, by one comparison with an infinity's: those above it read as the NaN, the others as numbers.
+-- Code reads and writes bits by these tests.
 use mathlib.Core.Path.{_≡_, refl, sym, subst, _∙_}
 use mathlib.Core.Bool.{Bool, not}
 use Prim.Native.Nat.{ℕ, _*_, _%_, _≤_, _<_}
@@ -14,19 +14,21 @@ unfolding isNan
 nan-is nan h = refl
 
 module _ (f : Format) (b : ℕ) where
+  -- a pattern that is above infinity's, sign left out, reads as the NaN
   pub reads-as-nan : ones f * hid f < b % top f → nan ≡ ofBits f b
   reads-as-nan h = nan-is (ofBits f b) (subst T (sym (nanBits-above f b) ∙ nanBits-is f b) (lt→ltb _ _ h))
 
+  -- any other pattern is no NaN's
   pub reads-as-number : b % top f ≤ ones f * hid f → T (not (nanBits f b))
   reads-as-number h = subst (λ (t : Bool). T (not t)) (sym (nanBits-above f b)) (le→nltb _ _ h)
 
--- nought over nought is the NaN
+-- zero over zero is the NaN: code makes it so
 pub nought-over-nought : (f : Format) → div f (ofBits f 0) (ofBits f 0) ≡ nan
 unfolding div ofBits
 nought-over-nought binary32 = refl
 nought-over-nought binary64 = refl
 
--- what does not differ from itself is a number
+-- what does not differ from itself is a number: the test for a NaN in code
 pub same-is-number : (x : Float) → T (not (ne x x)) → Number x
 unfolding ne isNan
 same-is-number (inf s) h = tt

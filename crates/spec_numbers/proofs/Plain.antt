@@ -1,5 +1,5 @@
--- Of plain numbers, where there is no NaN and no -0, two are equal as data where neither is above the other. So the smaller and the larger of two do not go by their order, nor those of
--- three by their grouping. Assumes nothing.
+-- Of plain numbers, with no NaN and no -0, two are equal as data where neither is above the other. So the smaller and the larger of two
+-- don't depend on their order, nor those of three on their grouping: boxes may be joined in any order.
 use mathlib.Core.Path.{_≡_, sym, subst, _∙_}
 use Prim.Native.Nat.{zero as none, suc}
 use mathlib.Core.Bool.{Bool, true, false, not, cond}
@@ -14,11 +14,13 @@ use Rattle.spec_numbers.proofs.Unique.{unique, signs-agree}
 use Rattle.spec_numbers.proofs.PlusZero.{plus-zero-no-minus-zero}
 
 -- ---- the ends of a format's finite numbers
+-- the number that minima begin with is plain
 pub largest-number-plain : (f : Format) → Plain f (largest f)
 unfolding fits eq isNan
 largest-number-plain binary32 = record { fitting = tt; number = tt; plus = λ h. absurd h }
 largest-number-plain binary64 = record { fitting = tt; number = tt; plus = λ h. absurd h }
 
+-- the number that maxima begin with is plain
 pub least-number-plain : (f : Format) → Plain f (least f)
 unfolding fits eq isNan
 least-number-plain binary32 = record { fitting = tt; number = tt; plus = λ h. absurd h }
@@ -26,7 +28,7 @@ least-number-plain binary64 = record { fitting = tt; number = tt; plus = λ h. a
 
 -- ---- the smaller and the larger
 module _ (f : Format) where
-  pub plain-antisymmetric : (x y : Float) → Plain f x → Plain f y → T (le x y) → T (le y x) → x ≡ y
+  plain-antisymmetric : (x y : Float) → Plain f x → Plain f y → T (le x y) → T (le y x) → x ≡ y
   plain-antisymmetric x y P Q h k = go (eq x zero) (λ (e : T (eq x zero)). e) (λ (n : T (not (eq x zero))). n)
     where
       go : (b : Bool) → (T b → T (eq x zero)) → (T (not b) → T (not (eq x zero))) → x ≡ y
@@ -35,24 +37,28 @@ module _ (f : Format) where
           x0 ∙ sym (Q .plus (antisymmetric y zero (subst (λ (z : Float). T (le y z)) x0 k) (subst (λ (z : Float). T (le z y)) x0 h)))
       go false is other = unique f x y (P .fitting) (Q .fitting) (antisymmetric x y h k) (signs-agree x y (antisymmetric x y h k) (other tt))
 
-  pub picked-plain : (b : Bool) (x y : Float) → Plain f x → Plain f y → Plain f (cond b x y)
+  picked-plain : (b : Bool) (x y : Float) → Plain f x → Plain f y → Plain f (cond b x y)
   picked-plain true x y P Q = P
   picked-plain false x y P Q = Q
 
   module _ (a b : Float) (A : Plain f a) (B : Plain f b) where
+    -- the smaller of plain numbers is plain
     pub smaller-plain : Plain f (smaller a b)
     smaller-plain = picked-plain (lt b a) b a B A
 
+    -- the larger of plain numbers is plain
     pub larger-plain : Plain f (larger a b)
     larger-plain = picked-plain (lt a b) b a B A
 
   module _ (a b : Float) (A : Plain f a) (B : Plain f b) where
+    -- the smaller of two does not depend on their order, as it would for +0 and -0
     pub smaller-comm : smaller a b ≡ smaller b a
     smaller-comm =
         plain-antisymmetric _ _ (smaller-plain a b A B) (smaller-plain b a B A)
         (smaller-greatest b a _ (smaller-second a b (A .number) (B .number)) (smaller-first a b (A .number)))
         (smaller-greatest a b _ (smaller-second b a (B .number) (A .number)) (smaller-first b a (B .number)))
 
+    -- the larger of two does not depend on their order
     pub larger-comm : larger a b ≡ larger b a
     larger-comm =
         plain-antisymmetric _ _ (larger-plain a b A B) (larger-plain b a B A)
@@ -60,6 +66,7 @@ module _ (f : Format) where
         (larger-least b a _ (larger-second a b (A .number) (B .number)) (larger-first a b (A .number)))
 
   module _ (a b c : Float) (A : Plain f a) (B : Plain f b) (C : Plain f c) where
+    -- the smallest of three does not depend on their grouping
     pub smaller-assoc : smaller (smaller a b) c ≡ smaller a (smaller b c)
     smaller-assoc =
         let ab = smaller a b in
@@ -76,6 +83,7 @@ module _ (f : Format) where
         (smaller-greatest ab c r (smaller-greatest a b r (smaller-first a bc (A .number)) (transitive r bc b r-bc (smaller-first b c (B .number))))
         (transitive r bc c r-bc (smaller-second b c (B .number) (C .number))))
 
+    -- the largest of three does not depend on their grouping
     pub larger-assoc : larger (larger a b) c ≡ larger a (larger b c)
     larger-assoc =
         let ab = larger a b in
@@ -106,5 +114,6 @@ plus-zero-number (inf s) h = tt
 plus-zero-number (fin s none e) h = tt
 plus-zero-number (fin s (suc m) e) h = tt
 
+-- so every coordinate that is read is plain
 pub plus-zero-plain : (f : Format) (x : Float) → T (fits f x) → Number x → Plain f (plusZero x)
 plus-zero-plain f x h n = record { fitting = plus-zero-fits f x h; number = plus-zero-number x n; plus = plus-zero-no-minus-zero x }

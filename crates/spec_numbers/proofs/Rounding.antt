@@ -1,5 +1,5 @@
--- Rounding keeps the order, whatever the signs: of two fractions the larger rounds to a float that is no smaller. Subnormal results and overflow to an infinity are included.
--- `Rounded f v r` says that the float r is the fraction v, rounded once to the format f. Assumes nothing.
+-- Rounding keeps the order, whatever the signs: of two fractions the larger rounds to a float that is no smaller.
+-- Subnormal results and overflow to an infinity are included. `Rounded f v r` says that r is the fraction v, rounded once to the format f.
 use mathlib.Core.Path.{_≡_, refl, sym, _∙_, ap}
 use mathlib.Core.Bool.{Bool, true, false, not, cond}
 use Prim.Native.Nat.{ℕ, zero, suc, _+_, _*_, _^_, _<_}
@@ -15,6 +15,7 @@ use Rattle.spec_numbers.proofs.Fraction.{Fraction, signed, value, AtMos
 use Rattle.spec_numbers.proofs.Order.{transitive}
 
 -- ---- a negation turns the order round
+-- so a law of sums gives one of differences, and a law above zero gives one below
 pub neg-reverses : (x y : Float) → T (le x y) → T (le (neg y) (neg x))
 unfolding le neg
 neg-reverses (inf true) (inf true) h = tt
@@ -44,19 +45,23 @@ units-negated f q k = go (ltb (q * 2 ^ k) (2 ^ (low f + suc (emax f))))
     go true = odd-negated (suc (prec f)) q k (low f)
     go false = refl
 
+-- the rounded opposite is the opposite of the rounded: proofs need one sign
 pub round-negated : (f : Format) (a c : ℕ) → round f true a c ≡ neg (round f false a c)
 round-negated f a c = round-is f true a c ∙ units-negated f _ _ ∙ ap neg (sym (round-is f false a c))
 
 -- ---- zero
+-- zero rounds to +0
 pub round-zero : (f : Format) → round f false 0 1 ≡ +0
 unfolding round
 round-zero binary32 = refl
 round-zero binary64 = refl
 
 module _ (f : Format) (a c : ℕ) (C : 0 < c) where
+  -- a fraction that is not below zero does not round to a float below zero
   pub round-not-below : T (le +0 (round f false a c))
   round-not-below = rw (← round-zero f) (round-mono f 0 1 a c (pow-pos 0) C (omega arith))
 
+  -- a fraction that is not above zero does not round to a float above zero
   pub round-not-above : T (le (round f true a c) +0)
   unfolding neg le
   round-not-above = rw (round-negated f a c) (transitive (neg (round f false a c)) (neg +0) +0 (neg-reverses +0 (round f false a c) round-not-below) tt)
@@ -86,6 +91,7 @@ pub record Rounded (f : Format) (v : Fraction) (r : Float) : Type 0 where
   pub is : r ≡ round f sign size (v .den)
   pub says : v .over + cond sign size 0 ≡ v .under + cond sign 0 size
 
+-- one rounding keeps the order of the exact values: sums, differences and squares of floats grow by this law
 pub rounding-keeps-order : {f : Format} {v w : Fraction} {r q : Float} → 0 < v .den → 0 < w .den → Rounded f v r → Rounded f w q → AtMost v w → T (le r q)
 rounding-keeps-order {f} {v} {w} hv hw p q h =
     rw (p .is, q .is)

@@ -1,4 +1,4 @@
--- The test of sameness says yes exactly where the two numbers are equal, and, of numbers of a format, where their bit patterns are. Assumes nothing.
+-- The test of sameness says yes exactly where the two floats are equal as data, and, of numbers of a format, where their bit patterns are.
 use mathlib.Core.Path.{_≡_, refl, sym, ap, _∙_}
 use mathlib.Core.Bool.{Bool, true, false, Bool·beq, _&&_, false≢true}
 use borrow.Author.Tests.{eqb-true, eq-eqb}
@@ -29,6 +29,7 @@ whole-itself : (e : ℤ) → sameWhole e e ≡ true
 whole-itself (pos m) = eq-eqb m m refl
 whole-itself (negsuc m) = eq-eqb m m refl
 
+-- floats that the test calls the same are equal as data
 pub same-equal : (a b : Float) → same a b ≡ true → a ≡ b
 unfolding same
 same-equal nan nan h = refl
@@ -53,6 +54,7 @@ same-itself nan = refl
 same-itself (inf s) = sign-itself s
 same-itself (fin s m e) = simp (sign-itself, whole-itself, eq-eqb m m refl)
 
+-- the test calls equal floats the same, NaNs too
 pub equal-same : (a b : Float) → a ≡ b → same a b ≡ true
 equal-same a b p = rw (← p) (same-itself a)
 
@@ -63,7 +65,7 @@ together true false h k = sym (h refl)
 together false true h k = k refl
 together false false h k = refl
 
--- numbers of a format are the same where their patterns are
+-- numbers of a format are the same where their patterns are: code compares the patterns
 pub patterns-same : (f : Format) (a b : Float) → T (fits f a) → T (fits f b) → eqb (toBits f a) (toBits f b) ≡ same a b
 patterns-same f a b p q =
     together (eqb (toBits f a) (toBits f b)) (same a b)

@@ -1,5 +1,5 @@
--- A rounded sum grows with each of its terms. Infinities are included as far as the sums are no NaN, which those of terms that are not below zero never are.
--- Assumes nothing.
+-- A rounded sum grows with each of its terms. Infinities are included as far as the sums are no NaN,
+-- which those of terms that are not below zero never are: squared distances are such sums.
 use mathlib.Core.Path.{_≡_, refl}
 use mathlib.Core.Bool.{Bool, true, false, not, cond}
 use Prim.Native.Nat.{ℕ, _+_, _-_, _*_, _≤_, _<_}
@@ -53,6 +53,7 @@ sum-rounds f true a false b c = go (ltb a b) (ltb b a) (ltb→lt a b) (nltb→le
     go false true h k i j = let l : b < a = i tt in record { sign = true; size = a - b; is = refl; says = omega arith }
     go false false h k i j = let l : b ≤ a = k tt in let r : a ≤ b = j tt in record { sign = false; size = a - b; is = refl; says = omega arith }
 
+-- a sum of finite floats is the exact sum, rounded once
 pub add-rounds : (f : Format) (x y : Float) → T (finite x) → T (finite y) → Rounded f (plus (value x) (value y)) (add f x y)
 unfolding add
 add-rounds f (fin s m e) (fin t n d) h k =
@@ -61,6 +62,7 @@ add-rounds f (fin s m e) (fin t n d) h k =
     record { sign = r .sign; size = r .size; is = r .is; says = omega (arith, spread s (m * up e) (down d), spread t (n * up d) (down e), r .says) }
 
 -- ---- a sum grows with its terms
+-- larger terms make a sum that is no smaller, though it is rounded
 pub finite-add-keeps-order : (f : Format) (a b c d : Float) → T (finite a) → T (finite b) → T (finite c) → T (finite d) → T (le a c) → T (le b d) → T (le (add f a b) (add f c d))
 finite-add-keeps-order f a b c d A B C D h k =
     rounding-keeps-order (mul-pos (den-above-zero a) (den-above-zero b)) (mul-pos (den-above-zero c) (den-above-zero d)) (add-rounds f a b A B) (add-rounds f c d C D)
@@ -77,7 +79,7 @@ unfolding add isNan
 add-highest f (inf false) h = refl
 add-highest f (fin t n d) h = refl
 
-pub add-keeps-order : (f : Format) (a b c d : Float) → T (le a c) → T (le b d) → Number (add f a b) → Number (add f c d) → T (le (add f a b) (add f c d))
+add-keeps-order : (f : Format) (a b c d : Float) → T (le a c) → T (le b d) → Number (add f a b) → Number (add f c d) → T (le (add f a b) (add f c d))
 unfolding add le
 add-keeps-order f (inf true) b c d h k p q = rw (add-lowest f b p) (least (add f c d) q)
 add-keeps-order f (inf false) b (inf false) d h k p q = rw (add-highest f d q) (greatest (add f (inf false) b) p)
@@ -92,13 +94,14 @@ pub add-number : (f : Format) (x y : Float) → T (finite x) → T (finite y) �
 add-number f x y X Y = number-left _ _ (finite-add-keeps-order f _ _ _ _ X Y X Y (reflexive _ (finite-number _ X)) (reflexive _ (finite-number _ Y)))
 
 -- ---- terms that are not below zero
-pub sum-number : (f : Format) (a b : Float) → T (le zero a) → T (le zero b) → Number (add f a b)
+sum-number : (f : Format) (a b : Float) → T (le zero a) → T (le zero b) → Number (add f a b)
 unfolding add le isNan
 sum-number f (inf false) (inf false) h k = tt
 sum-number f (inf false) (fin t n d) h k = tt
 sum-number f (fin s m e) (inf t) h k = tt
 sum-number f (fin s m e) (fin t n d) h k = add-number f (fin s m e) (fin t n d) tt tt
 
+-- sums of terms that are not below zero grow with them, to infinity too: distances grow with what they add up
 pub sum-keeps-order : (f : Format) (a b c d : Float) → T (le zero a) → T (le zero b) → T (le a c) → T (le b d) → T (le (add f a b) (add f c d))
 sum-keeps-order f a b c d p q h k = add-keeps-order f _ _ _ _ h k (sum-number f _ _ p q) (sum-number f _ _ (transitive _ _ _ p h) (transitive _ _ _ q k))
 
@@ -107,5 +110,6 @@ unfolding add
 zero-and-zero binary32 = refl
 zero-and-zero binary64 = refl
 
+-- a sum of terms that are not below zero is not below zero
 pub sum-not-below : (f : Format) (a b : Float) → T (le zero a) → T (le zero b) → T (le zero (add f a b))
 sum-not-below f a b h k = rw (zero-and-zero f) at (sum-keeps-order f zero zero a b (reflexive zero (finite-number zero tt)) (reflexive zero (finite-number zero tt)) h k)

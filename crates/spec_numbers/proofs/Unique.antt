@@ -1,4 +1,4 @@
--- Two floats that fit one format, are equal in value and have one sign are the same data. Assumes nothing.
+-- Two floats that fit one format, are equal in value and have one sign are the same data: comparisons by value then settle every bit.
 use mathlib.Core.Path.{_≡_, refl, sym, ap, _∙_, subst}
 use mathlib.Core.Bool.{Bool, true, false, not, _&&_, _||_, Bool·beq}
 use Prim.Native.Nat.{ℕ, zero, suc, _+_, _*_, _%_, _^_, _≤_, _<_}
@@ -30,10 +30,12 @@ abbrev pub sunk : ℤ → ℕ
 sunk (pos k) = 0
 sunk (negsuc k) = suc k
 
+-- the factor that an exponent gives the numerator is a power of two
 pub up-is : (e : ℤ) → up e ≡ 2 ^ raised e
 up-is (pos k) = refl
 up-is (negsuc k) = refl
 
+-- the factor that an exponent gives the denominator is a power of two
 pub down-is : (e : ℤ) → down e ≡ 2 ^ sunk e
 down-is (pos k) = refl
 down-is (negsuc k) = refl
@@ -50,18 +52,21 @@ odd-unique m e n d o p h =
     (r .0, same-exponent e d (r .1))
 
 -- ---- what it is to fit: zero has the exponent 0, and any other m is odd, has the format's digits, and is in its range
+-- a zero that fits a format has the exponent 0: there is one +0 and one -0
 pub zero-exponent : (f : Format) (s : Bool) (e : ℤ) → T (fits f (fin s zero e)) → e ≡ pos 0
 unfolding fits
 zero-exponent f s (pos zero) h = refl
 zero-exponent f s (pos (suc k)) h = absurd (omega (arith, pow-pos k, simp (pow-suc, mul-one) at (eqb→eq (2 ^ suc k * 1) 1 h)))
 zero-exponent f s (negsuc k) h = absurd (omega (arith, pow-pos k, simp (pow-suc, one-mul) at (eqb→eq (1 * 2 ^ suc k) 1 h)))
 
+-- what the data of a float other than zero obeys: an odd m within the format's digits, and an exponent in its range
 pub record Normal (f : Format) (m : ℕ) (e : ℤ) : Type 0 where
   pub isOdd : m % 2 ≡ 1
   pub digits : m < 2 ^ prec f
   pub deep : down e ≤ 2 ^ low f
   pub high : m * up e < 2 ^ suc (emax f) * down e
 
+-- every float of the format but the zeros obeys it
 pub normal : (f : Format) (s : Bool) (m : ℕ) (e : ℤ) → T (fits f (fin s (suc m) e)) → Normal f (suc m) e
 unfolding fits
 normal f s m e h =
@@ -80,6 +85,7 @@ not-zero : (m u d : ℕ) → 0 < u → 0 < d → suc m * u * d ≡ 0 → ⊥
 not-zero m u d h k e = omega (arith, mul-pos (mul-pos (zero-lt-suc m) h) k)
 
 -- ---- one value, one sign, one float
+-- finite floats of one value and one sign are the same data
 pub unique-finite : (f : Format) (s : Bool) (m : ℕ) (e : ℤ) (n : ℕ) (d : ℤ) → T (fits f (fin s m e)) → T (fits f (fin s n d)) → m * up e * down d ≡ n * up d * down e → fin s m e ≡ fin s n d
 unique-finite f s zero e zero d h k v = ap (fin s zero) (zero-exponent f s e h ∙ sym (zero-exponent f s d k))
 unique-finite f s zero e (suc n) d h k v = absurd (not-zero n (up d) (down e) (up-pos d) (down-pos e) (sym v ∙ simp zero-mul))
@@ -88,6 +94,7 @@ unique-finite f s (suc m) e (suc n) d h k v =
     let r = odd-unique (suc m) e (suc n) d (normal f s m e h .isOdd) (normal f s n d k .isOdd) v in
     λ i. fin s (r .0 i) (r .1 i)
 
+-- the same with infinities: floats that compare equal and have one sign are the same data
 pub unique : (f : Format) (x y : Float) → T (fits f x) → T (fits f y) → T (eq x y) → negative x ≡ negative y → x ≡ y
 unfolding eq
 unique f (inf s) (inf t) h k e r = ap inf r
@@ -112,6 +119,7 @@ zero-equal s m e z =
     let b = 0 * down e in
     and-i (eqb a b) (Bool·beq s false || eqb a 0) (eq→eqb {a = a} {b = b} (omega arith)) (or-r (Bool·beq s false) (eqb a 0) (eq→eqb {a = a} {b = 0} (omega arith)))
 
+-- floats that compare equal have one sign, but for zeros
 pub signs-agree : (x y : Float) → T (eq x y) → T (not (eq x +0)) → negative x ≡ negative y
 unfolding eq
 signs-agree (inf true) (inf true) e n = refl

@@ -1,8 +1,9 @@
--- The smaller and the larger of two numbers, and a number held into an interval: raised to its lower end, then lowered to its upper end. Definitions only.
+-- The smaller and the larger of two numbers, as the source's `min2` and `max2` pick them, and a number held into an interval (clamped):
+-- raised to its lower end, then lowered to its upper end, as the sure query does it.
 use mathlib.Core.Bool.{cond}
 use lib.Ieee.{Float, lt}
 
--- `min2` and `max2`: of two that are equal, as +0 and -0 are, the first
+-- of two that are equal, as +0 and -0 are, `min2` and `max2` keep the first
 abbrev pub smaller : Float → Float → Float
 smaller a b = cond (lt b a) b a
 
@@ -15,5 +16,6 @@ raise lo x = larger x lo
 abbrev pub lower : Float → Float → Float
 lower hi x = smaller x hi
 
+-- raised, then lowered: the other order differs where the interval is empty
 abbrev pub held : Float → Float → Float → Float
 held lo hi x = lower hi (raise lo x)

@@ -1,4 +1,4 @@
--- Numbers that are equal as data where they are equal in value. Definitions only.
+-- Plain numbers, with no NaN and no -0: they are equal as data where they are equal in value, so minima and maxima may be taken in any order.
 use mathlib.Core.Path.{_≡_}
 use lib.Dec.{T}
 use lib.Ieee.{Float, Format, eq, fits}

@@ -1,15 +1,17 @@
--- Whether two numbers are the same, bit for bit: +0 and -0 are not, and a NaN is the same as itself. Definitions only.
+-- Whether two floats are the same bit for bit, as the tree check compares boxes: +0 and -0 differ, and a NaN is the same as itself.
 use mathlib.Core.Bool.{Bool, true, false, Bool·beq, _&&_}
 use lib.Dec.{eqb}
 use lib.IntN.{ℤ, pos, negsuc}
 use lib.Ieee.{Float, nan, inf, fin}
 
+-- the same exponent
 abbrev pub sameWhole : ℤ → ℤ → Bool
 sameWhole (pos m) (pos n) = eqb m n
 sameWhole (pos m) (negsuc n) = false
 sameWhole (negsuc m) (pos n) = false
 sameWhole (negsuc m) (negsuc n) = eqb m n
 
+-- the same kind, sign, digits and exponent
 unfoldable pub same : Float → Float → Bool
 same nan nan = true
 same nan (inf t) = false

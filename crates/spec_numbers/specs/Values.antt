@@ -1,4 +1,4 @@
--- Words for floats: constants, the magnitude, a number and its sign, itself plus zero, the cut to a whole number. Definitions only.
+-- Words for floats that the other definitions share: constants, sign, magnitude, a number plus zero, the cut to a whole number.
 use mathlib.Core.Bool.{Bool, true, false, not}
 use Prim.Native.Nat.{ℕ, zero as none, suc, _-_, _^_}
 use lib.IntN.{pos}
@@ -15,7 +15,7 @@ one = fin false 1 (pos 0)
 abbrev pub two : Float
 two = fin false 1 (pos 1)
 
--- the largest finite number of the format, and the least
+-- the largest finite number of the format, and the least: minima and maxima begin with them
 abbrev pub largest : Format → Float
 largest f = fin false (2 ^ prec f - 1) (pos (suc (emax f) - prec f))
 
@@ -38,7 +38,7 @@ abs nan = nan
 abs (inf s) = inf false
 abs (fin s m e) = fin false m e
 
--- x + 0: itself, with +0 for -0
+-- x + 0: itself, with +0 for -0; coordinates are read so
 abbrev pub plusZero : Float → Float
 plusZero nan = nan
 plusZero (inf s) = inf s
