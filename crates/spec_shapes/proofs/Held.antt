@@ -1,5 +1,5 @@
--- The held point of a triangle with finite corners is finite, lies in the triangle's box, and has no -0. So no box that holds the triangle's box is farther than it, as rounded arithmetic
--- counts: a box may be passed over by its own squared distance. Assumes nothing.
+-- The held point of a triangle with finite corners is finite, lies in the triangle's box, and has no -0. So no box that holds the
+-- triangle's box is farther than it in rounded arithmetic: a box may be skipped by its own squared distance.
 use mathlib.Core.Path.{_≡_, refl}
 use mathlib.Core.Bool.{Bool, true, false, cond}
 use lib.Dec.{T}
@@ -17,30 +17,31 @@ use Rattle.spec_shapes.proofs.OnAxes.{held-on, plus-zero-on, finite-by-
 use Rattle.spec_shapes.proofs.Bounds.{box-proper, contains-inside}
 
 -- ---- squared distances
-pub squared-is : (f : Format) (a p : Point) → squaredDistance f a p ≡ distance2 f (at a) (at p)
+squared-is : (f : Format) (a p : Point) → squaredDistance f a p ≡ distance2 f (at a) (at p)
 unfolding squaredDistance dot minus
 squared-is f a p = refl
 
-pub squared-number : (f : Format) (a p : Point) → Finite (at a) → Finite (at p) → Number (squaredDistance f a p)
+squared-number : (f : Format) (a p : Point) → Finite (at a) → Finite (at p) → Number (squaredDistance f a p)
 squared-number f a p A P = rw (squared-is f a p) (distance-number f (at p) P (at a) A)
 
 -- ---- a point held into a box
 module _ (b : Box) (B : Proper b) (q : Point) (Q : Finite (at q)) where
-  pub held-in-finite : Finite (at (heldIn b q))
+  held-in-finite : Finite (at (heldIn b q))
   held-in-finite i = rw (held-on b q i) (held-finite _ _ _ (B .min i) (B .max i) (Q i))
 
-  pub held-in-inside : Inside b (heldIn b q)
+  held-in-inside : Inside b (heldIn b q)
   held-in-inside = record {
     low = λ i. rw (held-on b q i) (held-at-least _ _ _ (B .ordered i) (finite-number _ (Q i)));
     high = λ i. rw (held-on b q i) (held-at-most _ _ _ (B .ordered i) (finite-number _ (Q i)));
   }
 
   -- it is the nearest of the box
-  pub held-in-nearest : (f : Format) (h : Point) → Inside b h → T (le (heldSquared f b q) (squaredDistance f h q))
+  held-in-nearest : (f : Format) (h : Point) → Inside b h → T (le (heldSquared f b q) (squaredDistance f h q))
   unfolding heldSquared squaredDistance dot minus heldIn
   held-in-nearest f h s =
       held-is-nearest-of-three f (at q) Q (at (b .min)) (at (b .max)) (at h) (B .min) (B .max) (λ i. finite-between _ _ _ (B .min i) (B .max i) (s .low i) (s .high i)) (s .low) (s .high)
 
+  -- the squared distance to a box is no NaN, so it compares with the smallest so far
   pub held-squared-number : (f : Format) → Number (heldSquared f b q)
   unfolding heldSquared
   held-squared-number f = squared-number f (heldIn b q) q held-in-finite Q
@@ -72,18 +73,21 @@ module _ (f : Format) (t : Triangle) (F : FiniteCorners t) (p : Point) where
   unfolding kept
   kept-inside = held-in-inside (boxOf t) (box-proper t F) _ (stand-in-finite (t .a) (closestPoint f t p) (F .a))
 
+  -- the sure query's point is finite, though the source's closest point may not be
   pub held-point-finite : Finite (at (heldPoint f t p))
   held-point-finite i = rw (held-is, plus-zero-on kept i) (plus-zero-finite (on i kept) (kept-finite i))
 
+  -- the sure query's point lies in the triangle's box
   pub held-point-inside : Inside (boxOf t) (heldPoint f t p)
   held-point-inside = record {
     low = λ i. rw (held-is, plus-zero-on kept i) (transitive _ _ _ (kept-inside .low i) (plus-zero-not-below _ (kept-finite i)));
     high = λ i. rw (held-is, plus-zero-on kept i) (transitive _ _ _ (plus-zero-not-above _ (kept-finite i)) (kept-inside .high i));
   }
 
+  -- no coordinate of the sure query's point is -0
   pub held-point-no-minus-zero : (i : Axis) → T (eq (on i (heldPoint f t p)) zero) → on i (heldPoint f t p) ≡ zero
   held-point-no-minus-zero i = rw (held-is, plus-zero-on kept i) (plus-zero-no-minus-zero (on i kept))
 
-  -- no box that holds the triangle's box is farther than the held point
+  -- no box that holds the triangle's box is farther than the held point: skipping a box that is too far loses nothing
   pub box-is-nearer : Finite (at p) → (b : Box) → Proper b → Contains b (boxOf t) → T (le (heldSquared f b p) (squaredDistance f (heldPoint f t p) p))
   box-is-nearer P b B k = held-in-nearest b B p P f (heldPoint f t p) (contains-inside _ _ _ k held-point-inside)

@@ -1,4 +1,4 @@
--- Boxes of plain numbers may be joined in any order and any grouping. Assumes nothing.
+-- Boxes of plain numbers may be joined in any order and any grouping: the two sweeps over the buckets rely on it.
 use mathlib.Core.Path.{_≡_, sym, ap, _∙_}
 use lib.Ieee.{Format}
 use Rattle.spec_numbers.specs.Values as Values
@@ -11,15 +11,15 @@ use Rattle.spec_shapes.specs.Plain.{PlainPoint, PlainBox}
 use Rattle.spec_shapes.proofs.OnAxes.{on-by-axis, smallest-on, largest-on}
 
 -- points that agree on each axis are the same
-pub same-on-each : (a b : Point) → ((i : Axis) → on i a ≡ on i b) → a ≡ b
+same-on-each : (a b : Point) → ((i : Axis) → on i a ≡ on i b) → a ≡ b
 same-on-each a b h = λ j. record { x = h X j; y = h Y j; z = h Z j }
 
 module _ (f : Format) where
   module _ (a b : Point) (A : PlainPoint f a) (B : PlainPoint f b) where
-    pub smallest-plain : PlainPoint f (smallest a b)
+    smallest-plain : PlainPoint f (smallest a b)
     smallest-plain i = rw (smallest-on a b i) (smaller-plain f _ _ (A i) (B i))
 
-    pub largest-plain : PlainPoint f (largest a b)
+    largest-plain : PlainPoint f (largest a b)
     largest-plain i = rw (largest-on a b i) (larger-plain f _ _ (A i) (B i))
 
     smallest-comm : smallest a b ≡ smallest b a
@@ -39,14 +39,17 @@ module _ (f : Format) where
 
   -- ---- boxes
   module _ (a b : Box) (A : PlainBox f a) (B : PlainBox f b) where
+    -- a union of plain boxes is plain
     pub union-plain : PlainBox f (union a b)
     unfolding union
     union-plain = record { min = smallest-plain _ _ (A .min) (B .min); max = largest-plain _ _ (A .max) (B .max) }
 
+    -- which of two boxes comes first does not show in their union
     pub union-comm : union a b ≡ union b a
     unfolding union
     union-comm = λ j. record { min = smallest-comm _ _ (A .min) (B .min) j; max = largest-comm _ _ (A .max) (B .max) j }
 
+    -- how three boxes are grouped does not show in their union
     pub union-assoc : (c : Box) → PlainBox f c → union (union a b) c ≡ union a (union b c)
     unfolding union
     union-assoc c C = λ j. record { min = smallest-assoc _ _ _ (A .min) (B .min) (C .min) j; max = largest-assoc _ _ _ (A .max) (B .max) (C .max) j }
@@ -63,6 +66,7 @@ module _ (f : Format) where
     max = λ i. rw (on-by-axis (λ (j : Axis). Values.least f) i) (least-number-plain f);
   }
 
+  -- a triangle with plain corners has a plain box
   pub box-plain : (t : Triangle) → PlainPoint f (t .a) → PlainPoint f (t .b) → PlainPoint f (t .c) → PlainBox f (boxOf t)
   unfolding boxOf
   box-plain t A B C = record { min = smallest-plain _ _ C (smallest-plain _ _ A B); max = largest-plain _ _ C (largest-plain _ _ A B) }

@@ -1,4 +1,4 @@
--- Boxes, with the source's operations in the source's order, and what may be said of them. Definitions only.
+-- Boxes, with the source's operations in the source's order, and what may be said of them: what code answers is equal to these.
 use mathlib.Core.Bool.{Bool, cond, _&&_}
 use lib.Ieee.{Float, Format, add, sub, mul, div, lt}
 use Rattle.spec_numbers.specs.Values as Values
@@ -10,7 +10,7 @@ pub record Box : Type 0 where
   pub min : Point
   pub max : Point
 
--- no box: joined with a box of finite numbers it gives that box
+-- no box, which a union begins with: joined with a box of finite numbers it gives that box
 unfoldable pub empty : Format → Box
 empty f = record { min = byAxis (λ i. Values.largest f); max = byAxis (λ i. Values.least f) }
 
@@ -27,11 +27,13 @@ centre f b = dividedBy f (plus f (b .min) (b .max)) Values.two
 unfoldable pub sizes : Format → Box → Point
 sizes f b = minus f (b .max) (b .min)
 
+-- the surface, for the area rule
 unfoldable pub area : Format → Box → Float
 area f b =
     let d = sizes f b in
     mul f Values.two (add f (add f (mul f (d .x) (d .y)) (mul f (d .x) (d .z))) (mul f (d .y) (d .z)))
 
+-- for the median rule
 unfoldable pub volume : Format → Box → Float
 volume f b = let d = sizes f b in mul f (mul f (d .x) (d .y)) (d .z)
 
@@ -51,6 +53,7 @@ withExcess f sum far near = cond (lt near far) (add f sum (mul f (sub f far near
 unfoldable pub withOutside : Format → Float → Float → Float → Float → Float
 withOutside f sum lo hi v = withExcess f (withExcess f sum lo v) v hi
 
+-- each axis adds to the sum only where the point is outside the box on it
 unfoldable pub boxSquared : Format → Box → Point → Float
 boxSquared f b p =
     let x = withOutside f Values.zero (b .min .x) (b .max .x) (p .x) in
@@ -69,7 +72,7 @@ closestInBox b p = smallest (largest (b .min) p) (b .max)
 unfoldable pub heldIn : Box → Point → Point
 heldIn b p = byAxis (λ i. held (on i (b .min)) (on i (b .max)) (on i p))
 
--- the point held into the box, minus the point, then dot
+-- the point held into the box, minus the point, then dot: by this a node is skipped
 unfoldable pub heldSquared : Format → Box → Point → Float
 heldSquared f b p = squaredDistance f (heldIn b p) p
 

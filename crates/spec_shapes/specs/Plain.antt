@@ -1,4 +1,4 @@
--- Boxes of plain numbers: no NaN, no -0. Definitions only.
+-- Boxes of plain numbers, with no NaN and no -0: their unions don't depend on the order in which they are joined.
 use lib.Ieee.{Format}
 use Rattle.spec_numbers.specs.Axes.{Axis}
 use Rattle.spec_numbers.specs.Plain.{Plain}

@@ -1,4 +1,4 @@
--- The source's test of a plane and a box, and the plane across an axis that the median split lays. Definitions only.
+-- The source's test of a plane and a box, and the unit vector of each axis: the median rule lays its plane across an axis.
 use mathlib.Core.Bool.{Bool}
 use lib.Ieee.{Float, Format, add, sub, mul, le}
 use Rattle.spec_numbers.specs.Values.{zero, one, abs}
@@ -21,6 +21,7 @@ unit Z = record { x = zero; y = zero; z = one }
 unfoldable pub reach : Format → Point → Point → Float
 reach f n halves = add f (add f (mul f (halves .x) (abs (n .x))) (mul f (halves .y) (abs (n .y)))) (mul f (halves .z) (abs (n .z)))
 
+-- the centre is no farther from the plane than the box reaches: a box that only touches it meets it too
 unfoldable pub meetsBox : Format → Plane → Box → Bool
 meetsBox f plane b =
     let c = centre f b in

@@ -1,4 +1,4 @@
--- Points of space, which are vectors too, with the source's operations in the source's order. Definitions only.
+-- Points of space, which are vectors too, with the source's operations in the source's order: the order decides how results are rounded.
 use mathlib.Core.Bool.{Bool, _&&_}
 use lib.Ieee.{Float, Format, add, sub, mul, div, le}
 use lib.Ieee.Scale.{finite}
@@ -11,6 +11,7 @@ pub record Point : Type 0 where
   pub y : Float
   pub z : Float
 
+-- a coordinate by its axis, so that a law is stated once and not three times
 abbrev pub on : Axis → Point → Float
 on X a = a .x
 on Y a = a .y
@@ -19,6 +20,7 @@ on Z a = a .z
 abbrev pub at : Point → Axis → Float
 at a i = on i a
 
+-- the point with these coordinates
 abbrev pub byAxis : (Axis → Float) → Point
 byAxis c = record { x = c X; y = c Y; z = c Z }
 
@@ -52,19 +54,20 @@ unfoldable pub squaredDistance : Format → Point → Point → Float
 squaredDistance f a p = dot f (minus f a p) (minus f a p)
 
 -- ---- order, on each axis
--- `min2` and `max2`
+-- the corners of a union: `min2` and `max2` on each axis
 unfoldable pub smallest : Point → Point → Point
 smallest a b = byAxis (λ i. Hold.smaller (on i a) (on i b))
 
 unfoldable pub largest : Point → Point → Point
 largest a b = byAxis (λ i. Hold.larger (on i a) (on i b))
 
+-- no coordinate of a is above that of b: as a test
 unfoldable pub isUnder : Point → Point → Bool
 isUnder a b = le (a .x) (b .x) && le (a .y) (b .y) && le (a .z) (b .z)
 
 unfoldable pub isFinite : Point → Bool
 isFinite a = finite (a .x) && finite (a .y) && finite (a .z)
 
--- zeros are plus zero
+-- each coordinate plus zero, so that no -0 is left
 unfoldable pub plusZero : Point → Point
 plusZero a = byAxis (λ i. Values.plusZero (on i a))

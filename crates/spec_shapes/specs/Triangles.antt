@@ -1,4 +1,5 @@
--- The closest point of a triangle: which of the source's seven tests answers first, and the point that it makes. Then the held point of the sure query. Definitions only.
+-- The closest point of a triangle: which of the source's seven tests answers first, and the point that it makes.
+-- Then the held point of the sure query, which is finite and in the triangle's box even where the closest point is neither.
 use mathlib.Core.Bool.{cond, _&&_}
 use lib.Ieee.{Float, Format, add, sub, mul, div, le}
 use Rattle.spec_numbers.specs.Values.{zero, one}
