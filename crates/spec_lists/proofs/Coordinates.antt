@@ -1,4 +1,5 @@
--- A coordinate is finite, and stays a coordinate when it is read plus zero. The first bad number of a list is bad, and those before it are not. Assumes nothing.
+-- A coordinate is finite, and stays a coordinate when it is read plus zero. The first bad number of a list is bad, and those before it
+-- are not: so the place that a refusal reports is determined.
 use mathlib.Core.Path.{_≡_}
 use mathlib.Core.Bool.{Bool, true, false, not, cond}
 use mathlib.Core.List.{List, [], _∷_}
@@ -20,18 +21,22 @@ use Rattle.spec_lists.specs.Refusals.{isCoordinate, firstBad}
 use Rattle.spec_lists.specs.Passed.{AllCoordinates, FirstBad}
 
 -- ---- one number
+-- a coordinate is not below the range, which bounds what is worked out from it
 pub coordinate-at-least : (x : Float) → T (isCoordinate x) → T (le (neg furthestCoordinate) x)
 unfolding isCoordinate
 coordinate-at-least x h = and-l (le (neg furthestCoordinate) x) (le x furthestCoordinate) h
 
+-- a coordinate is not above the range, which bounds what is worked out from it
 pub coordinate-at-most : (x : Float) → T (isCoordinate x) → T (le x furthestCoordinate)
 unfolding isCoordinate
 coordinate-at-most x h = and-r (le (neg furthestCoordinate) x) (le x furthestCoordinate) h
 
+-- a coordinate is finite: the range test keeps out infinities and NaNs
 pub coordinate-finite : (x : Float) → T (isCoordinate x) → T (finite x)
 unfolding neg
 coordinate-finite x h = finite-between (neg furthestCoordinate) x furthestCoordinate tt tt (coordinate-at-least x h) (coordinate-at-most x h)
 
+-- a coordinate plus zero is a coordinate, so what is read is in range
 pub coordinate-plus-zero : (x : Float) → T (isCoordinate x) → T (isCoordinate (plusZero x))
 unfolding isCoordinate le
 coordinate-plus-zero (inf true) h = h
@@ -39,7 +44,7 @@ coordinate-plus-zero (fin s zero e) h = tt
 coordinate-plus-zero (fin s (suc m) e) h = h
 
 -- ---- the first bad number of a list
-pub good-before : (xs : List Float) (i : ℕ) → i < firstBad xs → T (isCoordinate (getD xs i nan))
+good-before : (xs : List Float) (i : ℕ) → i < firstBad xs → T (isCoordinate (getD xs i nan))
 unfolding firstBad
 good-before [] i h = absurd (omega arith)
 good-before (x ∷ xs) i h = go (isCoordinate x) (λ t. t) i h (good-before xs)
@@ -50,7 +55,7 @@ good-before (x ∷ xs) i h = go (isCoordinate x) (λ t. t) i h (good-before xs)
     go true here (suc i) h rest = rest i (omega arith)
     go false here i h rest = absurd (omega arith)
 
-pub first-bad-is-bad : (xs : List Float) → firstBad xs < length xs → T (not (isCoordinate (getD xs (firstBad xs) nan)))
+first-bad-is-bad : (xs : List Float) → firstBad xs < length xs → T (not (isCoordinate (getD xs (firstBad xs) nan)))
 unfolding firstBad
 first-bad-is-bad [] h = absurd (omega arith)
 first-bad-is-bad (x ∷ xs) h = go (isCoordinate x) (λ t. t) h (first-bad-is-bad xs)
@@ -60,10 +65,11 @@ first-bad-is-bad (x ∷ xs) h = go (isCoordinate x) (λ t. t) h (first-bad-is-ba
     go true here h rest = rest (omega arith)
     go false here h rest = here tt
 
+-- the index that the search gives is that of the first bad number
 pub first-bad : (xs : List Float) → firstBad xs < length xs → FirstBad xs (firstBad xs)
 first-bad xs h = record { inside = h; bad = first-bad-is-bad xs h; before = good-before xs }
 
--- there is only one
+-- there is only one such index, so a refusal can report no other
 pub first-bad-unique : (xs : List Float) (i : ℕ) → FirstBad xs i → firstBad xs ≡ i
 first-bad-unique xs i b = go (decLt (firstBad xs) i) (decLt i (firstBad xs))
   where
@@ -72,9 +78,11 @@ first-bad-unique xs i b = go (decLt (firstBad xs) i) (decLt i (firstBad xs))
     go (no m) (yes l) = absurd (T-not (isCoordinate (getD xs i nan)) (b .bad) (good-before xs i l))
     go (no m) (no n) = omega arith
 
+-- a search that came to the end met coordinates only
 pub none-bad : (xs : List Float) → length xs ≤ firstBad xs → AllCoordinates xs
 none-bad xs h i k = good-before xs i (omega arith)
 
+-- over coordinates only the search comes to the end
 pub all-good : (xs : List Float) → AllCoordinates xs → length xs ≤ firstBad xs
 all-good xs h = go (decLt (firstBad xs) (length xs))
   where
@@ -84,14 +92,17 @@ all-good xs h = go (decLt (firstBad xs) (length xs))
 
 -- ---- looking for it, from the front
 module _ (xs : List Float) (i : ℕ) (inside : i < length xs) where
+  -- a turn that stops: the number here is the first bad one
   pub bad-here : isCoordinate (getD xs i nan) ≡ false → firstBad (drop i xs) ≡ 0
   unfolding firstBad
   bad-here e = rw (drop-cons xs i nan inside, e)
 
+  -- a turn that goes on: the search steps over a coordinate
   pub good-here : isCoordinate (getD xs i nan) ≡ true → firstBad (drop i xs) ≡ suc (firstBad (drop (i + 1) xs))
   unfolding firstBad
   good-here e = rw (drop-cons xs i nan inside, e, add-one)
 
+-- the turn at the end: no number remains
 pub none-left : (xs : List Float) (i : ℕ) → length xs ≤ i → firstBad (drop i xs) ≡ 0
 unfolding firstBad
 none-left xs i h = rw (drop-of-length-le xs h)

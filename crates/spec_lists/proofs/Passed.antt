@@ -1,4 +1,5 @@
--- A triangle list, a point list, settings, room and a distance pass their tests exactly where they are good, and the test of coordinates tells the place of the first bad number. Assumes nothing.
+-- A triangle list, a point list, settings, room and a distance pass their tests exactly where they are good: nothing good is refused.
+-- The test of coordinates reports the place of the first bad number.
 use mathlib.Core.Path.{_≡_}
 use mathlib.Core.Bool.{_&&_}
 use mathlib.Core.List.{List}
@@ -21,26 +22,31 @@ use Rattle.spec_lists.proofs.Coordinates.{first-bad, first-bad-unique, 
 
 -- ---- coordinates
 module _ (number : ℕ) (xs : List Float) where
+  -- a list that passed the test has coordinates only
   pub coordinates-passed : coordinateRefusal number xs ≡ passes → AllCoordinates xs
   unfolding coordinateRefusal
   coordinates-passed e = none-bad xs (ltb-false _ _ (not-refused (ltb (firstBad xs) (length xs)) number (firstBad xs) e))
 
+  -- a list that has coordinates only passes
   pub coordinates-pass : AllCoordinates xs → coordinateRefusal number xs ≡ passes
   unfolding coordinateRefusal
   coordinates-pass h = rw (le-ltb (firstBad xs) (length xs) (all-good xs h))
 
+  -- a refusal carries the number of its test and the place of the first bad number
   pub coordinate-told : (n place : ℕ) → coordinateRefusal number xs ≡ refused n place → (n ≡ number) × FirstBad xs place
   unfolding coordinateRefusal
   coordinate-told n place e =
       let r = refused-by (ltb (firstBad xs) (length xs)) number (firstBad xs) n place e in
       (r .1 .0, rw (r .1 .1) (first-bad xs (ltb-true (firstBad xs) (length xs) (r .0))))
 
+  -- a list with a bad number is refused, at the first one
   pub coordinate-refused : (place : ℕ) → FirstBad xs place → coordinateRefusal number xs ≡ refused number place
   unfolding coordinateRefusal
   coordinate-refused place b = rw (first-bad-unique xs place b, lt-ltb place (length xs) (b .inside))
 
 -- ---- triangles
 module _ (xs : List Float) where
+  -- a triangle list that passed is whole, has 1 to 4,096 triangles, and coordinates only
   pub triangles-passed : trianglesRefusal xs ≡ passes → GoodTriangles xs
   unfolding trianglesRefusal raggedRefusal noneRefusal tooManyRefusal triangleCount
   triangles-passed e =
@@ -54,6 +60,7 @@ module _ (xs : List Float) where
         coordinates = coordinates-passed 4 xs (p .1 .1 .1 .0);
       }
 
+  -- such a triangle list passes: refusals 1 to 4 come for no other reason
   pub triangles-pass : GoodTriangles xs → trianglesRefusal xs ≡ passes
   unfolding trianglesRefusal raggedRefusal noneRefusal tooManyRefusal triangleCount
   triangles-pass g =
@@ -69,6 +76,7 @@ module _ (xs : List Float) where
 
 -- ---- points
 module _ (xs : List Float) where
+  -- a point list that passed is whole and has coordinates only
   pub points-passed : pointsRefusal xs ≡ passes → GoodPoints xs
   unfolding pointsRefusal pointCount
   points-passed e =
@@ -76,6 +84,7 @@ module _ (xs : List Float) where
       let ragged = eqb-true (length xs % 3) 0 (so (eqb (length xs % 3) 0) 8 (length xs) (p .0)) in
       record { whole = omega arith; coordinates = coordinates-passed 8 xs (p .1 .0) }
 
+  -- such a point list passes: refusal 8 comes for no other reason
   pub points-pass : GoodPoints xs → pointsRefusal xs ≡ passes
   unfolding pointsRefusal pointCount
   points-pass g =
@@ -84,6 +93,7 @@ module _ (xs : List Float) where
 
 -- ---- settings
 module _ (s : Settings) where
+  -- settings that passed are in range
   pub settings-passed : settingsRefusal s ≡ passes → GoodSettings s
   unfolding settingsRefusal areSettings
   settings-passed e =
@@ -104,6 +114,7 @@ module _ (s : Settings) where
         depth = leb→le (s .maximumDepth) deepest (and-r (a && b && c && d) f h);
       }
 
+  -- settings in range pass: refusal 5 comes for no other reason
   pub settings-pass : GoodSettings s → settingsRefusal s ≡ passes
   unfolding settingsRefusal areSettings
   settings-pass g =
@@ -116,21 +127,25 @@ module _ (s : Settings) where
       )
 
 -- ---- room, and the distance
+-- an output that passed has room for all that is written
 pub room-passed : (given need : ℕ) → roomRefusal given need ≡ passes → need ≤ given
 unfolding roomRefusal
 room-passed given need e = ltb-false given need (not-refused (ltb given need) 6 0 e)
 
+-- an output with that room passes: refusal 6 comes for no other reason
 pub room-passes : (given need : ℕ) → need ≤ given → roomRefusal given need ≡ passes
 unfolding roomRefusal
 room-passes given need h = rw (le-ltb given need h)
 
 module _ (d : Float) where
+  -- a search distance that passed is in range
   pub distance-passed : distanceRefusal d ≡ passes → GoodDistance d
   unfolding distanceRefusal isDistance
   distance-passed e =
       let h = passed (so (within zero longestDistance d) 9 0 e) in
       record { low = and-l (le zero d) (le d longestDistance) h; high = and-r (le zero d) (le d longestDistance) h }
 
+  -- a search distance in range passes: refusal 9 comes for no other reason
   pub distance-passes : GoodDistance d → distanceRefusal d ≡ passes
   unfolding distanceRefusal isDistance
   distance-passes g = rw (is-true (le zero d) (g .low), is-true (le d longestDistance) (g .high))

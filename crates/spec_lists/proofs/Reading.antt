@@ -1,4 +1,5 @@
--- What is read of a list of coordinates: numbers in range, points and corners that are finite, boxes that are proper; and, of numbers that the format holds, no minus zero. Assumes nothing.
+-- What is read of a list of coordinates: numbers in range, points and corners that are finite, boxes that are proper;
+-- and, of numbers that the format holds, no minus zero. Builds and queries start from these facts.
 use mathlib.Core.List.{List}
 use Prim.Native.Nat.{ℕ, _+_, _*_, _≤_, _<_}
 use native.Mathlib.Omega.{arith}
@@ -21,34 +22,40 @@ use Rattle.spec_lists.specs.Refusals.{isCoordinate}
 use Rattle.spec_lists.specs.Passed.{AllCoordinates, AllFit}
 use Rattle.spec_lists.proofs.Coordinates.{coordinate-finite, coordinate-plus-zero}
 
--- ---- a number below the count lies in the list
+-- ---- reads are in bounds
+-- the nine numbers of a triangle below the count lie in the list
 pub triangle-inside : (xs : List Float) (t : ℕ) → t < triangleCount xs → 9 * t + 9 ≤ length xs
 unfolding triangleCount
 triangle-inside xs t h = omega arith
 
+-- the three numbers of a point below the count lie in the list
 pub point-inside : (xs : List Float) (k : ℕ) → k < pointCount xs → 3 * k + 3 ≤ length xs
 unfolding pointCount
 point-inside xs k h = omega arith
 
 -- ---- what is read of a list of coordinates
 module _ (xs : List Float) (h : AllCoordinates xs) where
+  -- every number that is read is a coordinate
   pub number-in-range : (i : ℕ) → i < length xs → T (isCoordinate (numberAt xs i))
   unfolding numberAt
   number-in-range i k = coordinate-plus-zero (getD xs i nan) (h i k)
 
-  pub number-finite : (i : ℕ) → i < length xs → T (finite (numberAt xs i))
+  number-finite : (i : ℕ) → i < length xs → T (finite (numberAt xs i))
   number-finite i k = coordinate-finite (numberAt xs i) (number-in-range i k)
 
+  -- every point that is read is finite
   pub point-finite : (i : ℕ) → i + 3 ≤ length xs → Finite (at (pointAt xs i))
   unfolding pointAt
   point-finite i k X = number-finite i (omega arith)
   point-finite i k Y = number-finite (i + 1) (omega arith)
   point-finite i k Z = number-finite (i + 2) (omega arith)
 
+  -- every triangle that is read has finite corners
   pub corners-finite : (t : ℕ) → 9 * t + 9 ≤ length xs → FiniteCorners (triangleAt xs t)
   unfolding triangleAt
   corners-finite t k = record { a = point-finite (9 * t) (omega arith); b = point-finite (9 * t + 3) (omega arith); c = point-finite (9 * t + 6) (omega arith) }
 
+  -- every triangle that is read has a proper box
   pub box-at-proper : (t : ℕ) → 9 * t + 9 ≤ length xs → Proper (boxAt xs t)
   unfolding boxAt
   box-at-proper t k = box-proper (triangleAt xs t) (corners-finite t k)
@@ -59,12 +66,13 @@ module _ (xs : List Float) (h : AllCoordinates xs) where
     unfolding numberAt
     number-plain i k = plus-zero-plain f (getD xs i nan) (fit i k) (finite-number (getD xs i nan) (coordinate-finite (getD xs i nan) (h i k)))
 
-    pub point-plain : (i : ℕ) → i + 3 ≤ length xs → PlainPoint f (pointAt xs i)
+    point-plain : (i : ℕ) → i + 3 ≤ length xs → PlainPoint f (pointAt xs i)
     unfolding pointAt
     point-plain i k X = number-plain i (omega arith)
     point-plain i k Y = number-plain (i + 1) (omega arith)
     point-plain i k Z = number-plain (i + 2) (omega arith)
 
+    -- every triangle that is read has a plain box, so that boxes may be joined in any order
     pub box-at-plain : (t : ℕ) → 9 * t + 9 ≤ length xs → PlainBox f (boxAt xs t)
     unfolding boxAt triangleAt
     box-at-plain t k = box-plain f (triangleAt xs t) (point-plain (9 * t) (omega arith)) (point-plain (9 * t + 3) (omega arith)) (point-plain (9 * t + 6) (omega arith))

@@ -1,4 +1,5 @@
--- A row of tests passes exactly where each of them passes, and one test exactly where its condition fails. A test that refuses tells its own number and place. Assumes nothing.
+-- A row of tests passes exactly where each of them passes, and one test exactly where its condition fails.
+-- A test that refuses reports its own number and place.
 use mathlib.Core.Path.{_≡_, refl, sym, _∙_}
 use mathlib.Core.Bool.{Bool, true, false, not, true≢false}
 use mathlib.Core.List.{List, [], _∷_}
@@ -11,53 +12,61 @@ never-both : (n p : ℕ) → refused n p ≡ passes → ⊥
 never-both n p e = let z : _≡_ {A = ℕ} 0 1 = cc in omega arith
 
 -- ---- a row of tests
+-- each test of the row passes
 abbrev pub AllPass : List Verdict → Type 0
 AllPass [] = Unit {0}
 AllPass (test ∷ tests) = (test ≡ passes) × AllPass tests
 
+-- where the row passes, each of its tests does
 pub all-pass : (tests : List Verdict) → firstRefusal tests ≡ passes → AllPass tests
 unfolding firstRefusal
 all-pass [] e = tt
 all-pass (passes ∷ tests) e = (refl, all-pass tests e)
 all-pass (refused n p ∷ tests) e = absurd (never-both n p e)
 
+-- where each test passes, the row does
 pub then-passes : (tests : List Verdict) → AllPass tests → firstRefusal tests ≡ passes
 unfolding firstRefusal
 then-passes [] h = refl
 then-passes (passes ∷ tests) h = then-passes tests (h .1)
 then-passes (refused n p ∷ tests) h = absurd (never-both n p (h .0))
 
--- ---- tests made in turn: what one answered, v, is the row's answer where it refuses, and otherwise the rest of the row answers
+-- ---- tests made in turn, as code makes them: b says whether the answer v refuses
+-- a test that refuses stops the row: its answer is the row's
 pub stops : (v test : Verdict) (tests : List Verdict) (b : Bool) → v ≡ test → b ≡ refuses v → b ≡ true → v ≡ firstRefusal (test ∷ tests)
 unfolding firstRefusal
 stops passes test tests b e r t = absurd (passed (sym r ∙ t))
 stops (refused n p) test tests b e r t = rw (← e)
 
+-- a test that passes leaves the answer to the rest of the row
 pub goes-on : (v test : Verdict) (tests : List Verdict) (b : Bool) (rest : Verdict) → v ≡ test → b ≡ refuses v → b ≡ false → rest ≡ firstRefusal tests → rest ≡ firstRefusal (test ∷ tests)
 unfolding firstRefusal
 goes-on passes test tests b rest e r t k = rw (← e) k
 goes-on (refused n p) test tests b rest e r t k = absurd (failed (sym r ∙ t))
 
+-- the last test answers for the row
 pub ends : (v test : Verdict) → v ≡ test → v ≡ firstRefusal (test ∷ [])
 unfolding firstRefusal
 ends passes test e = rw (← e)
 ends (refused n p) test e = rw (← e)
 
 -- ---- one test
+-- where a test passed, its condition does not hold
 pub not-refused : (b : Bool) (n p : ℕ) → refusedIf b n p ≡ passes → b ≡ false
 not-refused true n p e = absurd (never-both n p e)
 not-refused false n p e = refl
 
--- where the condition is that something is not so
+-- where the condition is a negation and the test passed, what it negates holds
 pub so : (b : Bool) (n p : ℕ) → refusedIf (not b) n p ≡ passes → b ≡ true
 so true n p e = refl
 so false n p e = absurd (never-both n p e)
 
+-- where a test refused, its condition holds, and number and place are the test's own
 pub refused-by : (b : Bool) (n p m q : ℕ) → refusedIf b n p ≡ refused m q → (b ≡ true) × ((m ≡ n) × (q ≡ p))
 refused-by true n p m q e = (refl, (cc, cc))
 refused-by false n p m q e = absurd (never-both m q (sym e))
 
--- a test that was asked and does not refuse passes
+-- a test that was made and does not refuse passes
 pub did-pass : (v test : Verdict) (b : Bool) → v ≡ test → b ≡ refuses v → b ≡ false → test ≡ passes
 did-pass v test b e r f = sym e ∙ go v (sym r ∙ f)
   where
@@ -65,7 +74,8 @@ did-pass v test b e r f = sym e ∙ go v (sym r ∙ f)
     go passes h = refl
     go (refused number place) h = absurd (true≢false h)
 
--- ---- a lent list afterwards: a refusal leaves it as it was
+-- ---- a lent list afterwards
+-- a call that is refused leaves what was lent to it as it was
 pub refusal-leaves : {A : Type 0} (v : Verdict) (new old : List A) → refuses v ≡ true → old ≡ afterVerdict v new old
 refusal-leaves passes new old h = absurd (true≢false (sym h))
 refusal-leaves (refused number place) new old h = refl

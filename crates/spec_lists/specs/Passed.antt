@@ -1,4 +1,4 @@
--- What a list, and what settings, that passed the tests give. Definitions only.
+-- What is known of lists, settings and distances that passed the tests: the rest of the engine relies on these records.
 use mathlib.Core.Bool.{not}
 use mathlib.Core.Path.{_≡_}
 use mathlib.Core.List.{List}
@@ -11,6 +11,7 @@ use Rattle.spec_lists.specs.Limits.{mostTriangles, longestDistance, deep
 use Rattle.spec_lists.specs.Reading.{triangleCount, pointCount}
 use Rattle.spec_lists.specs.Refusals.{isCoordinate, Settings}
 
+-- every number of the list is a coordinate
 abbrev pub AllCoordinates : List Float → Type 0
 AllCoordinates xs = (i : ℕ) → i < length xs → T (isCoordinate (getD xs i nan))
 
@@ -18,16 +19,19 @@ AllCoordinates xs = (i : ℕ) → i < length xs → T (isCoordinate (getD xs i n
 abbrev pub AllFit : Format → List Float → Type 0
 AllFit f xs = (i : ℕ) → i < length xs → T (fits f (getD xs i nan))
 
+-- a list of 1 to 4,096 whole triangles in range
 pub record GoodTriangles (xs : List Float) : Type 0 where
   pub whole : length xs ≡ 9 * triangleCount xs
   pub some : 1 ≤ triangleCount xs
   pub few : triangleCount xs ≤ mostTriangles
   pub coordinates : AllCoordinates xs
 
+-- a list of whole points in range; there may be none
 pub record GoodPoints (xs : List Float) : Type 0 where
   pub whole : length xs ≡ 3 * pointCount xs
   pub coordinates : AllCoordinates xs
 
+-- settings in range
 pub record GoodSettings (s : Settings) : Type 0 where
   pub first : 1 ≤ s .strategy
   pub last : s .strategy ≤ 2
@@ -35,11 +39,12 @@ pub record GoodSettings (s : Settings) : Type 0 where
   pub leafMost : s .leafMinimum ≤ mostLeafMinimum
   pub depth : s .maximumDepth ≤ deepest
 
+-- a search distance in range
 pub record GoodDistance (d : Float) : Type 0 where
   pub low : T (le zero d)
   pub high : T (le d longestDistance)
 
--- the number at i is the first that is no coordinate
+-- the number at i is the first that is no coordinate: the place that a refusal reports
 pub record FirstBad (xs : List Float) (i : ℕ) : Type 0 where
   pub inside : i < length xs
   pub bad : T (not (isCoordinate (getD xs i nan)))

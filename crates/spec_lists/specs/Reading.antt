@@ -1,4 +1,4 @@
--- How the lists are read: each number as itself plus zero, three to a point, nine to a triangle. Definitions only.
+-- How the lists are read: each number as itself plus zero, so that no -0 comes in; three numbers to a point, nine to a triangle.
 use mathlib.Core.List.{List}
 use Prim.Native.Nat.{ℕ, _+_, _*_, _/_}
 use lib.ListN.{length, getD}
@@ -22,6 +22,7 @@ triangleAt xs t = record { a = pointAt xs (9 * t); b = pointAt xs (9 * t + 3); c
 unfoldable pub boxAt : List Float → ℕ → Box
 boxAt xs t = boxOf (triangleAt xs t)
 
+-- whole triangles and whole points: a ragged list is refused elsewhere
 unfoldable pub triangleCount : List Float → ℕ
 triangleCount xs = length xs / 9
 

@@ -1,4 +1,4 @@
--- What is refused: the tests by their numbers, with the place that each tells, and the first of several that refuses. Definitions only.
+-- What is refused: the tests by their numbers, with the place that each reports, and the first of several that refuses.
 use mathlib.Core.Bool.{Bool, true, false, not, cond, _&&_}
 use mathlib.Core.List.{List, [], _∷_}
 use Prim.Native.Nat.{ℕ, suc, _%_}
@@ -9,6 +9,7 @@ use Rattle.spec_numbers.specs.Values.{zero}
 use Rattle.spec_lists.specs.Limits.{mostTriangles, furthestCoordinate, longestDistance, deepest, mostLeafMinimum}
 use Rattle.spec_lists.specs.Reading.{triangleCount}
 
+-- what a test answers: it passes, or refuses with its number and a place
 pub data Verdict : Type 0 where
   passes : Verdict
   refused : (number place : ℕ) → Verdict
@@ -34,7 +35,7 @@ unfoldable pub isCoordinate : Float → Bool
 unfolding neg
 isCoordinate x = within (neg furthestCoordinate) furthestCoordinate x
 
--- minus zero is one, too
+-- minus zero is a distance too
 unfoldable pub isDistance : Float → Bool
 isDistance x = within zero longestDistance x
 
@@ -52,15 +53,15 @@ raggedRefusal xs = refusedIf (not (eqb (length xs % 9) 0)) 1 0
 unfoldable pub noneRefusal : List Float → Verdict
 noneRefusal xs = refusedIf (eqb (triangleCount xs) 0) 2 0
 
--- 3: too many
+-- 3: more triangles than the limit
 unfoldable pub tooManyRefusal : List Float → Verdict
 tooManyRefusal xs = refusedIf (ltb mostTriangles (triangleCount xs)) 3 0
 
--- a coordinate is out of range or no number: the index of the first
+-- 4 or 8: a coordinate is out of range or no number; the place is the index of the first
 unfoldable pub coordinateRefusal : ℕ → List Float → Verdict
 coordinateRefusal number xs = refusedIf (ltb (firstBad xs) (length xs)) number (firstBad xs)
 
--- 1 to 4
+-- 1 to 4, in this order
 unfoldable pub trianglesRefusal : List Float → Verdict
 trianglesRefusal xs = firstRefusal (raggedRefusal xs ∷ noneRefusal xs ∷ tooManyRefusal xs ∷ coordinateRefusal 4 xs ∷ [])
 
@@ -83,7 +84,7 @@ settingsRefusal s = refusedIf (not (areSettings s)) 5 0
 unfoldable pub roomRefusal : (given need : ℕ) → Verdict
 roomRefusal given need = refusedIf (ltb given need) 6 0
 
--- 8: the point list is ragged, else a coordinate is bad
+-- 8: the point list is ragged, and the place its length; else a coordinate is bad
 unfoldable pub pointsRefusal : List Float → Verdict
 pointsRefusal xs = firstRefusal (refusedIf (not (eqb (length xs % 3) 0)) 8 (length xs) ∷ coordinateRefusal 8 xs ∷ [])
 
@@ -91,7 +92,7 @@ pointsRefusal xs = firstRefusal (refusedIf (not (eqb (length xs % 3) 0)) 8 (leng
 unfoldable pub distanceRefusal : Float → Verdict
 distanceRefusal d = refusedIf (not (isDistance d)) 9 0
 
--- a lent list afterwards: with what is written, and on a refusal as it was
+-- a lent list after a call: as written where the tests passed, and on a refusal as it was
 abbrev pub afterVerdict {ℓ} : {A : Type ℓ} → Verdict → (new old : List A) → List A
 afterVerdict passes new old = new
 afterVerdict (refused number place) new old = old
