@@ -1,4 +1,4 @@
--- The sort is stable: of those that are not before each other, each stays behind those that it stood behind. Assumes nothing.
+-- The sort is stable: of those that are not before each other, each stays behind those that it stood behind.
 use mathlib.Core.Path.{_≡_, refl, sym, ap, _∙_}
 use mathlib.Core.Bool.{Bool, true, false, cond, not, _&&_, true≢false}
 use mathlib.Core.List.{List, [], _∷_}
@@ -36,6 +36,7 @@ module _ {before : ℕ → ℕ → Bool} {Used : ℕ → Type 0} (o : Ordered be
           ∙ pick-swaps (equals before a x) (equals before a y) x y (those (equals before a) ys) (apart x y ux (u .0) e)
       go false e ih = ap (those (equals before a)) (inserted-stops before x y ys e)
 
+  -- the elements that equal a given one stand in the same order before and after the sort
   pub sorted-stable : (xs : List ℕ) → Each Used xs → those (equals before a) (sorted before xs) ≡ those (equals before a) xs
   unfolding sorted
   sorted-stable [] u = refl
