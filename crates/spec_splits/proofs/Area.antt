@@ -1,5 +1,5 @@
--- The area rule as code works it out: the centres' bounds and the bucket on one axis, the bucket by two tests, and the loops that store the costs, take the first smallest
--- and look for the first object in a later bucket. Assumes nothing.
+-- The area rule as code works it out: the centres' bounds and the bucket on one axis, the bucket by two tests, and the loops that store
+-- the costs, take the first smallest and look for the first object in a later bucket.
 use mathlib.Core.Path.{_≡_, refl, sym, ap, _∙_}
 use mathlib.Core.Logic.{inl, inr}
 use mathlib.Core.Bool.{Bool, true, false, not, cond}
@@ -34,6 +34,7 @@ use Rattle.spec_splits.proofs.Turns.{look-here, look-on, look-ended}
 capped-below : (n : ℕ) → min n 11 < bucketCount
 capped-below n = omega (arith, min-le-right n 11)
 
+-- so a bucket number is an index into the twelve
 pub between-below : (f : Format) (axis : Axis) (lo hi : Float) (b : Box) (k : ℕ) → k ≡ bucketBetween f axis lo hi b → k < bucketCount
 unfolding bucketBetween bucketFor
 between-below f axis lo hi b k e = rw e (capped-below _)
@@ -47,6 +48,7 @@ unfolding bucketOf bucketBetween offset
 on-axis f axis bounds j b =
     bucketFor f (sym (on-by-axis (λ i. offsetOn f (on i (bounds .min)) (on i (bounds .max)) (on i (centre f b))) axis) j)
 
+-- with the ends of the bounds on the axis, the bucket is the rule's
 pub bucket-on-axis : (f : Format) (axis : Axis) (bounds : Box) (lo hi : Float) → EndsOf axis bounds lo hi → bucketBetween f axis lo hi ≡ bucketOf f axis bounds
 bucket-on-axis f axis bounds lo hi ends = rw (ends .lo-is, ends .hi-is) (on-axis f axis bounds)
 
@@ -70,10 +72,12 @@ module _ (f : Format) (axis : Axis) where
   upper-ends (b ∷ bs) bounds =
       ap (λ (x : Float). foldl (upperEnd f axis) x bs) (sym (largest-on (bounds .max) (centre f b) axis)) ∙ upper-ends bs (withCentre f bounds b)
 
+  -- the minimum of the centres on the axis is the lower end of their bounds: code keeps no bounds on the other axes
   pub lower-end : (bs : List Box) → foldl (lowerEnd f axis) (Values.largest f) bs ≡ on axis (centreBounds f bs .min)
   unfolding centreBounds empty
   lower-end bs = ap (λ (x : Float). foldl (lowerEnd f axis) x bs) (sym (on-by-axis (λ i. Values.largest f) axis)) ∙ lower-ends bs (empty f)
 
+  -- the maximum of the centres on the axis is the upper end of their bounds
   pub upper-end : (bs : List Box) → foldl (upperEnd f axis) (Values.least f) bs ≡ on axis (centreBounds f bs .max)
   unfolding centreBounds empty
   upper-end bs = ap (λ (x : Float). foldl (upperEnd f axis) x bs) (sym (on-by-axis (λ i. Values.least f) axis)) ∙ upper-ends bs (empty f)
@@ -97,29 +101,33 @@ kept q h = sym (min-eq-left (le-trans (min-le-left q most) (le-of-lt h)))
 below-eleven : (x : Float) → T (not (le eleven x)) → T (le Values.zero x) → T (lt x eleven)
 below-eleven x h k = elim (lt-or-le x eleven (number-right _ _ k) (finite-number eleven tt)) [ inl l ↦ l | inr l ↦ absurd (T-not (le eleven x) h l) ]
 
+-- the first test: from 11 on the bucket is 11
 pub from-eleven : (x : Float) → T (le eleven x) → 11 ≡ upTo11 x
 unfolding toUnsigned le
 from-eleven (inf false) h = refl
 from-eleven (fin true m e) h = absurd (omega (arith, compared eleven (fin true m e) tt tt .le→at-most h, down-pos e))
 from-eleven (fin false m e) h = capped (m * up e / down e) (le-div-iff-mul-le (down-pos e) .1 (omega (arith, compared eleven (fin false m e) tt tt .le→at-most h)))
 
+-- the second test: below zero, and for a NaN, the bucket is 0
 pub below-zero : (x : Float) → T (not (le Values.zero x)) → 0 ≡ upTo11 x
 below-zero x h = rw (cut-below-zero 64 x h)
 
 small : (m : ℕ) (e : ℤ) → T (lt (fin false m e) eleven) → m * up e / down e < 11
 small m e h = div-lt-iff-lt-mul (down-pos e) .1 (omega (arith, compared (fin false m e) eleven tt tt .lt→less h))
 
+-- between the two tests the bucket is the whole part
 pub below-eleven-kept : (x : Float) → T (not (le eleven x)) → T (le Values.zero x) → toUnsigned 64 x ≡ upTo11 x
 unfolding toUnsigned le
 below-eleven-kept (inf true) h k = absurd k
 below-eleven-kept (fin true m e) h k = refl
 below-eleven-kept (fin false m e) h k = kept (m * up e / down e) (small m e (below-eleven (fin false m e) h k))
 
--- what a cut to a whole number asks
+-- what a plain cast needs: between the two tests the number is below its limit
 pub below-limit : (x : Float) → T (not (le eleven x)) → T (le Values.zero x) → T (lt x (fin false 1 (pos 64)))
 below-limit x h k = lt-le-transitive x eleven (fin false 1 (pos 64)) (below-eleven x h k) (unfold le in tt)
 
 -- ---- a number is equal to itself
+-- the test for a NaN in code: a cost is a number where it is equal to itself
 pub equal-to-itself : (x : Float) → eq x x ≡ not (isNan x)
 unfolding isNan
 equal-to-itself nan = unfold eq in refl
@@ -140,10 +148,12 @@ up-at k (suc n) (suc i) h = up-at (suc k) n i (omega arith) ∙ omega arith
 
 -- ---- a list that is stored to from the front
 module _ (g : ℕ → Float) (l : List Float) (i : ℕ) where
+  -- a turn of the loop that stores the costs: one more entry has its value
   pub stored-on : (v : Float) → i < length l → v ≡ g i → ((k : ℕ) → k < i → getD l k nan ≡ g k) → (k : ℕ) → k < i + 1 → getD (set l i v) k nan ≡ g k
   stored-on v h e before =
       below-more _ i (λ (k : ℕ) (b : k < i). getD-set-other l i k v nan (λ (q : k ≡ i). omega arith) ∙ before k b) (getD-set-same l i v nan h ∙ e)
 
+  -- after the last turn the list is the one that the rule defines
   pub stored-all : (n : ℕ) → length l ≡ n → ((k : ℕ) → k < n → getD l k nan ≡ g k) → l ≡ map g (upFrom 0 n)
   stored-all n e all =
       ext-getD nan l (map g (upFrom 0 n)) (e ∙ sym (length-map (upFrom 0 n) g ∙ up-length 0 n))
@@ -153,6 +163,7 @@ module _ (g : ℕ → Float) (l : List Float) (i : ℕ) where
       all k b ∙ sym (at-map g (upFrom 0 n) k 0 nan c ∙ ap g (up-at 0 n k b ∙ zero-add k)))
 
 -- ---- one cost more is seen
+-- so the count of costs seen is the index of the next one
 pub seen-goes-on : (now next : Cheapest) (v : Float) (i : ℕ) → next ≡ withCost now v → now .seen ≡ i → next .seen ≡ i + 1
 unfolding withCost
 seen-goes-on now next v i e h = let one : next .seen ≡ now .seen + 1 = ap (λ (s : Cheapest). s .seen) e in omega arith
@@ -166,14 +177,17 @@ module _ (bucket : Box → ℕ) (last : ℕ) (box : ℕ → Box) (l : List ℕ) 
   picks : Bool → Split
   picks b = cond b (cutAt i) (firstLater bucket last (map box (drop (suc i) l)) (suc i))
 
+  -- an object in a later bucket settles it: the cut is before this object
   pub looking-finds : i < length l → ltb last (bucket (box (getD l i 0))) ≡ true → firstLater bucket last (map box (drop i l)) i ≡ whole → cutAt i ≡ whole
   unfolding left-over firstLater picks
   looking-finds h e inv = sym (ap picks e) ∙ look-here 0 left-over l i whole h inv
 
+  -- any other object leaves the answer to those that remain
   pub looking-goes-on : i < length l → ltb last (bucket (box (getD l i 0))) ≡ false → firstLater bucket last (map box (drop i l)) i ≡ whole → firstLater bucket last (map box (drop (i + 1) l)) (i + 1) ≡ whole
   unfolding left-over firstLater picks
   looking-goes-on h e inv = look-on 0 left-over l i whole h (ap picks e) inv
 
+  -- at the end there is no cut
   pub looking-ends : length l ≤ i → firstLater bucket last (map box (drop i l)) i ≡ whole → nowhere ≡ whole
   unfolding left-over firstLater
   looking-ends h inv = look-ended 0 left-over l i whole h inv

@@ -1,4 +1,5 @@
--- Boxes put into buckets: no count is above the number of boxes put, and plain boxes make plain buckets. Assumes nothing.
+-- Boxes put into buckets: no count is above the number of boxes put, plain boxes make plain buckets, and the loop that puts them
+-- gives what the area rule defines.
 use mathlib.Core.Path.{_≡_, sym, ap, subst, _∙_}
 use mathlib.Core.List.{List, [], _∷_, map, foldl}
 use Prim.Native.Nat.{ℕ, zero, suc, _+_, _^_, _≤_, _<_}
@@ -21,7 +22,7 @@ stored P (a ∷ l) zero (suc j) v d p q = q
 stored P (a ∷ l) (suc k) zero v d p q = q
 stored P (a ∷ l) (suc k) (suc j) v d p q = stored P l k j v d p q
 
--- what each of many copies is
+-- what holds of an element holds of each of its copies
 copied : {A : Type 0} (P : A → Type 0) (a : A) → P a → (n j : ℕ) → P (getD (replicate n a) j a)
 copied P a p zero j = p
 copied P a p (suc n) zero = p
@@ -32,12 +33,12 @@ abbrev pub CountsAtMost : Format → List Bucket → ℕ → Type 0
 CountsAtMost f buckets n = (j : ℕ) → bucketAt f buckets j .count ≤ n
 
 module _ (f : Format) where
-  pub counts-none : CountsAtMost f (emptyBuckets f) 0
+  counts-none : CountsAtMost f (emptyBuckets f) 0
   unfolding emptyBuckets emptyBucket
   counts-none j = copied (λ (s : Bucket). s .count ≤ 0) (emptyBucket f) (omega arith) bucketCount j
 
   module _ (bucket : Box → ℕ) where
-    pub counts-put : (b : Box) (buckets : List Bucket) (n : ℕ) → CountsAtMost f buckets n → CountsAtMost f (putBox f bucket buckets b) (n + 1)
+    counts-put : (b : Box) (buckets : List Bucket) (n : ℕ) → CountsAtMost f buckets n → CountsAtMost f (putBox f bucket buckets b) (n + 1)
     unfolding putBox putIn withBox
     counts-put b buckets n h j =
         stored (λ (s : Bucket). s .count ≤ n + 1) buckets (bucket b) j (withBox (bucketAt f buckets (bucket b)) b) (emptyBucket f) (omega (arith, h (bucket b))) (omega (arith, h j))
@@ -46,6 +47,7 @@ module _ (f : Format) where
     counts-all [] buckets n h j = omega (arith, h j)
     counts-all (b ∷ bs) buckets n h j = omega (arith, counts-all bs (putBox f bucket buckets b) (n + 1) (counts-put b buckets n h) j)
 
+    -- fewer than 2^28 boxes fill buckets whose counts may be added up
     pub filled-small : (bs : List Box) → length bs < 2 ^ 28 → AreSmall f (filled f bucket bs)
     unfolding filled
     filled-small bs h j = omega (arith, counts-all bs (emptyBuckets f) 0 counts-none j)
@@ -68,13 +70,13 @@ module _ (f : Format) where
     plain-all (t ∷ part) buckets all h =
         plain-all part _ (λ (i : ℕ) (k : i < length part). all (suc i) (omega arith)) (plain-put (box t) buckets (all 0 (omega arith)) h)
 
-    -- what the costs ask of the buckets that a part of the order list is put into
+    -- plain boxes of a slice of the order list fill buckets with plain bounds: the costs need them so
     pub filled-plain : (part : List ℕ) → ((i : ℕ) → i < length part → PlainBox f (box (getD part i 0)))
         → ArePlain f (filled f bucket (map box part))
     unfolding filled
     filled-plain part all = plain-all part (emptyBuckets f) all plain-none
 
--- ---- a loop that puts the boxes of a part into buckets; g is what a stored bucket stands for, and `box` what a number of the part does
+-- ---- a loop that puts the boxes of a slice into buckets; g is what a stored bucket stands for, and `box` what a number of the slice does
 module _ {A : Type 0} (g : A → Bucket) (f : Format) (bucket : Box → ℕ) (box : ℕ → Box) (part : List ℕ) where
   -- i boxes are put
   pub record Filling (each : List A) (i : ℕ) : Type 0 where
@@ -82,6 +84,7 @@ module _ {A : Type 0} (g : A → Bucket) (f : Format) (bucket : Box → ℕ) (bo
     pub counts : CountsAtMost f (map g each) i
     pub fills : foldl (putBox f bucket) (map g each) (map box (drop i part)) ≡ filled f bucket (map box part)
 
+  -- before the first turn: empty buckets
   pub filling-starts : (each : List A) → map g each ≡ emptyBuckets f → Filling each 0
   unfolding filled emptyBuckets
   filling-starts each e = record {
@@ -91,7 +94,7 @@ module _ {A : Type 0} (g : A → Bucket) (f : Format) (bucket : Box → ℕ) (bo
   }
 
   module _ (each : List A) (i k : ℕ) (d : A) (now : Filling each i) (below : k < bucketCount) where
-    -- what the bucket that is taken out counts
+    -- what a turn needs: the bucket that is taken out counts few enough for one more
     pub filling-small : i < length part → length part < 2 ^ 28 → g (getD each k d) .count < 2 ^ 28
     filling-small h small = let at = ap (λ (s : Bucket). s .count) (at-map g each k d (emptyBucket f) (rw (now .full) below)) in omega (arith, at, now .counts k)
 
@@ -103,6 +106,7 @@ module _ {A : Type 0} (g : A → Bucket) (f : Format) (bucket : Box → ℕ) (bo
         ∙ ap (set (map g each) k) (w ∙ ap (withBox (g (getD each k d))) same ∙ ap (λ (s : Bucket). withBox s b) (sym (at-map g each k d (emptyBucket f) (rw (now .full) below))))
         ∙ ap (λ (n : ℕ). set (map g each) n (withBox (bucketAt f (map g each) n) b)) e
 
+    -- after a turn, which stores the bucket of the next box with that box in it
     pub filling-goes-on : (v : A) (c : Box) → i < length part → k ≡ bucket (box (getD part i 0)) → g v ≡ withBox (g (getD each k d)) c → c ≡ box (getD part i 0) → Filling (set each k v) (i + 1)
     filling-goes-on v c h e w same =
         let put = put-stored v (box (getD part i 0)) c e w same in
@@ -112,5 +116,6 @@ module _ {A : Type 0} (g : A → Bucket) (f : Format) (bucket : Box → ℕ) (bo
           fills = fold-on-named (putBox f bucket) box part i (map g each) _ (map g (set each k v)) h put (now .fills);
         }
 
+  -- after the last turn the buckets are the area rule's
   pub filling-ends : (each : List A) (i : ℕ) → length part ≤ i → Filling each i → map g each ≡ filled f bucket (map box part)
   filling-ends each i h now = fold-ended-named (putBox f bucket) box part i (map g each) _ h (now .fills)

@@ -1,5 +1,5 @@
--- A cut leaves something on both sides: the median's of two boxes or more, and the area rule's where no centre is below the first, as where the boxes are sorted.
--- The first box then lies at the lower end of the centres' bounds, so in bucket 0, and no bucket is earlier than that. Assumes nothing.
+-- A cut leaves objects on both sides: the median rule's of two boxes or more, and the area rule's where no centre is below the first,
+-- as where the boxes are sorted. The first box then lies at the lower end of the centres' bounds, so in bucket 0, and no bucket is earlier.
 use mathlib.Core.Path.{_≡_, refl, sym, ap, _∙_}
 use mathlib.Core.Bool.{Bool, true, false, cond, _&&_}
 use mathlib.Core.List.{List, [], _∷_, foldl}
@@ -39,6 +39,7 @@ picked-first true s k e = e
 picked-first false s k e = cc
 
 -- ---- the median rule
+-- a median cut of two boxes or more leaves boxes on both sides: no child of a node is empty
 pub median-inside : (f : Format) (axis : Axis) (parent : Box) (bs : List Box) (k : ℕ) → 2 ≤ length bs → medianSplit f axis parent bs ≡ cutAt k → CutsInside k (length bs)
 unfolding medianSplit
 median-inside f axis parent bs k h e =
@@ -168,6 +169,7 @@ module _ (f : Format) (axis : Axis) where
     cut-of-none : cutBy f bucket best [] ≡ cutAt k → ⊥
     cut-of-none e = let r = later-within bucket (best .index) [] 0 k (cut-finds [] e) in omega (arith, r .1)
 
+  -- an area cut leaves boxes on both sides where no centre is below the first: no child of a node is empty
   pub area-inside : (parent : Box) (bs : List Box) (k : ℕ) → FirstIsLeast f axis bs → areaSplit f axis parent bs ≡ cutAt k → CutsInside k (length bs)
   unfolding areaSplit
   area-inside parent [] k h e = absurd (cut-of-none (bucketOf f axis (centreBounds f [])) _ k e)

@@ -1,4 +1,4 @@
--- A loop that asks of each box of a part whether it meets a plane, and stops at the first that does not. Assumes nothing.
+-- A loop that asks of each box of a slice whether it meets a plane, and stops at the first that does not: the first test of the median rule.
 use mathlib.Core.Path.{_≡_, refl, sym, ap, _∙_}
 use mathlib.Core.Bool.{Bool, true, false, not, _&&_}
 use mathlib.Core.List.{List, map}
@@ -10,11 +10,12 @@ use Rattle.spec_shapes.specs.Planes.{Plane, meetsBox}
 use Rattle.spec_splits.specs.Median.{allMeet}
 use Rattle.spec_splits.proofs.Turns.{look-here, look-on, look-ended}
 
--- what a test of `!b` says of b
+-- a test of `!b` that passed says that b fails
 pub not-true : (b : Bool) → not b ≡ true → b ≡ false
 not-true true h = sym h
 not-true false h = refl
 
+-- a test of `!b` that failed says that b holds
 pub not-false : (b : Bool) → not b ≡ false → b ≡ true
 not-false true h = refl
 not-false false h = sym h
@@ -23,14 +24,17 @@ module _ (f : Format) (plane : Plane) (g : ℕ → Box) (l : List ℕ) (i : ℕ)
   left-over : List ℕ → ℕ → Bool
   left-over m k = allMeet f plane (map g m)
 
+  -- a box that does not meet the plane settles it: not all do
   pub meeting-stops : i < length l → meetsBox f plane (g (getD l i 0)) ≡ false → allMeet f plane (map g (drop i l)) ≡ whole → false ≡ whole
   unfolding left-over allMeet
   meeting-stops h e inv = sym (ap (λ (b : Bool). b && allMeet f plane (map g (drop (suc i) l))) e) ∙ look-here 0 left-over l i whole h inv
 
+  -- a box that meets the plane leaves the answer to those that remain
   pub meeting-goes-on : i < length l → meetsBox f plane (g (getD l i 0)) ≡ true → allMeet f plane (map g (drop i l)) ≡ whole → allMeet f plane (map g (drop (i + 1) l)) ≡ whole
   unfolding left-over allMeet
   meeting-goes-on h e inv = look-on 0 left-over l i whole h (ap (λ (b : Bool). b && allMeet f plane (map g (drop (suc i) l))) e) inv
 
+  -- at the end all have met the plane
   pub meeting-ends : length l ≤ i → allMeet f plane (map g (drop i l)) ≡ whole → true ≡ whole
   unfolding left-over allMeet
   meeting-ends h inv = look-ended 0 left-over l i whole h inv

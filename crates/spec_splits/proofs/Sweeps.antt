@@ -1,5 +1,5 @@
--- The sides of the cuts by two sweeps: the left ones gathered going up, the right ones going down, so that each bucket is merged once a side.
--- Plain boxes may be joined in any order, so the sweep that goes down has the sides that the rule defines, which are merged going up. Assumes nothing.
+-- The sides of the cuts by two sweeps: the left ones gathered going up, the right ones going down, so that each bucket is merged once
+-- a side. Plain boxes may be joined in any order, so the sweep that goes down has the sides that the rule defines, merged going up.
 use mathlib.Core.Path.{_≡_, refl, sym, ap, _∙_}
 use mathlib.Core.Bool.{Bool, true, false}
 use mathlib.Core.List.{List, [], _∷_, map, foldl, foldl-append}
@@ -53,7 +53,7 @@ module _ (f : Format) where
   side-at (b ∷ bs) zero = refl
   side-at (b ∷ bs) (suc k) = side-at bs k
 
-  -- so the sweep that goes down has the right side of each cut as the cost asks for it
+  -- so the sweep that goes down has the right side of each cut as the cost needs it
   pub right-side : (l : List Bucket) (k : ℕ) → length l ≡ bucketCount → ArePlain f l
       → bucketAt f (sidesDown f l) k ≡ sideOf f (slice (k + 1) bucketCount l)
   right-side l k full plain =
@@ -134,7 +134,7 @@ module _ {A : Type 0} (g : A → Bucket) (f : Format) (each : List A) (d : A) (f
   }
 
   module _ (sides : List A) (right : Bucket) (i : ℕ) (now : Down g f each sides right i) (small : AreSmall f buckets) where
-    -- what a turn's merging asks
+    -- what a turn's merging needs: the two counts add up within 32 bits
     pub down-fits : right .count + g (getD each i d) .count < 2 ^ 32
     down-fits = omega (arith, bucket-count i (now .within), small i, now .small)
 
@@ -184,12 +184,12 @@ module _ {A : Type 0} (g : A → Bucket) (f : Format) (each : List A) (d : A) (f
   }
 
   module _ (left : Bucket) (i : ℕ) (now : Up g f each left i) (small : AreSmall f buckets) where
-    -- what a turn's merging asks
+    -- what a turn's merging needs: the two counts add up within 32 bits
     pub up-fits : left .count + g (getD each i d) .count < 2 ^ 32
     up-fits = omega (arith, bucket-count i (now .within), small i, now .small, now .within)
 
     module _ (next : Bucket) (e : next ≡ merged left (g (getD each i d))) where
-      -- the left side of the cut after bucket i as the cost asks for it
+      -- the left side of the cut after bucket i as the cost needs it
       pub left-side : next ≡ sideOf f (slice 0 (i + 1) buckets)
       unfolding sideOf
       left-side =

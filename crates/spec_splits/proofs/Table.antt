@@ -1,4 +1,4 @@
--- The boxes of a part of the order list: at an index, in its two halves, and what the table has of them. Assumes nothing.
+-- The boxes of a slice of the order list: at an index, in its two halves, and what the table has of them.
 use mathlib.Core.Path.{_≡_, refl, ap}
 use mathlib.Core.List.{List, [], _∷_, map, foldl}
 use Prim.Native.Nat.{ℕ, zero, suc, _+_, _-_, _*_, _<_, _≤_}
@@ -14,16 +14,19 @@ use Rattle.spec_shapes.specs.Boxes.{Box, union, centre}
 use Rattle.spec_splits.specs.Splits.{boxIn, place, AllInTable, unionOf}
 
 module _ {A B : Type 0} (g : A → B) where
+  -- the boxes of the first n triangles are the first n of the boxes: the left half of a cut
   pub map-take : (n : ℕ) (l : List A) → map g (take n l) ≡ take n (map g l)
   map-take zero l = refl
   map-take (suc n) [] = refl
   map-take (suc n) (a ∷ l) = ap (λ (m : List B). g a ∷ m) (map-take n l)
 
+  -- the boxes of the triangles behind the first n are the boxes behind the first n: the right half of a cut
   pub map-drop : (n : ℕ) (l : List A) → map g (drop n l) ≡ drop n (map g l)
   map-drop zero l = refl
   map-drop (suc n) [] = refl
   map-drop (suc n) (a ∷ l) = map-drop n l
 
+  -- what the stored entries stand for changes at the one index that is stored to
   pub map-set : (l : List A) (k : ℕ) (v : A) → map g (set l k v) ≡ set (map g l) k (g v)
   map-set [] k v = refl
   map-set (a ∷ l) zero v = refl
@@ -35,32 +38,36 @@ module _ {A B : Type 0} (g : A → B) where
   at-map (x ∷ l) zero a b h = refl
   at-map (x ∷ l) (suc n) a b h = at-map l n a b (omega arith)
 
--- a part that goes to the end is all that is dropped to
+-- a slice that goes to the end is all that remains from its start
 pub to-the-end : {A : Type 0} (n : ℕ) (l : List A) → take (length l - n) (drop n l) ≡ drop n l
 to-the-end n l = take-all (length l - n) (drop n l) (rw (length-drop n l) (omega arith))
 
 module _ (bounds : List Float) (part : List ℕ) (all : AllInTable bounds part) (n : ℕ) where
+  -- the first n triangles of a slice have their boxes in the table, where the slice has
   pub in-table-before : n ≤ length part → AllInTable bounds (take n part)
   in-table-before h i k =
       let j : i < n = omega (arith, length-take n part) in
       rw (getD-take n part i 0 j) (all i (omega arith))
 
+  -- so have the triangles that remain behind them
   pub in-table-after : AllInTable bounds (drop n part)
   in-table-after i k = rw (getD-drop n part i 0) (all (n + i) (omega (arith, length-drop n part)))
 
--- the union of the boxes of a part goes on from its first
+-- the union of the boxes of a slice begins with its first: the loop starts there
 pub union-from-first : (f : Format) (g : ℕ → Box) (part : List ℕ) → 0 < length part → foldl union (g (getD part 0 0)) (map g (drop 1 part)) ≡ unionOf f (map g part)
 unfolding unionOf
 union-from-first f g [] h = absurd (omega arith)
 union-from-first f g (t ∷ part) h = refl
 
 -- ---- the centre of a box of the table, on one axis
+-- an axis has its place among a point's three numbers
 pub place-below : (axis : Axis) → place axis < 3
 place-below X = omega arith
 place-below Y = omega arith
 place-below Z = omega arith
 
 module _ (f : Format) (bounds : List Float) where
+  -- the centre on one axis from two numbers of the table, as code works it out
   pub centre-in : (t : ℕ) (axis : Axis) → div f (add f (getD bounds (6 * t + place axis) nan) (getD bounds (6 * t + place axis + 3) nan)) two ≡ on axis (centre f (boxIn bounds t))
   unfolding centre boxIn plus dividedBy
   centre-in t X = ap (λ (k : ℕ). div f (add f (getD bounds k nan) (getD bounds (k + 3) nan)) two) (add-zero (6 * t))

@@ -1,5 +1,6 @@
--- The area rule: 12 buckets by 12 × offset in the centres' bounds, cut to a whole number, at most 11; the cost of each of the 11 cuts; and the first smallest cost, if below the object count,
--- cuts before the first object in a later bucket. A cost that is no number: no split. Definitions only.
+-- The area rule: 12 buckets by 12 × offset in the centres' bounds, cut to a whole number, at most 11; the cost of each of the 11 cuts;
+-- and the first smallest cost, if below the object count, cuts before the first object in a later bucket.
+-- Where a cost is no number, there is no split.
 use mathlib.Core.Path.{_≡_}
 use mathlib.Core.Bool.{Bool, true, false, not, cond, _&&_, _||_}
 use mathlib.Core.List.{List, [], _∷_, map, foldl}
@@ -31,7 +32,7 @@ twelve = fin false 3 (pos 2)
 unfoldable pub bucketFor : Format → Float → ℕ
 bucketFor f share = min (cut (mul f twelve share)) 11
 
--- of a box, on an axis, where the centres lie in these bounds
+-- the bucket of a box, on an axis, where the centres lie in these bounds
 unfoldable pub bucketOf : Format → Axis → Box → Box → ℕ
 bucketOf f axis bounds b = bucketFor f (on axis (offset f bounds (centre f b)))
 
@@ -40,7 +41,7 @@ pub record EndsOf (axis : Axis) (bounds : Box) (lo hi : Float) : Type 0 where
   pub lo-is : lo ≡ on axis (bounds .min)
   pub hi-is : hi ≡ on axis (bounds .max)
 
--- the bucket on the one axis, between those ends
+-- the bucket by the ends alone: code needs one axis of the bounds
 unfoldable pub bucketBetween : Format → Axis → Float → Float → Box → ℕ
 bucketBetween f axis lo hi b = bucketFor f (offsetOn f lo hi (on axis (centre f b)))
 
@@ -62,7 +63,7 @@ cost f parent left right =
     cond (eqb (left .count) 0 || eqb (right .count) 0) (inf false)
     (add f (fin false 1 (negsuc 2)) (div f (add f (weight f left) (weight f right)) (area f parent)))
 
--- the cut after bucket i
+-- the cost of the cut after bucket i
 unfoldable pub costAt : Format → Box → List Bucket → ℕ → Float
 costAt f parent buckets i = cost f parent (sideOf f (slice 0 (i + 1) buckets)) (sideOf f (slice (i + 1) bucketCount buckets))
 
@@ -71,12 +72,12 @@ unfoldable pub upFrom : ℕ → ℕ → List ℕ
 upFrom k zero = []
 upFrom k (suc n) = k ∷ upFrom (suc k) n
 
--- of the 11 cuts
+-- the costs of the 11 cuts
 unfoldable pub costs : Format → Box → List Bucket → List Float
 costs f parent buckets = map (costAt f parent buckets) (upFrom 0 11)
 
 -- ---- the first smallest
--- of the costs seen so far, and whether each was a number
+-- of the costs seen so far the first smallest, and whether each was a number
 pub record Cheapest : Type 0 where
   pub seen : ℕ
   pub index : ℕ
@@ -86,7 +87,7 @@ pub record Cheapest : Type 0 where
 unfoldable pub noneYet : Cheapest
 noneYet = record { seen = 0; index = 0; cost = inf false; areNumbers = true }
 
--- with one cost more
+-- what is known with one cost more
 unfoldable pub withCost : Cheapest → Float → Cheapest
 withCost s c = record {
   seen = s .seen + 1;
@@ -99,7 +100,7 @@ unfoldable pub cheapestOf : List Float → Cheapest
 cheapestOf cs = foldl withCost noneYet cs
 
 -- ---- where it cuts
--- before the first object, counted from n, that lies in a bucket later than k
+-- the cut before the first object, counted from n, that lies in a bucket later than k
 unfoldable pub firstLater : (Box → ℕ) → ℕ → List Box → ℕ → Split
 firstLater bucket k [] n = nowhere
 firstLater bucket k (b ∷ bs) n = cond (ltb k (bucket b)) (cutAt n) (firstLater bucket k bs (suc n))

@@ -1,4 +1,4 @@
--- Twelve buckets of boxes: how many fell into each, and their union. Definitions only.
+-- The twelve buckets of the area rule: how many boxes fell into each, and their union; and the sides of a cut gathered by two sweeps.
 use mathlib.Core.List.{List, [], _∷_, foldl}
 use Prim.Native.Nat.{ℕ, _+_, _^_, _<_}
 use lib.ListN.{getD, set, replicate}
@@ -16,11 +16,11 @@ pub record Bucket : Type 0 where
 unfoldable pub emptyBucket : Format → Bucket
 emptyBucket f = record { count = 0; bounds = empty f }
 
--- with one box more
+-- a bucket with one box more
 unfoldable pub withBox : Bucket → Box → Bucket
 withBox s b = record { count = s .count + 1; bounds = union (s .bounds) b }
 
--- with the boxes of another
+-- a bucket with the boxes of another
 unfoldable pub merged : Bucket → Bucket → Bucket
 merged s t = record { count = s .count + t .count; bounds = union (s .bounds) (t .bounds) }
 
@@ -48,11 +48,11 @@ unfoldable pub sidesDown : Format → List Bucket → List Bucket
 sidesDown f [] = []
 sidesDown f (b ∷ bs) = sideDown f bs ∷ sidesDown f bs
 
--- ---- what is asked of buckets
--- no count is so large that twelve of them would not fit
+-- ---- what the costs need of buckets
+-- each count is so small that the sum of twelve fits 32 bits
 abbrev pub AreSmall : Format → List Bucket → Type 0
 AreSmall f buckets = (k : ℕ) → bucketAt f buckets k .count < 2 ^ 28
 
--- no box has a NaN or a -0
+-- no box has a NaN or a -0, so that both sweeps give the same boxes
 abbrev pub ArePlain : Format → List Bucket → Type 0
 ArePlain f buckets = (k : ℕ) → PlainBox f (bucketAt f buckets k .bounds)

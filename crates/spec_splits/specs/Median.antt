@@ -1,5 +1,5 @@
--- The median rule: cut at count / 2. It fails if every box meets the plane at the mean of the two neighbouring centres, or if both child volumes over the parent's exceed 0.8.
--- Definitions only.
+-- The median rule: cut at count / 2. It fails if every box meets the plane at the mean of the two neighbouring centres,
+-- or if both child volumes over the parent's exceed 0.8.
 use mathlib.Core.Bool.{Bool, true, false, cond, _&&_}
 use mathlib.Core.List.{List, [], _∷_}
 use Prim.Native.Nat.{ℕ, _-_, _/_}
@@ -31,7 +31,7 @@ allMeet f plane (b ∷ bs) = meetsBox f plane b && allMeet f plane bs
 unfoldable pub allMeetAt : Format → Axis → List Box → ℕ → Bool
 allMeetAt f axis bs k = allMeet f (planeBetween f axis (getD bs k (empty f)) (getD bs (k - 1) (empty f))) bs
 
--- the volume of the boxes' union over the parent's exceeds 0.8: no number does not
+-- the volume of the boxes' union over the parent's exceeds 0.8; a NaN does not
 unfoldable pub isLarge : Format → Box → List Box → Bool
 isLarge f parent bs = lt (fourFifths f) (div f (volume f (unionOf f bs)) (volume f parent))
 

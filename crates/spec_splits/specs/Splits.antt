@@ -1,4 +1,4 @@
--- What a split rule answers, and the boxes that it looks at: those of the triangles that a part of the order list numbers, in its order. Definitions only.
+-- What a split rule answers, and the boxes that it looks at: those of the triangles that a slice of the order list numbers, in its order.
 use mathlib.Core.Path.{_≡_}
 use mathlib.Core.Bool.{false}
 use mathlib.Core.List.{List, [], _∷_, map, foldl}
@@ -11,12 +11,12 @@ use Rattle.spec_shapes.specs.Boxes.{Box, empty, union, centre}
 use Rattle.spec_shapes.specs.Plain.{PlainBox}
 use Rattle.spec_tree.specs.Trees.{nodeBox}
 
--- the part is cut before this object, or stays whole
+-- the slice is cut before this object, or stays whole
 pub data Split : Type 0 where
   cutAt : ℕ → Split
   nowhere : Split
 
--- ---- a table of the triangles' boxes, which stand in it as those of nodes do: six numbers each, the smallest x y z, then the largest
+-- ---- a table of the triangles' boxes, six numbers each as for nodes: the smallest x y z, then the largest
 unfoldable pub boxIn : List Float → ℕ → Box
 boxIn bounds t = nodeBox bounds t
 
@@ -36,7 +36,7 @@ InTable bounds t = 6 * t + 6 ≤ length bounds
 abbrev pub AllInTable : List Float → List ℕ → Type 0
 AllInTable bounds part = (i : ℕ) → i < length part → InTable bounds (getD part i 0)
 
--- what a rule asks of a part: each of its triangles has a box in the table, and that box is plain
+-- what a rule needs of a slice: each of its triangles has a box in the table, and that box is plain
 pub record Boxed (f : Format) (bounds : List Float) (part : List ℕ) : Type 0 where
   pub in-table : AllInTable bounds part
   pub plain : (i : ℕ) → i < length part → PlainBox f (boxIn bounds (getD part i 0))
@@ -46,8 +46,8 @@ unfoldable pub unionOf : Format → List Box → Box
 unionOf f [] = empty f
 unionOf f (b ∷ bs) = foldl union b bs
 
--- ---- what is said of a cut
--- something is left on both sides of a cut of n objects before object k
+-- ---- what may be said of a cut
+-- a cut of n objects before object k leaves objects on both sides, so that no child of a node is empty
 pub record CutsInside (k n : ℕ) : Type 0 where
   pub after-first : 0 < k
   pub before-end : k < n
@@ -57,7 +57,7 @@ abbrev pub NoneBelow : Format → Axis → Float → List Box → Type 0
 NoneBelow f axis x [] = Unit {0}
 NoneBelow f axis x (b ∷ bs) = (lt (on axis (centre f b)) x ≡ false) × NoneBelow f axis x bs
 
--- no centre is below the first: so it is where the boxes are sorted by their centres
+-- no centre is below the first, as where the boxes are sorted by their centres
 abbrev pub FirstIsLeast : Format → Axis → List Box → Type 0
 FirstIsLeast f axis [] = Unit {0}
 FirstIsLeast f axis (b ∷ bs) = NoneBelow f axis (on axis (centre f b)) bs
