@@ -1,4 +1,4 @@
--- The tests that a program makes before it asks for a root or an arc tangent are the ones that may be asked (`rootable-is`, `asked`). Assumes nothing.
+-- The program's tests before a root or an arc tangent are the conditions of the definitions: no test is missing, none too many.
 use mathlib.Core.Path.{_≡_, refl, sym, _∙_}
 use mathlib.Core.Bool.{true, false, not, _&&_}
 use Prim.Native.Nat.{ℕ, zero, suc}
@@ -19,6 +19,7 @@ use Rattle.spec_angles.specs.Angle.{Askable, askable}
 not-negative : (m : ℕ) (e : ℤ) → T (le +0 (fin true (suc m) e)) → ⊥
 not-negative m e h = omega (arith, mul-pos (zero-lt-suc m) (up-pos e), compared +0 (fin true (suc m) e) tt tt .le→at-most h)
 
+-- finite and not below zero, as the program tests it, is exactly what has a root
 pub rootable-is : (x : Float) → (finite x && le +0 x) ≡ rootable x
 rootable-is nan = refl
 rootable-is (inf s) = refl
@@ -26,6 +27,7 @@ rootable-is (fin false m e) = is-true (le +0 (fin false m e)) (compared +0 (fin 
 rootable-is (fin true zero e) = is-true (le +0 (fin true zero e)) (compared +0 (fin true zero e) tt tt .at-most→le (omega arith))
 rootable-is (fin true (suc m) e) = is-false (le +0 (fin true (suc m) e)) (not-T (le +0 (fin true (suc m) e)) (not-negative m e)) ∙ sym (eqb·suc-zero m)
 
+-- the tests passed give the facts that the laws of the arc tangent need
 pub asked : (n d : Float) → T (askable n d) → Askable n d
 asked n d t =
     let both = and-l (finite n && finite d) (not (eq n +0)) t in

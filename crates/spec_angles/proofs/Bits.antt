@@ -1,4 +1,5 @@
--- The bits of a binary32 that is finite with the sign clear are below 7F800000, and such bits stand for `unitsOf` times the least value, 2 ^ -149. Assumes nothing.
+-- The patterns of binary32 below 7F800000 are the finite numbers with the sign clear, and each stands for `unitsOf` times the least value, 2 ^ -149.
+-- The program takes roots from these patterns.
 use mathlib.Core.Path.{_≡_, refl}
 use mathlib.Core.Bool.{Bool, true, false, not, _||_, Bool·beq, cond, true≢false}
 use mathlib.Core.Logic.{inl, inr}
@@ -19,13 +20,16 @@ use Rattle.spec_angles.specs.Root.{unsigned, rootable}
 use Rattle.spec_angles.specs.RootByBits.{unitsOf}
 
 -- ---- `unitsOf` below 2 ^ 23, where a number is subnormal, and from there on
+-- the pattern of a subnormal number is its number of units
 pub units-subnormal : (b : ℕ) → b < 2 ^ 23 → unitsOf b ≡ b
 units-subnormal b h = rw (is-true (ltb b (2 ^ 23)) (lt→ltb b (2 ^ 23) h)) refl
 
+-- a normal number's units are its significand, shifted by its exponent's field less one
 pub units-normal : (b : ℕ) → 2 ^ 23 ≤ b → unitsOf b ≡ (2 ^ 23 + b % 2 ^ 23) * 2 ^ (b / 2 ^ 23 - 1)
 units-normal b h = rw (is-false (ltb b (2 ^ 23)) (le→nltb b (2 ^ 23) h)) refl
 
--- ---- the bits that stand for q * 2 ^ k, where q has 24 binary digits, or is 2 ^ 24: the leading digit of q adds one to the exponent's field, and a carry adds one more
+-- ---- the bits that stand for q * 2 ^ k, where q has 24 binary digits, or is 2 ^ 24
+-- the leading digit of q adds one to the exponent's field, and a carry adds one more
 of-digits : (q k b : ℕ) → 2 ^ 23 ≤ q → q < 2 ^ 24 → b ≡ k * 2 ^ 23 + q → unitsOf b ≡ q * 2 ^ k
 of-digits q k b l h e =
     let d : 2 ^ 23 + b % 2 ^ 23 ≡ q = omega arith in
@@ -38,6 +42,7 @@ of-carry k b e =
     let f : b / 2 ^ 23 - 1 ≡ suc k = omega arith in
     rw (units-normal b (omega arith), d, f, pow-suc 2 k) (omega arith)
 
+-- the pattern that the program makes has the units it means; a significand rounded up to 2 ^ 24 carries into the exponent
 pub units-of-pattern : (q k : ℕ) → 2 ^ 23 ≤ q → q ≤ 2 ^ 24 → unitsOf (k * 2 ^ 23 + q) ≡ q * 2 ^ k
 units-of-pattern q k l h = elim (eq-or-lt-of-le h) [
   | inl e ↦ rw e (of-carry k (k * 2 ^ 23 + 2 ^ 24) refl)
@@ -69,6 +74,7 @@ normal-value (suc x) t l h =
     let e : suc x - 1 ≡ x = omega arith in
     rw (normal t x h, e) (odd-sign 24 false (2 ^ 23 + t) x 149)
 
+-- the float of such a pattern has the value that its units say
 pub bits-value : (b : ℕ) → b < 0x7f80_0000 → HasValue (ofBits binary32 b) false (unitsOf b) (2 ^ 149)
 bits-value b h = go (decLt b (2 ^ 23))
   where
@@ -105,6 +111,7 @@ no-number t p = go (eqb t 0) p
     go true q = q
     go false q = q
 
+-- a finite float with the sign clear has a pattern below that of infinity
 pub unsigned-bits : (x : Float) → T (fits binary32 x) → T (unsigned x) → toBits binary32 x < 0x7f80_0000
 unsigned-bits x h p = go (decLt b (2 ^ 31)) (decLt b 0x7f80_0000)
   where
@@ -126,25 +133,29 @@ value-is-number : (x : Float) (a c : ℕ) → HasValue x false a c → T (not (i
 unfolding isNan
 value-is-number (fin s m e) a c h = tt
 
+-- a float with a value whose sign is clear is finite, with the sign clear
 pub value-is-unsigned : (x : Float) (a c : ℕ) → HasValue x false a c → T (unsigned x)
 value-is-unsigned (fin false m e) a c h = tt
 value-is-unsigned (fin true m e) a c h = true≢false (h .0)
 
+-- no pattern below that of infinity is a NaN's
 pub bits-are-number : (b : ℕ) → b < 0x7f80_0000 → T (not (nanBits binary32 b))
 bits-are-number b h = rw (nanBits-is binary32 b) (value-is-number (ofBits binary32 b) (unitsOf b) (2 ^ 149) (bits-value b h))
 
+-- a finite float with the sign clear is no NaN
 pub unsigned-is-number : (x : Float) → T (unsigned x) → T (not (isNan x))
 unfolding isNan
 unsigned-is-number (fin s m e) p = tt
 
 -- ---- which floats have a root
--- +0, and any number but the zeros that has a root, have the sign clear
+-- a number that has a root and is no zero has the sign clear
 pub unsigned-of : (x : Float) → T (fits binary32 x) → T (rootable x) → T (not (eq x (fin false 0 (pos 0)))) → T (unsigned x)
 unfolding eq
 unsigned-of (fin false m e) h r n = tt
 unsigned-of (fin true zero e) h r n = absurd (rw (zero-exponent binary32 true e h) at n)
 unsigned-of (fin true (suc m) e) h r n = absurd (omega (arith, eqb→eq (suc m) 0 r))
 
+-- what compares equal to zero, -0 too, has magnitude zero
 pub zero-is-none : (x : Float) → T (eq x (fin false 0 (pos 0))) → num x ≡ 0
 unfolding eq
 zero-is-none (fin s m e) h =

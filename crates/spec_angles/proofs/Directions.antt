@@ -1,5 +1,5 @@
--- The squared length of a vector of bounded coordinates has a root, and is not below the square of any of them; so over the length, where that is not zero, each coordinate is at most 2 in
--- magnitude (`direction-within`). Assumes nothing.
+-- Over its computed length, where that is not zero, a bounded vector has coordinates of at most 2 in magnitude (`direction-within`).
+-- For this its squared length has a root, and is not below the square of any coordinate.
 use mathlib.Core.Path.{_≡_, refl, ap}
 use mathlib.Core.Bool.{Bool, true, false, not}
 use Prim.Native.Nat.{ℕ, zero, suc, _+_, _*_, _^_, _≤_, _<_}
@@ -29,6 +29,7 @@ use Rattle.spec_angles.proofs.Ratio.{some-magnitude}
 use Rattle.spec_angles.proofs.Within.{Within, Whole, unsigned-finite, power-whole, within-more, round-within, round-finite, add-within, mul-within, le-says}
 use Rattle.spec_angles.proofs.Length.{two-to, at-most-twice}
 
+-- both formats reach far enough that squares of bounded coordinates do not overflow
 pub wide : (f : Format) → 45 ≤ emax f
 wide binary32 = lit≤ tt
 wide binary64 = lit≤ tt
@@ -105,7 +106,7 @@ module _ (f : Format) (a : Point) (A : (i : Axis) → Within (2 ^ 21) (on i a)) 
   plain-two : T (unsigned (add f (mul f (on X a) (on X a)) (mul f (on Y a) (on Y a))))
   plain-two = add-unsigned f _ _ (plain-square X) (plain-square Y) (two-within .isFinite)
 
-  pub squared-within : Within (2 ^ 44) (dot f a a)
+  squared-within : Within (2 ^ 44) (dot f a a)
   unfolding dot
   squared-within = add-within f (2 ^ 43) (2 ^ 43) _ _ (power-whole f 44 (le-trans (lit≤ tt) (wide f))) two-within (within-more _ (lit≤ tt) (square-within Z))
 
@@ -138,9 +139,10 @@ module _ (f : Format) (a : Point) (A : (i : Axis) → Within (2 ^ 21) (on i a)) 
   unfolding norm rootOrNan
   norm-is = rw (is-true (rootable (dot f a a)) (unsigned-rootable (dot f a a) squared-unsigned))
 
-  pub norm-is-root : IsRoot f (dot f a a) (norm f a)
+  norm-is-root : IsRoot f (dot f a a) (norm f a)
   norm-is-root = rw norm-is (root-is-nearest f (dot f a a) squared-fits (unsigned-rootable (dot f a a) squared-unsigned))
 
+  -- a direction's coordinates are at most 2 in magnitude, which bounds the products of a solid angle
   pub direction-within : ((i : Axis) → T (fits f (on i a))) → T (not (eq (norm f a) +0)) → (i : Axis) → Within 2 (div f (on i a) (norm f a))
   direction-within F n i =
       let x = on i a in

@@ -1,4 +1,4 @@
--- The winding number of lists that pass is a finite number: no root and no arc tangent is asked where it may not be (`winding-finite`). Assumes nothing.
+-- The winding numbers of lists that pass are finite numbers (`winding-finite`): vectors, directions, angles and sums stay within bounds.
 use mathlib.Core.Path.{ap, _∙_}
 use mathlib.Core.Bool.{Bool, true, false, not, _&&_, _||_, cond}
 use mathlib.Core.List.{List}
@@ -211,6 +211,7 @@ module _ (f : Format) (triangles points : List Float) (T' : GoodTriangles triang
       let c = T' .coordinates in
       solid-angle-within f _ q (point-inside-range triangles c (9 * t) (omega arith)) (point-inside-range triangles c (9 * t + 3) (omega arith)) (point-inside-range triangles c (9 * t + 6) (omega arith)) Q
 
+  -- every winding number that the call writes is finite: no root and no arc tangent is taken where there is none
   pub winding-finite : (k : ℕ) → k < pointCount points → T (finite (windingAt f triangles points k))
   unfolding windingAt windingAbout
   winding-finite k l =

@@ -1,6 +1,6 @@
 -- A format holds the numbers n * 2 ^ j with n below 2 * H, for an H that is a power of two: its grid, in units of its least value.
--- Where q * 2 ^ k is within half a step 2 ^ k of the root of a, and q is at least H, no other number of the grid is as near to that root. Over whole numbers; nothing here is about floats.
--- Assumes nothing.
+-- Where q * 2 ^ k is within half a step 2 ^ k of the root of a, and q is at least H, no other number of the grid is as near to that root.
+-- Over whole numbers: nothing here is about floats.
 use mathlib.Core.Path.{_≡_, sym, ap, _∙_}
 use mathlib.Core.Logic.{_⊎_, inl, inr}
 use Prim.Native.Nat.{ℕ, _+_, _-_, _*_, _^_, _≤_, _<_}
@@ -18,7 +18,7 @@ pub record Rooted (H a q w : ℕ) : Type 0 where
   pub low : square ((2 * q - 1) * w) < 4 * a
   pub high : 4 * a < square ((2 * q + 1) * w)
 
--- where a is n * w ^ 2 and q is the root of n to the nearest whole number
+-- the nearest whole root of the leading digits, scaled back, lies within half a step of the root
 pub rooted-of : (H n q w : ℕ) → 0 < w → H ≤ q → square H ≤ n → Near n q → Rooted H (n * (w * w)) q w
 rooted-of H n q w W l b r =
     let some : 0 < w * w = mul-pos W W in
@@ -33,6 +33,7 @@ rooted-of H n q w W l b r =
 abbrev pub OnGrid : (H w y : ℕ) → Type 0
 OnGrid H w y = ((t : ℕ) × (y ≡ t * w)) ⊎ (y < H * w)
 
+-- every value of the format is on the grid, seen from any step
 pub on-grid : (H n j k : ℕ) → n < H * 2 → OnGrid H (2 ^ k) (n * 2 ^ j)
 on-grid H n j k h = go (decLe k j)
   where
@@ -51,6 +52,7 @@ module _ (H a q w y : ℕ) (r : Rooted H a q w) where
       omega (arith, g .1, mul-le-mul-right w l)
   a-step-above h (inr g) = absurd (omega (arith, mul-le-mul-right w (r .least)))
 
+  -- of the grid's numbers above, none is as near to the root
   pub nearer-than-above : q * w < y → OnGrid H w y → 4 * a < square (q * w + y)
   nearer-than-above h g = lt-of-lt-of-le (r .high) (square-mono (a-step-above h g))
 
@@ -58,6 +60,7 @@ module _ (H a q w y : ℕ) (r : Rooted H a q w) where
   a-step-below : y + w ≤ q * w → q * w + y ≤ (2 * q - 1) * w
   a-step-below h = rw (mul-comm (2 * q - 1) w, mul-sub w (2 * q) 1) (omega arith)
 
+  -- of the grid's numbers below, none is as near to the root
   pub nearer-than-below : y < q * w → OnGrid H w y → square (q * w + y) < 4 * a
   nearer-than-below h (inl g) =
       let l : g .0 < q = lt-of-mul-lt-mul-right w (lt-of-le-of-lt (le-of-eq (sym (g .1))) h) in

@@ -1,4 +1,5 @@
--- A number from 0 to 1 times 2 ^ 30, in floats, is exact, and cut to a whole number it is `inUnits`, 2 ^ 30 at most. Assumes nothing.
+-- A number from 0 to 1 times 2 ^ 30, in floats, is exact, and cut to a whole number it is `inUnits`, at most 2 ^ 30: so the program reads the table
+-- at the entry that the definition means.
 use mathlib.Core.Path.{_≡_, refl, sym, ap}
 use mathlib.Core.Bool.{true, false, true≢false}
 use Prim.Native.Nat.{ℕ, suc, _+_, _*_, _/_, _^_, _≤_, _<_}
@@ -60,8 +61,10 @@ module _ (f : Format) (t : Float) (o : AtMostOne f t) where
   few : num t * 2 ^ 30 ≤ 2 ^ 30 * den t
   few = omega (arith, o .most)
 
+  -- the program's product and cut give the units as defined: nothing is rounded on the way
   pub cut-is-in-units : cut (mul f t (power 30)) ≡ inUnits t
   cut-is-in-units = cut-value (num t * 2 ^ 30) (den t) (den-pos t) few (mul f t (power 30)) (product f t (o .holds) (o .isUnsigned) (o .most))
 
+  -- a number up to 1 has at most 2 ^ 30 units, so its entry is in the table
   pub in-units-few : inUnits t ≤ 2 ^ 30
   in-units-few = quotient-few (num t * 2 ^ 30) (den t) (den-pos t) few

@@ -1,5 +1,5 @@
--- No coordinate of a vector is more than twice the vector's computed length, unless that is zero: also where squares are subnormal or underflow (`at-most-twice`).
--- Over fractions: s is the squared length, l its root, and x a coordinate whose square s is not below. Assumes nothing.
+-- No coordinate of a vector is more than twice its computed length, unless that is zero: also where squares are subnormal or underflow.
+-- Over fractions: s is the squared length, l its root, and x a coordinate whose square s is not below.
 use mathlib.Core.Path.{_≡_, refl, sym, ap, _∙_}
 use mathlib.Core.Bool.{false}
 use mathlib.Core.Logic.{_⊎_, inl, inr}
@@ -21,6 +21,7 @@ use Rattle.spec_angles.proofs.Bits.{value-is-unsigned}
 use Rattle.spec_angles.proofs.RootLaw.{units-of, lt-holds, root-of-zero, root-unique}
 
 -- ---- powers of two as values: 2 ^ v units
+-- a power of two in the format's range is a value of it, so that a length can be compared with it
 pub two-to : (f : Format) (v : ℕ) → v < low f + suc (emax f) → HasValue (round f false (2 ^ v) (2 ^ low f)) false (2 ^ v) (2 ^ low f)
 two-to f v h =
     round-exact f false (2 ^ v) (2 ^ low f) 1 v (pow-pos (low f)) (two-digits f) (rw (one-mul (2 ^ v)) (pow-lt h)) (rw (one-mul (2 ^ v)))
@@ -125,6 +126,7 @@ module _ (f : Format) (s l : Float) (S : T (fits f s)) (U : T (unsigned s)) (R :
           go (yes h) = twice w w (omega arith) high-side (large h)
           go (no n) = twice w (low f / 2) (omega arith) high-side half-at-least
 
+    -- a coordinate is at most twice the computed length, also where squares underflow: a direction is bounded
     pub at-most-twice : M * den l ≤ 2 * num l * D
     at-most-twice = elim (eq-zero-or-pos (size N)) [
       | inl e ↦

@@ -1,5 +1,5 @@
--- The smaller of two magnitudes over the larger, rounded, is a number from 0 to 1: rounding keeps the order, and 1 is a value of the format (`ratio-at-most-one`).
--- Assumes nothing.
+-- The smaller of two magnitudes over the larger, rounded, is a number from 0 to 1 (`ratio-at-most-one`): rounding keeps the order, and 1 is a value
+-- of the format. The table of arc tangents goes no further.
 use mathlib.Core.Path.{_≡_, refl}
 use mathlib.Core.Bool.{Bool, true, false, not, _||_, Bool·beq, cond}
 use mathlib.Core.Logic.{inl, inr}
@@ -59,6 +59,7 @@ abs-unsigned (fin s m e) k = tt
 abs-num : (x : Float) → T (finite x) → num (abs x) ≡ num x
 abs-num (fin s m e) k = refl
 
+-- the smaller magnitude over the larger, rounded, lies from 0 to 1, where the table has its entries
 pub ratio-at-most-one : (f : Format) (n d : Float) → Askable n d → AtMostOne f (ratio f n d)
 unfolding ratio
 ratio-at-most-one f n d k = go (lt (abs d) (abs n)) (λ (h : T (lt (abs d) (abs n))). h) (λ (h : T (not (lt (abs d) (abs n)))). h)

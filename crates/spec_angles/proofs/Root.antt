@@ -1,4 +1,4 @@
--- The function `root` is the value nearest the exact root, for every number that has one, in every format (`root-is-nearest`). Assumes nothing.
+-- The function `root` is the value nearest the exact root, for every number that has one, in every format (`root-is-nearest`).
 use mathlib.Core.Path.{_≡_, refl, sym, ap, _∙_}
 use mathlib.Core.Bool.{true, false}
 use mathlib.Core.Logic.{inl, inr}
@@ -155,6 +155,7 @@ plain-root f x h p =
       | inr s ↦ root-of-some f x u s
     ]
 
+-- the root is correctly rounded: of all values of the format it is the nearest to the exact root
 pub root-is-nearest : (f : Format) (x : Float) → T (fits f x) → T (rootable x) → IsRoot f x (root f x)
 root-is-nearest f (fin false m e) h r = plain-root f (fin false m e) h tt
 root-is-nearest f (fin true m e) h r = root-of-none f (fin true m e) (ap (λ (z : ℕ). z * up e) (eqb→eq m 0 r) ∙ zero-mul (up e))

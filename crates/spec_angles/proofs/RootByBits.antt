@@ -1,5 +1,5 @@
--- The root of a binary32 from its bits: its units, written by fours (`scaled-subnormal`, `scaled-normal`), the root of the digits (`nearest-root`), and the bits of the answer, which the
--- two make (`bits-root`). Assumes nothing.
+-- The root of a binary32 from its bits: its units, written by fours (`scaled-subnormal`, `scaled-normal`), the root of the digits (`nearest-root`),
+-- and the bits of the answer, which the two make (`bits-root`).
 use mathlib.Core.Path.{_≡_, refl, sym}
 use mathlib.Core.Bool.{false}
 use Prim.Native.Nat.{ℕ, suc, _+_, _-_, _*_, _/_, _%_, _^_, _≤_, _<_}
@@ -27,6 +27,7 @@ pub record Spare (n z : ℕ) : Type 0 where
   pub low : 2 ^ 23 ≤ n * 2 ^ (z - 8)
   pub high : n * 2 ^ (z - 8) < 2 ^ 24
 
+-- the leading zeros of a significand say how far it is shifted to have 24 digits
 pub spare-of : (n : ℕ) → 0 < n → n < 2 ^ 24 → Spare n (leadingZeros 32 n)
 spare-of n p h =
     let z = leadingZeros 32 n in
@@ -41,7 +42,7 @@ spare-of n p h =
       high = lt-of-lt-of-le (mul-lt-mul-of-pos-right (t .3) (pow-pos (z - 8))) (le-of-eq (pow-sum (suc j) (z - 8) 24 (omega arith)));
     }
 
--- 23 or 24 places more leave an even power
+-- the program's shift leaves 47 or 48 digits and an even power, so that the power's root is exact
 pub split-of : (n power z : ℕ) → Spare n z → 149 ≤ power → power < 403
     → InFours n power ((n * 2 ^ (z - 8 + 23 + (power - (z - 8) - 23) % 2)) % 2 ^ 64) ((power - (z - 8) - 23) / 2)
 split-of n power z s l h =
@@ -59,10 +60,11 @@ split-of n power z s l h =
       same = rw (mul-assoc n (2 ^ shift) (2 ^ (rest / 2) * 2 ^ (rest / 2)), pow-sum (rest / 2) (rest / 2) (rest / 2 + rest / 2) refl, pow-sum shift (rest / 2 + rest / 2) power (omega arith));
     }
 
--- the units of the bits b, by fours: of a normal number the exponent's field x stands for 2 ^ (x - 1) units, and 148 + x is (x - 1) + 149
+-- the split of a subnormal number's pattern is the split of its units
 pub scaled-subnormal : (b d s : ℕ) → b < 2 ^ 23 → InFours b 149 d s → Scaled (unitsOf b) d s
 scaled-subnormal b d s h p = rw (units-subnormal b h) p
 
+-- the split of a normal number's significand is the split of its units: the field x stands for 2 ^ (x - 1), and 148 + x is (x - 1) + 149
 pub scaled-normal : (b d s : ℕ) → 2 ^ 23 ≤ b → InFours (2 ^ 23 + b % 2 ^ 23) (148 + b / 2 ^ 23) d s → Scaled (unitsOf b) d s
 scaled-normal b d s h p = record {
   least = p .least;
@@ -71,7 +73,8 @@ scaled-normal b d s h p = record {
   same = rw (units-normal b h, mul-assoc (2 ^ 23 + b % 2 ^ 23) (2 ^ (b / 2 ^ 23 - 1)) (2 ^ 149), pow-sum (b / 2 ^ 23 - 1) 149 (148 + b / 2 ^ 23) (omega arith)) (p .same);
 }
 
--- ---- the root of a number of 47 or 48 digits, cut, has 24, and the nearest has 24 or is 2 ^ 24
+-- ---- the root of the digits
+-- the nearest root of 47 or 48 digits is a significand: it has 24 digits, or is 2 ^ 24
 pub nearest-root : (n : ℕ) → 2 ^ 46 ≤ n → n < 2 ^ 48 → NearestRoot n (nearer n (wholeRoot 24 n))
 nearest-root n l h =
     let r = wholeRoot 24 n in
@@ -82,6 +85,7 @@ nearest-root n l h =
     record { least = omega arith; most = omega arith; near = nearer-root n r (omega arith) w }
 
 -- ---- the bits of the root
+-- scale and nearest root, put together as a pattern, are the bits of the root: so the program is right
 pub bits-root : (b d k q : ℕ) → b < 0x7f80_0000 → Scaled (unitsOf b) d k → NearestRoot d q → IsRoot binary32 (ofBits binary32 b) (ofBits binary32 (k * 2 ^ 23 + q))
 bits-root b d k q h p r =
     let x = ofBits binary32 b in

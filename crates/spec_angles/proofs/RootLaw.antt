@@ -1,5 +1,5 @@
--- The law of the root: where the value r of a format is q * 2 ^ k units, within half a step of the root of x, r is the format's root of x (`root-law`).
--- No other value is (`root-unique`), and the root of zero is +0 (`root-of-zero`). For every format. Assumes nothing.
+-- The law of the root: where a value r of a format is q * 2 ^ k units, within half a step of the root of x, r is that format's root (`root-law`).
+-- No other value is (`root-unique`), and the root of zero is +0 (`root-of-zero`). For every format.
 use mathlib.Core.Path.{_≡_, refl, ap}
 use mathlib.Core.Bool.{false, not}
 use Prim.Native.Nat.{ℕ, zero, suc, _+_, _-_, _*_, _^_, _≤_, _<_}
@@ -27,6 +27,7 @@ pub record Units (f : Format) (y : Float) : Type 0 where
 regroup : (n u w d : ℕ) → n * u * (d * w) ≡ n * (u * w) * d
 regroup n u w d = simp (mul-assoc, mul-comm)
 
+-- every value that is not negative is a whole number of the format's least values, with few digits
 pub units-of : (f : Format) (y : Float) → T (fits f y) → T (unsigned y) → Units f y
 units-of f (fin false zero e) h k = record { digits = 0; places = 0; few = pow-pos (prec f); under = pow-pos (low f + suc (emax f)); is = simp zero-mul }
 units-of f (fin false (suc m) e) h k =
@@ -66,14 +67,17 @@ module _ (x cx M S N U L : ℕ) (p : x * L ≡ N * cx) (q : S * L ≡ U * M) whe
   above P h = lt-of-mul-lt-mul-right (L * L) (rw (left, right) (mul-lt-mul-of-pos-right h P))
 
 -- ---- what `lt` says of two values that are not negative
+-- the float that compares below has the smaller fraction
 pub lt-says : (x y : Float) → T (unsigned x) → T (unsigned y) → T (lt x y) → num x * den y < num y * den x
 unfolding lt
 lt-says (fin false m e) (fin false n d) p q h = ltb→lt (m * up e * down d) (n * up d * down e) h
 
+-- the float with the smaller fraction compares below
 pub lt-holds : (x y : Float) → T (unsigned x) → T (unsigned y) → num x * den y < num y * den x → T (lt x y)
 unfolding lt
 lt-holds (fin false m e) (fin false n d) p q h = lt→ltb (m * up e * down d) (n * up d * down e) h
 
+-- the float that does not compare below has no smaller fraction
 pub not-lt-says : (x y : Float) → T (unsigned x) → T (unsigned y) → T (not (lt x y)) → num y * den x ≤ num x * den y
 not-lt-says x y p q h = go (decLt (num x * den y) (num y * den x))
   where
@@ -82,6 +86,7 @@ not-lt-says x y p q h = go (decLt (num x * den y) (num y * den x))
     go (no n) = omega arith
 
 -- ---- the law
+-- the least significand that has all of the format's digits
 abbrev pub half : Format → ℕ
 half f = 2 ^ (prec f - 1)
 
@@ -89,7 +94,7 @@ twice-half : (f : Format) → 2 ^ prec f ≡ half f * 2
 twice-half binary32 = refl
 twice-half binary64 = refl
 
--- x is N units, and r is q * 2 ^ k units; in units the root of x is the root of N * 2 ^ low
+-- within half a step is nearest: x is N units, r is q * 2 ^ k units, and in units the root of x is the root of N * 2 ^ low
 pub root-law : (f : Format) (x r : Float) (N q k : ℕ) → num x * 2 ^ low f ≡ N * den x → num r * 2 ^ low f ≡ q * 2 ^ k * den r → T (fits f r) → T (unsigned r)
     → Rooted (half f) (N * 2 ^ low f) q (2 ^ k) → IsRoot f x r
 root-law f x r N q k X R F P g = record { holds = F; isUnsigned = P; above = higher; under = lower }
@@ -116,6 +121,7 @@ root-law f x r N q k X R F P g = record { holds = F; isUnsigned = P; above = hig
         (on-grid (half f) (u .digits) (u .places) k (rw (twice-half f) at (u .few))))
 
 -- ---- zero
+-- the root of either zero is +0
 pub root-of-zero : (f : Format) (x : Float) → num x ≡ 0 → IsRoot f x (fin false 0 (pos 0))
 root-of-zero f x z = record { holds = unfold fits in tt; isUnsigned = tt; above = higher; under = lower }
   where
@@ -135,6 +141,7 @@ turned x r y h = rw (add-comm (num r * den y) (num y * den r), mul-comm (den r) 
 same-value : (f : Format) (x y : Float) → T (fits f x) → T (fits f y) → T (unsigned x) → T (unsigned y) → num x * den y ≡ num y * den x → x ≡ y
 same-value f (fin false m e) (fin false n d) h k p q v = unique-finite f false m e n d h k v
 
+-- a number has one root in a format, so the definition of the root fixes the program's answer
 pub root-unique : (f : Format) (x r y : Float) → IsRoot f x r → IsRoot f x y → r ≡ y
 root-unique f x r y R Y = go (decLt (num r * den y) (num y * den r)) (decLt (num y * den r) (num r * den y))
   where

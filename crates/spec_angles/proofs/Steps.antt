@@ -1,4 +1,4 @@
--- The rule of the table of arc tangents, proved at all of its entries by one test that antt computes (`step`), its ends, and a bound on every entry. Assumes nothing.
+-- The rule of the table of arc tangents, proved at all of its entries by one test that antt computes (`step`), its ends, and a bound on every entry.
 use mathlib.Core.Path.{_≡_, refl, sym, ap, _∙_, subst}
 use mathlib.Core.Bool.{Bool, true, _&&_}
 use mathlib.Core.List.{List, [], _∷_}
@@ -60,6 +60,7 @@ module _ (k : ℕ) (h : k < 1024) where
   ends : T (under k x y && leb y eighthTurn)
   ends = and-r (above k x y) (under k x y && leb y eighthTurn) bounds
 
+  -- every step of the table is within one of what the slope of the arc tangent allows: no entry is out of line
   pub step : Step k
   unfolding x y
   step = record {
@@ -73,14 +74,17 @@ module _ (k : ℕ) (h : k < 1024) where
   next-most = leb→le y eighthTurn (and-r (under k x y) (leb y eighthTurn) ends)
 
 -- ---- the ends, and a bound on every entry
+-- the table begins at the angle zero
 pub entry-0 : entry 0 ≡ 0
 unfolding entry arcs
 entry-0 = refl
 
+-- the table ends at an eighth of a turn, the arc tangent of 1
 pub entry-1024 : entry 1024 ≡ eighthTurn
 unfolding entry arcs
 entry-1024 = refl
 
+-- no entry is more than an eighth of a turn, so the program's words hold them
 pub entry-most : (k : ℕ) → k < 1025 → entry k ≤ eighthTurn
 entry-most k h = go (decLt k 1024)
   where

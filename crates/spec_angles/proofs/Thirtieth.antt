@@ -1,5 +1,5 @@
--- A whole number below 2 ^ 32 rounded to a format and then multiplied by 2 ^ -30 is that number over 2 ^ 30, rounded once: the product is exact, since a / 2 ^ 30 is far above the format's
--- least value. Assumes nothing.
+-- A whole number below 2 ^ 32 rounded to a format and then multiplied by 2 ^ -30 is that number over 2 ^ 30, rounded once: the product is exact,
+-- since a / 2 ^ 30 is far above the format's least value.
 use mathlib.Core.Path.{_≡_, refl, sym, ap, _∙_}
 use mathlib.Core.Bool.{true, false, true≢false}
 use Prim.Native.Nat.{ℕ, zero, suc, _-_, _*_, _^_, _≤_, _<_}
@@ -19,7 +19,7 @@ use Rattle.spec_numbers.proofs.Whole.{power}
 use Rattle.spec_numbers.proofs.Exact.{rounds-to-itself}
 use Rattle.spec_numbers.proofs.Rounding.{round-negated}
 
--- 2 ^ -30
+-- 2 ^ -30, the unit of an angle
 abbrev pub thirtieth : Float
 thirtieth = fin false 1 (negsuc 29)
 
@@ -81,9 +81,11 @@ module _ (f : Format) (a : ℕ) (some : 0 < a) (few : a < 2 ^ 32) where
         ∙ round-same f false (W * 2 ^ 30 * 1) (2 ^ low f * 2 ^ 30) W (2 ^ low f) (mul-pos (pow-pos (low f)) (pow-pos 30)) (pow-pos (low f)) (regroup W (2 ^ 30) (2 ^ low f))
         ∙ again f (round f false a (2 ^ 30)) W (2 ^ low f) (pow-pos (low f)) (value-pos (round f false a (2 ^ 30)) W (2 ^ low f) small-positive (pow-pos (low f)) small) (round-fits f false a (2 ^ 30)) small
 
+-- the program rounds an angle once: to a float; its product with 2 ^ -30 is exact
 pub rounds-once : (f : Format) (a : ℕ) → a < 2 ^ 32 → mul f (round f false a 1) thirtieth ≡ round f false a (2 ^ 30)
 rounds-once f zero h = known f .none
 rounds-once f (suc a) h = product f (suc a) (zero-lt-suc a) h (grid f (suc a) (2 ^ 30)) refl
 
+-- a negative angle is rounded once too: the sign is set behind
 pub rounds-once-negated : (f : Format) (a : ℕ) → a < 2 ^ 32 → neg (mul f (round f false a 1) thirtieth) ≡ round f true a (2 ^ 30)
 rounds-once-negated f a h = ap neg (rounds-once f a h) ∙ sym (round-negated f a (2 ^ 30))

@@ -1,5 +1,5 @@
--- The root of a whole number: cut, digit by digit (`whole-root`), and no other number is (`whole-root-unique`); to the nearest whole number (`nearer-root`), since it is never half way
--- between two; and two tests that only the nearest one passes (`tested-nearer`). Assumes nothing.
+-- The root of a whole number: cut, digit by digit (`whole-root`), and no other number is (`whole-root-unique`); to the nearest whole number
+-- (`nearer-root`), since it is never half way between two; and two tests that only the nearest one passes (`tested-nearer`).
 use mathlib.Core.Path.{_≡_, sym, _∙_}
 use mathlib.Core.Bool.{Bool, true, false, not, cond}
 use Prim.Native.Nat.{ℕ, zero, suc, _+_, _-_, _*_, _/_, _^_, _≤_, _<_}
@@ -19,11 +19,13 @@ next-digit n r p = go (leb (square (2 * r + 1)) n) (leb→le (square (2 * r + 1)
     go true h k = record { low = h tt; high = omega (arith, p .high) }
     go false h k = record { low = omega (arith, p .low); high = k tt }
 
+-- the root found digit by digit is the root cut to a whole number
 pub whole-root : (d n : ℕ) → n < 2 ^ d * 2 ^ d → WholeRoot n (wholeRoot d n)
 unfolding wholeRoot
 whole-root zero n h = record { low = omega arith; high = omega arith }
 whole-root (suc d) n h = next-digit n (wholeRoot d (n / 4)) (whole-root d (n / 4) (omega (arith, rw (pow-suc 2 d) at h)))
 
+-- a number has one cut root, however it is found
 pub whole-root-unique : {n r s : ℕ} → WholeRoot n r → WholeRoot n s → r ≡ s
 whole-root-unique {n} {r} {s} p q =
     let l : r < s + 1 = square-reflects (lt-of-le-of-lt (p .low) (q .high)) in
@@ -38,6 +40,7 @@ near-up n r w g =
 near-stay : (n r : ℕ) → 0 < r → WholeRoot n r → n - r * r ≤ r → Near n r
 near-stay n r s w g = record { low = lt-of-lt-of-le (square-lt {a = 2 * r - 1} {b = 2 * r} (omega arith)) (omega (arith, w .low)); high = omega (arith, w .low) }
 
+-- raised by one where the rest is larger than it, the cut root is the nearest: there is never a tie
 pub nearer-root : (n r : ℕ) → 0 < r → WholeRoot n r → Near n (nearer n r)
 nearer-root n r s w = go (ltb r (n - r * r)) (ltb→lt r (n - r * r)) (nltb→le r (n - r * r))
   where
@@ -45,6 +48,7 @@ nearer-root n r s w = go (ltb r (n - r * r)) (ltb→lt r (n - r * r)) (nltb→le
     go true h k = near-up n r w (h tt)
     go false h k = near-stay n r s w (k tt)
 
+-- the nearest root is the cut root or the next number
 pub nearer-between : (n r : ℕ) → (r ≤ nearer n r) × (nearer n r ≤ r + 1)
 nearer-between n r = go (ltb r (n - r * r))
   where
@@ -53,13 +57,15 @@ nearer-between n r = go (ltb r (n - r * r))
     go false = omega arith
 
 -- ---- which way the cut root goes
+-- where the rest is no larger than the cut root, that is the nearest
 pub root-below : (n r : ℕ) → r * r ≤ n → n ≤ r * r + r → nearer n r ≡ r
 root-below n r l h = simp (is-false (ltb r (n - r * r)) (le→nltb r (n - r * r) (omega arith)))
 
+-- where the rest is larger than the cut root, the next number is the nearest
 pub root-above : (n r : ℕ) → r * r + r < n → nearer n r ≡ r + 1
 root-above n r h = simp (is-true (ltb r (n - r * r)) (lt→ltb r (n - r * r) (omega arith)))
 
--- A number that passes both tests is the nearest root, however it was come by: g² - g < n ≤ g² + g says of whole numbers that g - 1/2 < √n < g + 1/2.
+-- A number that passes both tests is the nearest root, so the program may guess it: g² - g < n ≤ g² + g says that g - 1/2 < √n < g + 1/2.
 pub tested-nearer : (d n g : ℕ) → n < 2 ^ d * 2 ^ d → g * g < n + g → n ≤ g * g + g → g ≡ nearer n (wholeRoot d n)
 tested-nearer d n zero few over under = absurd (omega arith)
 tested-nearer d n (suc q) few over under = go (ltb n (suc q * suc q)) (ltb→lt n (suc q * suc q)) (nltb→le n (suc q * suc q))

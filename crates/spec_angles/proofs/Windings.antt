@@ -1,5 +1,5 @@
--- The loops that make winding numbers: the sum over the triangles, one a turn (`Summed`), and the lent list, one number a turn (`Wound`). Then what stands in that list when the call is done,
--- or refused. Assumes nothing.
+-- The loops that make winding numbers: the sum over the triangles, one a turn (`Summed`), and the lent list, one number a turn (`Wound`).
+-- Then what stands in that list when the call is done, or refused.
 use mathlib.Core.Path.{_≡_, refl, ap, _∙_}
 use mathlib.Core.Bool.{true}
 use mathlib.Core.List.{List, [], _∷_}
@@ -27,15 +27,18 @@ pub record Summed (f : Format) (triangles : List Float) (q : Point) (count : ℕ
   pub is : sum ≡ sumOf f (triangleAt triangles) q k
 
 module _ (f : Format) (triangles : List Float) (q : Point) (count : ℕ) where
+  -- the sum begins at zero, with no triangle in it
   pub sum-start : Summed f triangles q count zero 0
   unfolding sumOf
   sum-start = record { within = omega arith; is = refl }
 
+  -- a turn of the loop adds the next triangle's solid angle
   pub sum-more : (sum angle : Float) (t : Triangle) (k : ℕ) → k < count → Summed f triangles q count sum k → t ≡ triangleAt triangles k → angle ≡ solidAngle f t q
       → Summed f triangles q count (add f sum angle) (k + 1)
   unfolding sumOf
   sum-more sum angle t k l s T' A = record { within = omega arith; is = rw (add-one k, s .is, A, T') refl }
 
+  -- with every triangle in it, the sum over 4 PI is the winding number
   pub sum-end : (sum : Float) (k : ℕ) → count ≡ triangleCount triangles → count ≤ k → Summed f triangles q count sum k → div f sum (mul f four (pi f)) ≡ windingAbout f triangles q
   unfolding windingAbout windingNumber
   sum-end sum k C l s =
@@ -47,28 +50,34 @@ pub record Wound (f : Format) (triangles points old : List Float) (count : ℕ) 
   pub run : Run (λ j. windingAt f triangles points j ∷ []) 0 count old out k
 
 module _ (f : Format) (triangles points old : List Float) (count : ℕ) where
+  -- before the first turn the lent list is as it was
   pub fill-start : Wound f triangles points old count old 0
   fill-start = record { run = run-start _ 1 0 count old }
 
+  -- a turn of the loop stores the next point's winding number
   pub fill-more : (out : List Float) (k : ℕ) (q : Point) (w : Float) → count ≤ length old → k < count → Wound f triangles points old count out k → q ≡ pointAt points (3 * k)
       → w ≡ windingAbout f triangles q → Wound f triangles points old count (set out k w) (k + 1)
   unfolding windingAt
   fill-more out k q w room l h Q W = record { run = rw (zero-add k) at (run-store (windingAt f triangles points) 0 count old out k w (rw (zero-add count) room) l (h .run) (W ∙ ap (windingAbout f triangles) Q)) }
 
+  -- after the last turn the list is as the definition writes it
   pub fill-end : (out : List Float) (k : ℕ) → count ≡ pointCount points → count ≤ k → Wound f triangles points old count out k → out ≡ written f triangles points old
   unfolding written
   fill-end out k C l h = run-end _ 0 count old out k l (h .run) ∙ ap (λ (n : ℕ). over 0 (many (λ j. windingAt f triangles points j ∷ []) n) old) C
 
 -- ---- the call
 module _ (triangles points old : List Float) where
+  -- a call that refuses keeps its contract by leaving the lent list as it was
   pub as-it-was : (f : Format) (v : Verdict) → v ≡ windingRefusal triangles points (length old) → refuses v ≡ true → old ≡ afterWinding f triangles points old
   unfolding afterWinding
   as-it-was f v is h = rw (← is) (refusal-leaves v (written f triangles points old) old h)
 
+  -- a call that passed its tests has room for a number a point
   pub room-for-all : windingRefusal triangles points (length old) ≡ passes → pointCount points ≤ length old
   unfolding windingRefusal
   room-for-all h = room-passed (length old) (pointCount points) (all-pass _ h .1 .0)
 
+  -- a call that passed its tests keeps its contract by writing every number
   pub is-written : (f : Format) (new : List Float) → windingRefusal triangles points (length old) ≡ passes → new ≡ written f triangles points old → new ≡ afterWinding f triangles points old
   unfolding afterWinding
   is-written f new h e = rw (e, h)

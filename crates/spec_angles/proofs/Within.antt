@@ -1,5 +1,5 @@
--- Bounds that rounding keeps: where a whole number is a value of the format, what is at most that number in magnitude stays so when it is rounded. So sums, differences and products of
--- bounded numbers are bounded, and finite. Assumes nothing.
+-- Bounds that rounding keeps: where a whole number is a value of the format, what is at most that number in magnitude stays so when it is rounded.
+-- So sums, differences and products of bounded numbers are bounded, and finite.
 use mathlib.Core.Path.{_≡_, sym, ap, _∙_}
 use mathlib.Core.Bool.{Bool, true, false, cond, true≢false}
 use Prim.Native.Nat.{ℕ, suc, _+_, _*_, _^_, _≤_, _<_}
@@ -21,7 +21,7 @@ use Rattle.spec_angles.specs.Root.{unsigned}
 use Rattle.spec_angles.proofs.Powers.{two-digits}
 use Rattle.spec_angles.proofs.Bits.{value-is-unsigned}
 
--- ---- what is rounded with the sign clear, and is no more than some finite number, is finite with the sign clear
+-- ---- rounding with the sign clear
 units-unsigned : (f : Format) (q k m : ℕ) (e : ℤ) → T (le (units f false q k) (fin false m e)) → T (unsigned (units f false q k))
 unfolding units le
 units-unsigned f q k m e = go (ltb (q * 2 ^ k) (2 ^ (low f + suc (emax f))))
@@ -29,10 +29,10 @@ units-unsigned f q k m e = go (ltb (q * 2 ^ k) (2 ^ (low f + suc (emax f))))
     go : (b : Bool) → T (le (cond b (odd (suc (prec f)) false q k (low f)) (inf false)) (fin false m e)) → T (unsigned (cond b (odd (suc (prec f)) false q k (low f)) (inf false)))
     go true h = value-is-unsigned (odd (suc (prec f)) false q k (low f)) (q * 2 ^ k) (2 ^ low f) (odd-sign (suc (prec f)) false q k (low f))
 
+-- what is rounded with the sign clear, and stays below a finite number, is finite with the sign clear
 pub round-unsigned : (f : Format) (a c m : ℕ) (e : ℤ) → T (le (round f false a c) (fin false m e)) → T (unsigned (round f false a c))
 round-unsigned f a c m e h = rw (round-is f false a c) (units-unsigned f _ _ m e (rw (round-is f false a c) at h))
 
--- and so is what is rounded with the sign clear and is finite
 units-finite : (f : Format) (q k : ℕ) → T (finite (units f false q k)) → T (unsigned (units f false q k))
 unfolding units
 units-finite f q k = go (ltb (q * 2 ^ k) (2 ^ (low f + suc (emax f))))
@@ -40,9 +40,11 @@ units-finite f q k = go (ltb (q * 2 ^ k) (2 ^ (low f + suc (emax f))))
     go : (b : Bool) → T (finite (cond b (odd (suc (prec f)) false q k (low f)) (inf false))) → T (unsigned (cond b (odd (suc (prec f)) false q k (low f)) (inf false)))
     go true h = value-is-unsigned (odd (suc (prec f)) false q k (low f)) (q * 2 ^ k) (2 ^ low f) (odd-sign (suc (prec f)) false q k (low f))
 
+-- what is rounded with the sign clear, and is finite, keeps the sign clear
 pub round-finite : (f : Format) (a c : ℕ) → T (finite (round f false a c)) → T (unsigned (round f false a c))
 round-finite f a c h = rw (round-is f false a c) (units-finite f _ _ (rw (round-is f false a c) at h))
 
+-- the float that compares as at most the other has no larger fraction
 pub le-says : (x y : Float) → T (unsigned x) → T (unsigned y) → T (le x y) → num x * den y ≤ num y * den x
 le-says (fin false m e) (fin false n d) p q h = omega (arith, compared (fin false m e) (fin false n d) tt tt .le→at-most h)
 
@@ -50,6 +52,7 @@ le-says (fin false m e) (fin false n d) p q h = omega (arith, compared (fin fals
 pub record Whole (f : Format) (c : ℕ) : Type 0 where
   pub exact : HasValue (round f false c 1) false c 1
 
+-- a whole number with no more digits than a significand is a value of the format
 pub small-whole : (f : Format) (c : ℕ) → c < 2 ^ prec f → Whole f c
 small-whole f c h = record {
   exact =
@@ -58,6 +61,7 @@ small-whole f c h = record {
       (sym (mul-one (c * 2 ^ low f)));
 }
 
+-- a power of two in the format's range is a value of it
 pub power-whole : (f : Format) (k : ℕ) → k ≤ emax f → Whole f (2 ^ k)
 power-whole f k h = record {
   exact =
@@ -71,15 +75,17 @@ pub record Within (c : ℕ) (x : Float) : Type 0 where
   pub isFinite : T (finite x)
   pub most : num x ≤ c * den x
 
+-- a bound may be widened
 pub within-more : {b c : ℕ} (x : Float) → b ≤ c → Within b x → Within c x
 within-more x h w = record { isFinite = w .isFinite; most = le-trans (w .most) (mul-le-mul-right (den x) h) }
 
-pub neg-within : {c : ℕ} (x : Float) → Within c x → Within c (neg x)
+neg-within : {c : ℕ} (x : Float) → Within c x → Within c (neg x)
 unfolding neg
 neg-within nan w = absurd (w .isFinite)
 neg-within (inf s) w = absurd (w .isFinite)
 neg-within (fin s m e) w = record { isFinite = tt; most = w .most }
 
+-- a number with the sign clear is finite, as the definition has it
 pub unsigned-finite : (x : Float) → T (unsigned x) → T (finite x)
 unsigned-finite (fin false m e) h = tt
 
@@ -96,6 +102,7 @@ below-whole f a d c (fin false n g) v l =
 round-within-plain : (f : Format) (a d c : ℕ) → 0 < d → Whole f c → a ≤ c * d → Within c (round f false a d)
 round-within-plain f a d c D w h = below-whole f a d c (round f false c 1) (w .exact) (round-mono f a d c 1 D (pow-pos 0) (omega arith))
 
+-- rounding does not pass a whole number that the format holds, so it keeps the bound
 pub round-within : (f : Format) (s : Bool) (a d c : ℕ) → 0 < d → Whole f c → a ≤ c * d → Within c (round f s a d)
 round-within f false a d c D w h = round-within-plain f a d c D w h
 round-within f true a d c D w h = rw (round-negated f a d) (neg-within (round f false a d) (round-within-plain f a d c D w h))
@@ -113,6 +120,7 @@ size-most true true false a b z h = omega arith
 size-most true true true a b z h = omega arith
 
 module _ (f : Format) (b c : ℕ) where
+  -- a sum is bounded by the sum of the bounds
   pub add-within : (x y : Float) → Whole f (b + c) → Within b x → Within c y → Within (b + c) (add f x y)
   add-within nan y w X Y = absurd (X .isFinite)
   add-within (inf s) y w X Y = absurd (X .isFinite)
@@ -127,10 +135,12 @@ module _ (f : Format) (b c : ℕ) where
       (round-within f (r .sign) (r .size) (down e * down d) (b + c) (mul-pos (down-pos e) (down-pos d)) w
       (omega (arith, mul-le-mul-right (down d) (X .most), mul-le-mul-right (down e) (Y .most))))
 
+  -- a difference is bounded by the sum of the bounds
   pub sub-within : (x y : Float) → Whole f (b + c) → Within b x → Within c y → Within (b + c) (sub f x y)
   unfolding sub
   sub-within x y w X Y = add-within x (neg y) w X (neg-within y Y)
 
+  -- a product is bounded by the product of the bounds
   pub mul-within : (x y : Float) → Whole f (b * c) → Within b x → Within c y → Within (b * c) (mul f x y)
   unfolding mul
   mul-within nan y w X Y = absurd (X .isFinite)

@@ -1,4 +1,5 @@
--- The arc tangent of two numbers, by a table and a straight line between its entries, over whole numbers. Definitions only.
+-- The arc tangent of two numbers over whole numbers: a table, and a straight line between its entries. The recipe is exact up to one rounding, so
+-- every machine gives the same bits.
 use mathlib.Core.Bool.{Bool, not, _&&_, cond}
 use Prim.Native.Nat.{ℕ, _+_, _-_, _*_, _/_, _%_, _^_, _≤_, _<_}
 use lib.Dec.{T, eqb}
@@ -24,7 +25,7 @@ pub record Step (k : ℕ) : Type 0 where
   pub least : 2 ^ 40 ≤ highSide k (entry k) (entry (k + 1))
 
 -- ---- the angle, in units of 2 ^ -30
--- the arc tangent of u units, for a u up to 2 ^ 30: the entry k, and of the step to the next the part that f is of 2 ^ 20, cut
+-- the arc tangent of u units, for a u up to 2 ^ 30: the entry k, and of the step to the next the share f / 2 ^ 20, cut
 unfoldable pub arc : ℕ → ℕ
 arc u =
     let k = u / 2 ^ 20 in
@@ -53,7 +54,7 @@ quarterTurn = 1686629713
 abbrev pub halfTurn : ℕ
 halfTurn = 3373259426
 
--- where `back` says so, what an angle leaves of a turn
+-- an angle taken back from a turn where `back` holds: the table covers an eighth of a turn, and mirrors give the rest
 unfoldable pub mirrored : (turn : ℕ) → Bool → ℕ → ℕ
 mirrored turn back a = cond back (turn - a) a
 
@@ -75,11 +76,11 @@ pub record Askable (n d : Float) : Type 0 where
 abbrev pub askable : (n d : Float) → Bool
 askable n d = finite n && finite d && not (eq n zero)
 
--- no number elsewhere
+-- the arc tangent, and a NaN where it may not be asked for
 unfoldable pub angleOrNan : Format → (n d : Float) → Float
 angleOrNan f n d = cond (askable n d) (arcTangent f n d) nan
 
--- what the ratio is: a number from 0 to 1 that the format holds
+-- what the table needs of the ratio: a number from 0 to 1 that the format holds
 pub record AtMostOne (f : Format) (t : Float) : Type 0 where
   pub holds : T (fits f t)
   pub isUnsigned : T (unsigned t)

@@ -1,4 +1,4 @@
--- The square root, rounded once, over whole numbers: what it is, and a function that gives it. For any format. Definitions only.
+-- The square root, rounded once, over whole numbers: what it is, and a function that gives it. For any format.
 -- A finite float stands for the fraction num / den, and is negative by its sign alone.
 use mathlib.Core.Bool.{Bool, false, true, cond}
 use Prim.Native.Nat.{ℕ, zero, suc, _+_, _-_, _*_, _/_, _^_, _≤_, _<_}
@@ -28,7 +28,7 @@ square n = n * n
 abbrev pub BelowMiddle : (x r y : Float) → Type 0
 BelowMiddle x r y = 4 * num x * square (den r * den y) < square (num r * den y + num y * den r) * den x
 
--- and that it lies above
+-- the root of x lies above the middle of r and y
 abbrev pub AboveMiddle : (x r y : Float) → Type 0
 AboveMiddle x r y = square (num r * den y + num y * den r) * den x < 4 * num x * square (den r * den y)
 
@@ -68,7 +68,7 @@ rootIn f a =
 unfoldable pub root : Format → Float → Float
 root f x = rootIn f (num x * 2 ^ low f / den x * 2 ^ low f)
 
--- no number where it may not be asked for
+-- the root, and a NaN where there is none
 unfoldable pub rootOrNan : Format → Float → Float
 rootOrNan f x = cond (rootable x) (root f x) nan
 

@@ -1,4 +1,4 @@
--- Words for the steps by which a program finds the root of a binary32 from its bits. Definitions only.
+-- The steps by which the program finds the root of a binary32 from its bits: units, digits and scale, the nearest whole root.
 use mathlib.Core.Path.{_≡_}
 use mathlib.Core.Bool.{cond}
 use Prim.Native.Nat.{ℕ, _+_, _-_, _*_, _/_, _%_, _^_, _≤_, _<_}

@@ -1,5 +1,5 @@
--- The table of arc tangents: entry k stands for the arc tangent of k / 1024, times 2 ^ 30, to the nearest whole number. tools/arc_tangent_table.py makes its lines.
--- What is proved of it is in proofs/Steps.antt. Definitions only.
+-- The table of arc tangents: entry k is the arc tangent of k / 1024, times 2 ^ 30, to the nearest whole number. tools/arc_tangent_table.py makes its
+-- lines, and proofs/Steps.antt proves that no entry is out of line.
 use mathlib.Core.List.{List, [], _∷_}
 use Prim.Native.Nat.{ℕ}
 use lib.ListN.{getD}

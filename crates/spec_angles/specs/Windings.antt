@@ -1,4 +1,4 @@
--- The call `winding` over lists: what it refuses, and what it writes, one number a point. Definitions only.
+-- The call `winding` over lists: what it refuses, and what it writes, one number a point.
 use mathlib.Core.List.{List, [], _∷_}
 use Prim.Native.Nat.{ℕ, _*_}
 use lib.ListN.{length}
@@ -17,11 +17,11 @@ windingAbout f triangles q = windingNumber f (triangleAt triangles) (triangleCou
 unfoldable pub windingAt : Format → (triangles points : List Float) → ℕ → Float
 windingAt f triangles points k = windingAbout f triangles (pointAt points (3 * k))
 
--- 1 to 4, 6, 8
+-- refusals 1 to 4, 6, 8: the triangles, then the room for a number a point, then the points
 unfoldable pub windingRefusal : (triangles points : List Float) (room : ℕ) → Verdict
 windingRefusal triangles points room = firstRefusal (trianglesRefusal triangles ∷ roomRefusal room (pointCount points) ∷ pointsRefusal points ∷ [])
 
--- point by point, and what was there behind the last
+-- the lent list with one winding number a point from the front, and behind them what it held
 unfoldable pub written : Format → (triangles points old : List Float) → List Float
 written f triangles points old = over 0 (many (λ k. windingAt f triangles points k ∷ []) (pointCount points)) old
 
