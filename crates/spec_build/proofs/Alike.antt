@@ -1,4 +1,5 @@
--- Two tables that give the triangles of a part the same boxes give the part the same tree, and the tree the same boxes. Assumes nothing.
+-- Two tables that give the triangles of a slice the same boxes give the slice the same tree, and the tree the same boxes: so the program may build
+-- from its table of boxes in place of the triangles.
 use mathlib.Core.Path.{_≡_, refl, ap, ap₂, _∙_}
 use mathlib.Core.Bool.{Bool, true, false}
 use mathlib.Core.List.{List, [], _∷_, map, List·Permᴰ, Permᴰ·symm}
@@ -26,6 +27,7 @@ module _ (before before′ : ℕ → ℕ → Bool) (Used : ℕ → Type 0) (agre
   inserted-alike x [] u v = refl
   inserted-alike x (y ∷ ys) u v = rw (agree y x (v .0) u, inserted-alike x ys u (v .1))
 
+  -- orders that agree on the entries of a slice sort it alike
   pub sorted-alike : (xs : List ℕ) → Each Used xs → sorted before xs ≡ sorted before′ xs
   unfolding sorted
   sorted-alike [] u = refl
@@ -40,7 +42,7 @@ module _ (try try′ : List ℕ → Tried) (Used : ℕ → Type 0) (permutes : (
   parted-alike below below′ e (cut part k) u = ap₂ branch (e (take k part) (each-take Used k part u)) (e (drop k part) (each-drop Used k part u))
   parted-alike below below′ e (uncut part) u = refl
 
-  pub grown-alike : (left : ℕ) (part : List ℕ) → Each Used part → grown try leafMinimum left part ≡ grown try′ leafMinimum left part
+  grown-alike : (left : ℕ) (part : List ℕ) → Each Used part → grown try leafMinimum left part ≡ grown try′ leafMinimum left part
   unfolding grown
   grown-alike zero part u = refl
   grown-alike (suc left) part u = at (leb (length part) leafMinimum) refl (grown-alike left)
@@ -72,12 +74,13 @@ module _ (boxAt boxAt′ : ℕ → Box) where
   joined-alike [] w u = absurd (omega arith)
   joined-alike (t ∷ part) w u = joined-to-alike (boxAt t) part (u .1) ∙ ap (λ (b : Box). joinedTo boxAt′ b part) (u .0)
 
-  pub over-alike : (t : Tree) → Filled t → Each Alike (numbers t) → boxOver boxAt t ≡ boxOver boxAt′ t
+  over-alike : (t : Tree) → Filled t → Each Alike (numbers t) → boxOver boxAt t ≡ boxOver boxAt′ t
   unfolding boxOver numbers
   over-alike (leaf part) w u = joined-alike part w u
   over-alike (branch l r) w u =
       ap₂ union (over-alike l (w .0) (each-in-front Alike (numbers l) (numbers r) u)) (over-alike r (w .1) (each-behind Alike (numbers l) (numbers r) u))
 
+  -- tables that agree on a tree's triangles give the tree the same list of boxes
   pub listed-boxes-alike : (t : Tree) → Filled t → Each Alike (numbers t) → boxesOf boxAt t ≡ boxesOf boxAt′ t
   unfolding boxesOf numbers boxOver
   listed-boxes-alike (leaf part) w u = ap sixOf (joined-alike part w u)
@@ -90,7 +93,7 @@ module _ (boxAt boxAt′ : ℕ → Box) where
     centre-alike : (axis : Axis) (t : ℕ) → Alike t → centreOn f boxAt axis t ≡ centreOn f boxAt′ axis t
     centre-alike axis t e = ap (λ (b : Box). on axis (centre f b)) e
 
-    pub sorted-on-alike : (axis : Axis) (part : List ℕ) → Each Alike part → sortedOn f boxAt axis part ≡ sortedOn f boxAt′ axis part
+    sorted-on-alike : (axis : Axis) (part : List ℕ) → Each Alike part → sortedOn f boxAt axis part ≡ sortedOn f boxAt′ axis part
     sorted-on-alike axis part u =
         sorted-alike (isBefore f boxAt axis) (isBefore f boxAt′ axis) Alike (λ a b p q. ap₂ lt (centre-alike axis a p) (centre-alike axis b q)) part u
 
@@ -119,6 +122,7 @@ module _ (boxAt boxAt′ : ℕ → Box) where
         tried-in-alike (axesBySize (λ axis. on axis (sizes f (joined boxAt part)))) (joined boxAt part) part u
         ∙ ap (λ (b : Box). triedIn f boxAt′ strategy (axesBySize (λ axis. on axis (sizes f b))) b part) (joined-alike part w u)
 
+    -- tables that agree on a slice's triangles grow the same tree from it
     pub tree-alike : (leafMinimum left : ℕ) (part : List ℕ) → Each Alike part → grown (tried f boxAt strategy) leafMinimum left part ≡ grown (tried f boxAt′ strategy) leafMinimum left part
     tree-alike leafMinimum left part u =
         grown-alike (tried f boxAt strategy) (tried f boxAt′ strategy) Alike (tried-permutes f boxAt strategy) tried-alike leafMinimum left part u

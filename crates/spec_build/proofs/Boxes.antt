@@ -1,4 +1,4 @@
--- The union of a part's boxes, from the left, is the box over the part. Assumes nothing.
+-- The union of a slice's boxes, from the left, is the box over the slice: what the split rules compute is the box that a tree has.
 use mathlib.Core.Path.{_≡_, refl}
 use mathlib.Core.List.{List, [], _∷_, map, foldl}
 use Prim.Native.Nat.{ℕ, _<_}
@@ -14,6 +14,7 @@ unfolding joinedTo
 joined-from boxAt b [] = refl
 joined-from boxAt b (t ∷ part) = joined-from boxAt (union b (boxAt t)) part
 
+-- the union that the program makes of a slice's boxes is the box that the tree has over them
 pub union-is-joined : (f : Format) (boxAt : ℕ → Box) (part : List ℕ) → 0 < length part → unionOf f (map boxAt part) ≡ joined boxAt part
 unfolding unionOf joined
 union-is-joined f boxAt [] w = absurd (omega arith)

@@ -1,5 +1,5 @@
--- Every tree that is built is accepted, by both strategies and at all settings in range: what the call leaves in the lists passes the tree check, its depth is the one that is read off its links,
--- and it has at most 2n - 1 nodes. Assumes nothing.
+-- Every tree that is built is accepted, by both strategies and at all settings in range: what the call leaves in the lists passes the tree check,
+-- its depth is the one that is read off its links, and it has at most 2n - 1 nodes.
 use mathlib.Core.Path.{_≡_, refl, sym, ap, _∙_}
 use mathlib.Core.Bool.{Bool, true, false}
 use mathlib.Core.List.{List}
@@ -33,6 +33,7 @@ pub record Passed (triangles : List Float) (s : Settings) (order links : List �
   pub links-room : 3 * mostNodes (triangleCount triangles) ≤ length links
   pub boxes-room : 6 * mostNodes (triangleCount triangles) ≤ length boxes
 
+-- tests that passed give what the build needs: good triangles, good settings, room in each list
 pub build-passed : (triangles : List Float) (s : Settings) (order links : List ℕ) (boxes : List Float) → buildRefusal triangles s (length order) (length links) (length boxes) ≡ passes → Passed triangles s order links boxes
 unfolding buildRefusal
 build-passed triangles s order links boxes e =
@@ -50,13 +51,15 @@ not-refusing : (v : Verdict) (b : Bool) → b ≡ refuses v → b ≡ false → 
 not-refusing passes b r e = refl
 not-refusing (refused number place) b r e = absurd (failed (sym r ∙ e))
 
+-- triangles that were tested and not refused are good
 pub triangles-known : (triangles : List Float) (v : Verdict) (b : Bool) → v ≡ trianglesRefusal triangles → b ≡ refuses v → b ≡ false → GoodTriangles triangles
 triangles-known triangles v b t r e = triangles-passed triangles (sym t ∙ not-refusing v b r e)
 
 -- ---- the tree
-pub triangles-centred : (f : Format) (triangles : List Float) → GoodTriangles triangles → (t : ℕ) → t < triangleCount triangles → HasCentre f (boxAt triangles) t
+triangles-centred : (f : Format) (triangles : List Float) → GoodTriangles triangles → (t : ℕ) → t < triangleCount triangles → HasCentre f (boxAt triangles) t
 triangles-centred f triangles g t h = centre-number f (boxAt triangles t) (box-at-proper triangles (g .coordinates) t (triangle-inside triangles t h))
 
+-- the tree as defined holds all n triangles, has no empty leaf and is not too deep
 pub built-whole : (f : Format) (triangles : List Float) (s : Settings) → GoodTriangles triangles → GoodSettings s → Whole (triangleCount triangles) (builtTree f triangles s)
 unfolding builtTree
 built-whole f triangles s g h =
@@ -69,25 +72,29 @@ module _ (f : Format) (triangles : List Float) (s : Settings) (order links : Lis
   never-both passes e = refl
   never-both (refused number place) e = absurd (let z : _≡_ {A = ℕ} 0 1 = cc in omega arith)
 
+  -- a tree is answered only where the tests passed
   pub made-passed : buildRefusal triangles s (length order) (length links) (length boxes) ≡ passes
   made-passed = never-both (buildRefusal triangles s (length order) (length links) (length boxes)) (b .answer-is)
 
   made-answer : made nodes depth ≡ made (nodeCount (builtTree f triangles s)) (levels (builtTree f triangles s))
   made-answer = b .answer-is ∙ ap (λ (v : Verdict). answerBy v (builtTree f triangles s)) made-passed
 
+  -- the node count that is answered is the tree's
   pub made-nodes : nodes ≡ nodeCount (builtTree f triangles s)
   made-nodes = let e = made-answer in cc
 
+  -- the depth that is answered is the tree's number of levels
   pub made-depth : depth ≡ levels (builtTree f triangles s)
   made-depth = let e = made-answer in cc
 
   whole : Whole (triangleCount triangles) (builtTree f triangles s)
   whole = let p = build-passed triangles s order links boxes made-passed in built-whole f triangles s (p .triangles-good) (p .settings-good)
 
-  -- at most 2n - 1 nodes
+  -- a tree over n triangles has at most 2n - 1 nodes: the room that the call asks for is enough
   pub made-few : nodes + 1 ≤ 2 * triangleCount triangles
   made-few = omega (arith, made-nodes, whole-nodes whole)
 
+  -- after the call the lists hold the listing of the tree
   pub made-listing : Listing (boxAt triangles) (triangleCount triangles) (take (triangleCount triangles) order′) links′ boxes′ nodes (builtTree f triangles s)
   made-listing =
       let t : Tree = builtTree f triangles s in
@@ -96,8 +103,10 @@ module _ (f : Format) (triangles : List Float) (s : Settings) (order links : Lis
       let x : boxes′ ≡ over 0 (boxesOf (boxAt triangles) t) boxes = b .boxes-are ∙ ap (λ (v : Verdict). leftBy v (boxesOf (boxAt triangles) t) boxes) made-passed in
       rw (o, l, x, made-nodes) (whole-listing whole (boxAt triangles) order links boxes)
 
+  -- the tree that is built passes the tree check
   pub made-accepted : accepted (boxAt triangles) (triangleCount triangles) (take (triangleCount triangles) order′) links′ boxes′ nodes ≡ true
   made-accepted = listed-accepted (boxAt triangles) _ _ _ _ _ (builtTree f triangles s) made-listing
 
+  -- the depth that is answered is the one that is read off the links
   pub made-depth-read : depthOf links′ nodes ≡ depth
   made-depth-read = listing-depth (boxAt triangles) _ _ _ _ _ (builtTree f triangles s) made-listing ∙ sym made-depth

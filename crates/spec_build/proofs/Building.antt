@@ -1,4 +1,4 @@
--- Building what passed the tests, over plain lists: what each call asks, and what the calls leave in the lists. Assumes nothing.
+-- Building what passed the tests, over plain lists: what each call of the program needs, and what the calls leave in the lists.
 use mathlib.Core.Path.{_≡_, refl, sym, ap, ap₂, subst, _∙_}
 use mathlib.Core.List.{List, _++_, Permᴰ·symm}
 use Prim.Native.Nat.{ℕ, _+_, _-_, _*_, _≤_, _<_}
@@ -50,7 +50,7 @@ module _ (boxFor : ℕ → Box) (n : ℕ) (old : List Float) where
   read : (at t i : ℕ) → t < n → i < 6 → at ≡ 6 * t + i → getD table at nan ≡ getD (sixOf (boxFor t)) i nan
   read at t i h k e = ap (λ (j : ℕ). getD table j nan) e ∙ entry-is t i h k
 
-  pub table-read : (t : ℕ) → t < n → boxIn (over 0 (many (λ j. sixOf (boxFor j)) n) old) t ≡ boxFor t
+  table-read : (t : ℕ) → t < n → boxIn (over 0 (many (λ j. sixOf (boxFor j)) n) old) t ≡ boxFor t
   unfolding boxIn table
   table-read t h =
       let a : getD table (6 * t) nan ≡ boxFor t .min .x = read (6 * t) t 0 h (omega arith) (omega arith) in
@@ -72,9 +72,11 @@ module _ (f : Format) (triangles : List Float) (s : Settings) (bounds centres : 
   some : 1 ≤ count
   some = omega (arith, count-is, passed .triangles-good .some)
 
+  -- needs of the loop that puts the boxes of all triangles into their table
   pub bounds-asks : (9 * count ≤ length triangles) × (6 * count ≤ length bounds)
   bounds-asks = (omega (arith, count-is, passed .triangles-good .whole), omega (arith, few, h .bounds-long))
 
+  -- needs of the loop that numbers the triangles in the order list
   pub order-asks : (count ≤ mostTriangles) × (count ≤ length order)
   order-asks = (few, omega (arith, count-is, passed .order-room))
 
@@ -85,6 +87,7 @@ module _ (f : Format) (triangles : List Float) (s : Settings) (bounds centres : 
         ∙ length-over 0 (many (λ t. sixOf (boxAt triangles t)) count) bounds (omega (arith, length-many (λ t. sixOf (boxAt triangles t)) 6 count (λ j. refl), bounds-asks .1))
         ∙ h .bounds-long
 
+    -- needs of the loop that puts the centres of all triangles into their table
     pub centres-asks : CentresAsked bounds′ count centres × (length centres ≡ 3 * mostTriangles)
     centres-asks = (record { in-table = omega (arith, bounds-long′, few); few = few; room = omega (arith, few, h .centres-long) }, h .centres-long)
 
@@ -98,6 +101,7 @@ module _ (f : Format) (triangles : List Float) (s : Settings) (bounds centres : 
       order-long : length order′ ≡ length order
       order-long = ap length order-is ∙ length-over 0 (upTo count) order (omega (arith, up-to-length count, order-asks .1))
 
+      -- the order list has an entry a triangle, so its front can be lent
       pub count-within : count ≤ length order′
       count-within = omega (arith, order-long, order-asks .1)
 
@@ -115,12 +119,14 @@ module _ (f : Format) (triangles : List Float) (s : Settings) (bounds centres : 
             centred = centre-number f (boxIn bounds′ t) proper;
           }
 
+      -- the front that is lent has an entry a triangle
       pub front-long : length (take count order′) ≡ count
       front-long = length-take-le count order′ count-within
 
-      pub front-tabled : Each (Tabled f bounds′ centres′) (take count order′)
+      front-tabled : Each (Tabled f bounds′ centres′) (take count order′)
       front-tabled = rw front (each-up-to (Tabled f bounds′ centres′) count tabled)
 
+      -- needs of growing the tree from its root: all triangles are in the tables, and the lists have room
       pub grow-asks : (left : ℕ) → left ≡ s .maximumDepth - 1 → Growable f bounds′ centres′ (s .leafMinimum) left (take count order′) scratch 0 links boxes 0
       grow-asks left e = record {
         tabled = front-tabled;
@@ -158,6 +164,7 @@ module _ (f : Format) (triangles : List Float) (s : Settings) (bounds centres : 
             (each-permuted (Alike (boxIn bounds′) (boxAt triangles)) (Permᴰ·symm (tree-whole .permuted))
             (each-up-to (Alike (boxIn bounds′) (boxAt triangles)) (triangleCount triangles) (λ t w. read-again t (omega (arith, count-is)))))
 
+        -- the root's number is in range, so the node count does not overflow
         pub root-few : root + 1 ≤ 2 * mostTriangles
         root-few = omega (arith, g .written .root-is, ap (rootFrom 0) same-tree, root-last 0 (builtTree f triangles s), whole-nodes tree-whole, passed .triangles-good .few)
 
@@ -172,6 +179,7 @@ module _ (f : Format) (triangles : List Float) (s : Settings) (bounds centres : 
             let same : length (upTo count) ≡ length (numbers (builtTree f triangles s)) = up-to-length count ∙ sym numbers-long in
             ap₂ (λ (a b : List ℕ). a ++ b) (g .order-is ∙ ap numbers same-tree) (rest ∙ ap (λ (n : ℕ). drop (0 + n) order) same)
 
+        -- tables, order and growing together leave what the definition of the build says
         pub build-gives : BuildIs f triangles s order links boxes (made (root + 1) deep) (part′ ++ drop count order′) links′ boxes′
         build-gives = rw (h .passed) record {
           answer-is = ap₂ made (ap (λ (n : ℕ). n + 1) (g .written .root-is ∙ ap (rootFrom 0) same-tree) ∙ root-last 0 (builtTree f triangles s) ∙ omega arith) (g .written .levels-are ∙ ap levels same-tree);
@@ -181,6 +189,7 @@ module _ (f : Format) (triangles : List Float) (s : Settings) (bounds centres : 
         }
 
 -- ---- what was refused
+-- a refusal that leaves the lists as they were is what the definition says of it
 pub refusal-gives : (f : Format) (triangles : List Float) (s : Settings) (order links : List ℕ) (boxes : List Float) (number place : ℕ) → buildRefusal triangles s (length order) (length links) (length boxes) ≡ refused number place
     → BuildIs f triangles s order links boxes (notMade number place) order links boxes
 refusal-gives f triangles s order links boxes number place e = rw e record { answer-is = refl; order-is = refl; links-are = refl; boxes-are = refl }

@@ -1,4 +1,5 @@
--- A tree over n triangles, none of its leaves empty and not too deep, is what lists hold once it is written into them. A tree that is grown from all n triangles is such a tree. Assumes nothing.
+-- A tree over n triangles, none of its leaves empty and not too deep, is what lists hold once it is written into them.
+-- A tree that is grown from all n triangles is such a tree.
 use mathlib.Core.Path.{_≡_, refl}
 use mathlib.Core.List.{List, [], _∷_, Permᴰ·refl}
 use Prim.Native.Nat.{ℕ, zero, suc, _+_, _-_, _*_, _≤_, _<_}
@@ -19,7 +20,7 @@ use Rattle.spec_tree.proofs.Order.{permutes-length}
 use Rattle.spec_sort.proofs.Each.{each-append}
 use Rattle.spec_build.proofs.Grown.{grown-permutes, grown-levels, grown-filled}
 
--- what was written at the front stands there
+-- the front of a list, once written, is what was written
 pub front-over : {A : Type 0} (n : ℕ) (new old : List A) → length new ≡ n → take n (over 0 new old) ≡ new
 unfolding over
 front-over n new old e = take-at new (drop (0 + length new) old) n e
@@ -31,14 +32,16 @@ pub record Whole (n : ℕ) (t : Tree) : Type 0 where
   pub shallow : levels t ≤ deepest
 
 module _ {n : ℕ} {t : Tree} (h : Whole n t) where
+  -- a tree over n triangles has n triangle numbers in its leaves
   pub whole-count : length (numbers t) ≡ n
   whole-count = permutes-length n (numbers t) (h .permuted)
 
-  -- it has at most 2n - 1 nodes
+  -- a tree over n triangles has at most 2n - 1 nodes
   pub whole-nodes : nodeCount t + 1 ≤ 2 * n
   whole-nodes = omega (arith, whole-count, count-most t (h .filled))
 
   module _ (boxAt : ℕ → Box) (order links : List ℕ) (boxes : List Float) where
+    -- written into the lists, the tree is their listing, which the tree check accepts
     pub whole-listing : Listing boxAt n (take n (over 0 (numbers t) order)) (over 0 (linksFrom 0 0 t) links) (over 0 (boxesOf boxAt t) boxes) (nodeCount t) t
     whole-listing =
         let order-is : take n (over 0 (numbers t) order) ≡ numbers t = front-over n (numbers t) order whole-count in
@@ -53,14 +56,17 @@ module _ {n : ℕ} {t : Tree} (h : Whole n t) where
         }
 
 -- ---- a tree that is grown from all of them
+-- what holds of every number below n holds of each entry of the order 0, 1, 2 and so on
 pub each-up-to : (P : ℕ → Type 0) (n : ℕ) → ((k : ℕ) → k < n → P k) → Each P (upTo n)
 unfolding upTo
 each-up-to P zero h = tt
 each-up-to P (suc n) h = each-append P (upTo n) (n ∷ []) (each-up-to P n (λ k w. h k (omega arith))) (h n (omega arith), tt)
 
+-- the order 0, 1, 2 and so on of n triangles has n entries
 pub up-to-length : (n : ℕ) → length (upTo n) ≡ n
 up-to-length n = permutes-length n (upTo n) (Permᴰ·refl (upTo n))
 
+-- grown from all n triangles at settings in range, a tree holds each of them once, has no empty leaf and is not too deep
 pub grown-whole : {tried : List ℕ → Tried} {Used : ℕ → Type 0} → Trying tried Used → (leafMinimum maximumDepth n : ℕ) → 1 ≤ leafMinimum → maximumDepth ≤ deepest → 1 ≤ n
     → ((k : ℕ) → k < n → Used k) → Whole n (grown tried leafMinimum (maximumDepth - 1) (upTo n))
 grown-whole {Used = Used} h leafMinimum maximumDepth n leaf depth some used = record {

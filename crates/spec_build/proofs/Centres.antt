@@ -1,4 +1,4 @@
--- The centre of a box with finite corners is a number on each axis. Assumes nothing.
+-- The centre of a box with finite corners is a number on each axis, so that triangles can be sorted by it.
 use mathlib.Core.Bool.{Bool, true, false}
 use Prim.Native.Nat.{ℕ, _*_, _<_}
 use native.Mathlib.Nat.{mul-pos, zero-lt-suc}
@@ -22,6 +22,7 @@ unfolding div isNan
 half-number f (inf s) h = tt
 half-number f (fin s m e) h = round-number f (unlike s false) (m * up e * down (pos 1)) (1 * up (pos 1) * down e) (mul-pos (mul-pos (zero-lt-suc 0) (up-pos (pos 1))) (down-pos e))
 
+-- a box with finite corners has a centre that is no NaN, on each axis: the sort has keys to compare
 pub centre-number : (f : Format) (b : Box) → Proper b → (axis : Axis) → Number (on axis (centre f b))
 unfolding centre dividedBy plus
 centre-number f b h X = half-number f _ (add-number f (b .min .x) (b .max .x) (h .min X) (h .max X))

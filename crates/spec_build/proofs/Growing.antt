@@ -1,4 +1,4 @@
--- Growing a part, step by step, over plain lists: what each call asks, and what the calls give. Assumes nothing.
+-- Growing a slice, step by step, over plain lists: what each call of the program needs, and what the calls give.
 use mathlib.Core.Path.{_≡_, refl, sym, ap, ap₂, subst, _∙_}
 use mathlib.Core.Bool.{true, false, _||_, true≢false}
 use mathlib.Core.List.{List, [], _++_, append-nil, List·Permᴰ, Permᴰ·refl, Permᴰ·symm}
@@ -31,21 +31,21 @@ no-level : (left : ℕ) → eqb (suc left) 0 ≡ false
 no-level left = ne-eqb (suc left) 0 (λ (e : suc left ≡ 0). omega arith)
 
 module _ (try : List ℕ → Tried) (leafMinimum : ℕ) (part : List ℕ) where
-  -- no level is left, or the part is small enough
-  pub limit-leaf : (left : ℕ) → (eqb left 0 || leb (length part) leafMinimum) ≡ true → grown try leafMinimum left part ≡ leaf part
+  -- no level is left, or the slice is small enough
+  limit-leaf : (left : ℕ) → (eqb left 0 || leb (length part) leafMinimum) ≡ true → grown try leafMinimum left part ≡ leaf part
   unfolding grown
   limit-leaf zero h = refl
   limit-leaf (suc left) h =
       let small : leb (length part) leafMinimum ≡ true = rw (no-level left) at h in
       rw small
 
-  pub beyond-limits : (left : ℕ) → (eqb left 0 || leb (length part) leafMinimum) ≡ false → (1 ≤ left) × (leafMinimum < length part)
+  beyond-limits : (left : ℕ) → (eqb left 0 || leb (length part) leafMinimum) ≡ false → (1 ≤ left) × (leafMinimum < length part)
   beyond-limits zero h = absurd (true≢false h)
   beyond-limits (suc left) h =
       let large : leb (length part) leafMinimum ≡ false = rw (no-level left) at h in
       (omega arith, leb-false (length part) leafMinimum large)
 
-  pub grown-further : (left : ℕ) → 1 ≤ left → leafMinimum < length part → grown try leafMinimum left part ≡ parted (grown try leafMinimum (left - 1)) (try part)
+  grown-further : (left : ℕ) → 1 ≤ left → leafMinimum < length part → grown try leafMinimum left part ≡ parted (grown try leafMinimum (left - 1)) (try part)
   unfolding grown
   grown-further zero h w = absurd (omega arith)
   grown-further (suc left) h w =
@@ -56,7 +56,7 @@ module _ (f : Format) (bounds centres : List Float) (strategy leafMinimum : ℕ)
   abbrev tree : ℕ → List ℕ → Tree
   tree left part = grownIn f bounds strategy leafMinimum left part
 
-  -- ---- what the tree of a part needs
+  -- ---- what the tree of a slice needs
   record Fits (left : ℕ) (part : List ℕ) : Type 0 where
     count : length (numbers (tree left part)) ≡ length part
     few : nodeCount (tree left part) + 1 ≤ 2 * length part
@@ -87,6 +87,7 @@ module _ (f : Format) (bounds centres : List Float) (strategy leafMinimum : ℕ)
           boxes-room = omega (arith, h .some, h .room .boxes-room);
         }
 
+    -- needs of writing the slice as a leaf
     pub leaf-asks : LeafAsked bounds part entry links boxes node
     leaf-asks = leaf-asks-of part (Permᴰ·refl part)
 
@@ -95,6 +96,7 @@ module _ (f : Format) (bounds centres : List Float) (strategy leafMinimum : ℕ)
           → GrownIs f bounds strategy leafMinimum left part part′ entry links links′ boxes boxes′ node root deep box
       tree-is part′ t e o w = record { order-is = rw e o; written = rw e w }
 
+      -- where no level is left or the slice is small, the leaf that is written is the tree as defined
       pub limit-gives : (eqb left 0 || leb (length part) leafMinimum) ≡ true → Written (boxIn bounds) (leaf part) entry node links links′ boxes boxes′ root deep box
           → GrownIs f bounds strategy leafMinimum left part part entry links links′ boxes boxes′ node root deep box
       unfolding numbers
@@ -108,9 +110,11 @@ module _ (f : Format) (bounds centres : List Float) (strategy leafMinimum : ℕ)
       large : leafMinimum < length part
       large = beyond-limits (tried f (boxIn bounds) strategy) leafMinimum part left beyond .1
 
+      -- beyond the limits a level is left, so one can be taken off
       pub some-left : 1 ≤ left
       some-left = past
 
+      -- needs of the tries: beyond the limits a slice has two triangles or more
       pub try-asks : Triable f bounds centres part scratch
       try-asks = record { tabled = h .tabled; long = h .long; some = omega (arith, h .leaf, large); few = omega (arith, h .few); room = h .scratch-room }
 
@@ -121,9 +125,11 @@ module _ (f : Format) (bounds centres : List Float) (strategy leafMinimum : ℕ)
         further : tree left part ≡ parted (tree (left - 1)) (splitAs part′ split)
         further = grown-further (tried f (boxIn bounds) strategy) leafMinimum part left past large ∙ ap (parted (tree (left - 1))) (sym tried-is)
 
+        -- needs of writing a slice that no try cut as a leaf
         pub uncut-asks : LeafAsked bounds part′ entry links boxes node
         uncut-asks = leaf-asks-of part′ same
 
+        -- where no try cuts the slice, the leaf that is written is the tree as defined
         pub uncut-gives : (links′ : List ℕ) (boxes′ : List Float) (root deep : ℕ) (box : Box) → split ≡ nowhere → Written (boxIn bounds) (leaf part′) entry node links links′ boxes boxes′ root deep box
             → GrownIs f bounds strategy leafMinimum left part part′ entry links links′ boxes boxes′ node root deep box
         unfolding numbers
@@ -143,12 +149,15 @@ module _ (f : Format) (bounds centres : List Float) (strategy leafMinimum : ℕ)
           long : length part′ ≡ length part
           long = permuted-length same
 
+          -- the cut lies within the slice, so the slice can be lent in two
           pub cut-within : k < length part′
           cut-within = inside .1
 
+          -- the right side begins within the order list's limit, so the sum does not overflow
           pub cut-ends : entry + k ≤ mostTriangles
           cut-ends = omega (arith, inside .1, long, h .few)
 
+          -- the left side has as many triangles as the cut says
           pub left-long : length (take k part′) ≡ k
           left-long = length-take-le k part′ (omega (arith, inside .1))
 
@@ -158,6 +167,7 @@ module _ (f : Format) (bounds centres : List Float) (strategy leafMinimum : ℕ)
           left-fits : Fits (left - 1) (take k part′)
           left-fits = grown-fits (h .leaf) (left - 1) (take k part′) left-some (each-take (Tabled f bounds centres) k part′ tabled)
 
+          -- needs of growing the left side
           pub left-asks : (scratch′ : List ℕ) → length scratch′ ≡ length scratch → Growable f bounds centres leafMinimum (left - 1) (take k part′) scratch′ entry links boxes node
           left-asks scratch′ e = record {
             tabled = each-take (Tabled f bounds centres) k part′ tabled;
@@ -180,20 +190,21 @@ module _ (f : Format) (bounds centres : List Float) (strategy leafMinimum : ℕ)
             left-part-long : length leftPart ≡ k
             left-part-long = ap length (gl .order-is) ∙ left-fits .count ∙ left-long
 
-            -- the part as it stands now
+            -- the slice as it stands now
             abbrev now : List ℕ
             now = leftPart ++ drop k part′
 
-            pub now-long : length now ≡ length part
+            now-long : length now ≡ length part
             now-long = length-append leftPart (drop k part′) ∙ omega (arith, left-part-long, length-drop k part′, inside .1, long)
 
+            -- the cut still lies within the slice once the left side has grown
             pub cut-within-now : k ≤ length now
             cut-within-now = omega (arith, now-long, inside .1, long)
 
             behind : drop k now ≡ drop k part′
             behind = drop-at leftPart (drop k part′) k left-part-long
 
-            pub rest-is : take (length now - k) (drop k now) ≡ drop k part′
+            rest-is : take (length now - k) (drop k now) ≡ drop k part′
             rest-is = take-all (length now - k) (drop k now) (omega (arith, length-drop k now)) ∙ behind
 
             left-root : leftRoot + 1 ≡ node + nodeCount (tree (left - 1) (take k part′))
@@ -212,6 +223,7 @@ module _ (f : Format) (bounds centres : List Float) (strategy leafMinimum : ℕ)
                 ∙ length-over (6 * node) (boxesOf (boxIn bounds) (tree (left - 1) (take k part′))) boxes
                 (omega (arith, boxes-length (boxIn bounds) (tree (left - 1) (take k part′)), left-fits .few, left-long, inside .1, long, h .room .boxes-room))
 
+            -- the right side's first node is in range, so the sum does not overflow
             pub left-root-few : leftRoot + 1 ≤ 2 * mostTriangles
             left-root-few = omega (arith, left-root, left-fits .few, left-long, inside .1, long, h .room .few)
 
@@ -240,6 +252,7 @@ module _ (f : Format) (bounds centres : List Float) (strategy leafMinimum : ℕ)
               };
             }
 
+            -- needs of growing the right side, with its nodes behind the left side's
             pub right-asks : (scratch″ : List ℕ) → length scratch″ ≡ length scratch
                 → Growable f bounds centres leafMinimum (left - 1) (take (length now - k) (drop k now)) scratch″ (entry + k) mid bmid (leftRoot + 1)
             right-asks scratch″ e = rw rest-is (right-asks-of scratch″ e)
@@ -273,6 +286,7 @@ module _ (f : Format) (bounds centres : List Float) (strategy leafMinimum : ℕ)
               boxes-fit : 6 * (rightRoot + 1) + 6 ≤ length boxes
               boxes-fit = omega (arith, right-root, right-fits .few, right-long, left-root, left-fits .few, left-long, inside .1, long, h .room .boxes-room)
 
+              -- needs of writing the branch behind its two sides
               pub branch-asks : BranchAsked leftRoot leftLevels rightRoot rightLevels late blate
               branch-asks = record {
                 left-shallow = omega (arith, gl .written .levels-are, left-fits .shallow, past, h .shallow);
@@ -290,6 +304,7 @@ module _ (f : Format) (bounds centres : List Float) (strategy leafMinimum : ℕ)
                   ap₂ (λ (a b : List ℕ). a ++ (rightPart ++ b)) (take-at leftPart (drop k part′) k left-part-long) none
                   ∙ ap (λ (l : List ℕ). leftPart ++ l) (append-nil rightPart)
 
+              -- with both sides put back, the slice is as long as it was
               pub order-long : length (take k now ++ (rightPart ++ drop (length now - k) (drop k now))) ≡ length part
               order-long =
                   ap length order-now
@@ -302,6 +317,7 @@ module _ (f : Format) (bounds centres : List Float) (strategy leafMinimum : ℕ)
               entries : k ≡ length (numbers (tree (left - 1) (take k part′)))
               entries = sym (left-fits .count ∙ left-long)
 
+              -- both sides and the branch behind them are the tree as defined
               pub branch-gives : (links′ : List ℕ) (boxes′ : List Float) (root deep : ℕ) (box : Box) → BranchPut leftRoot leftLevels leftBox rightRoot rightLevels rightBox late links′ blate boxes′ root deep box
                   → GrownIs f bounds strategy leafMinimum left part (take k now ++ (rightPart ++ drop (length now - k) (drop k now))) entry links links′ boxes boxes′ node root deep box
               unfolding numbers

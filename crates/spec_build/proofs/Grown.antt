@@ -1,4 +1,4 @@
--- A grown tree has the triangles of its part and no more levels than were left. Where the tries cut inside no leaf of it is empty. Assumes nothing.
+-- A grown tree has the triangles of its slice and no more levels than were left. Where the tries cut inside, no leaf of it is empty.
 use mathlib.Core.Path.{_≡_, refl, subst}
 use mathlib.Core.Bool.{Bool, true, false}
 use mathlib.Core.List.{List, _++_, List·Permᴰ, List·Permᴰ·trans, Permᴰ·refl, Permᴰ·symm, Permᴰ·append-left, Permᴰ·append-right}
@@ -16,7 +16,7 @@ use Rattle.spec_sort.proofs.Each.{each-take, each-drop, each-permuted}
 both-permuted : {ws xs ys zs : List ℕ} → List·Permᴰ ws xs → List·Permᴰ ys zs → List·Permᴰ (ws ++ ys) (xs ++ zs)
 both-permuted {xs = xs} {ys = ys} p q = List·Permᴰ·trans (Permᴰ·append-right ys p) (Permᴰ·append-left xs q)
 
--- ---- what is under a part that was tried
+-- ---- what is under a slice that was tried
 module _ (below : List ℕ → Tree) where
   parted-permutes : ((part : List ℕ) → List·Permᴰ (numbers (below part)) part) → (r : Tried) → List·Permᴰ (numbers (parted below r)) (partOf r)
   unfolding numbers
@@ -39,6 +39,7 @@ module _ (below : List ℕ → Tree) where
   parted-filled Used p (uncut part) w u i = w
 
 module _ {tried : List ℕ → Tried} {Used : ℕ → Type 0} (h : Trying tried Used) (leafMinimum : ℕ) where
+  -- growing loses no triangle and repeats none
   pub grown-permutes : (left : ℕ) (part : List ℕ) → List·Permᴰ (numbers (grown tried leafMinimum left part)) part
   unfolding grown numbers
   grown-permutes zero part = Permᴰ·refl part
@@ -48,6 +49,7 @@ module _ {tried : List ℕ → Tried} {Used : ℕ → Type 0} (h : Trying tried 
       at true p = Permᴰ·refl part
       at false p = List·Permᴰ·trans (parted-permutes (grown tried leafMinimum left) p (tried part)) (h .permutes part)
 
+  -- a tree has no more levels than the depth limit leaves
   pub grown-levels : (left : ℕ) (part : List ℕ) → levels (grown tried leafMinimum left part) ≤ left + 1
   unfolding grown levels
   grown-levels zero part = omega arith
@@ -57,6 +59,7 @@ module _ {tried : List ℕ → Tried} {Used : ℕ → Type 0} (h : Trying tried 
       at true p = omega arith
       at false p = omega (arith, parted-levels (grown tried leafMinimum left) (left + 1) p (tried part))
 
+  -- where every cut lies inside its slice, no leaf is empty
   pub grown-filled : 1 ≤ leafMinimum → (left : ℕ) (part : List ℕ) → 0 < length part → Each Used part → Filled (grown tried leafMinimum left part)
   unfolding grown
   grown-filled m zero part w u = w

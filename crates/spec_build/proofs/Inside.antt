@@ -1,4 +1,4 @@
--- Both rules cut a sorted part inside, so the tries do, of a part whose centres are numbers. Assumes nothing.
+-- Both rules cut a sorted slice inside, so the tries do, of a slice whose centres are numbers. So no leaf of a tree that is built is empty.
 use mathlib.Core.Path.{_≡_, refl}
 use mathlib.Core.Bool.{Bool, true, false}
 use mathlib.Core.List.{List, [], _∷_, map}
@@ -44,5 +44,6 @@ module _ (f : Format) (boxAt : ℕ → Box) where
       let same : length (map boxAt part) ≡ length part = length-map part boxAt in
       split-inside part (ruleBy (eqb strategy 1) f axis parent (map boxAt part)) (λ k e. rw same at (rules-inside (eqb strategy 1) axis parent (map boxAt part) k (omega arith) (first-is-least axis part s) e))
 
+  -- by either strategy the tries only bring a slice into another order, and cut it inside
   pub tries-inside : (strategy : ℕ) → Trying (tried f boxAt strategy) HasCentre
   tries-inside strategy = tried-trying f boxAt strategy HasCentre (λ axis t h. h axis) (λ axis parent part w u s. rule-inside strategy axis parent part w s)

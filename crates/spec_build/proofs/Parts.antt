@@ -1,4 +1,4 @@
--- Parts of a list that was written over: the part that was written, and the parts in front of it and behind it. Assumes nothing.
+-- Slices of a list that was overwritten: the slice that was written, and the slices in front of it and behind it.
 use mathlib.Core.Path.{_≡_, refl, sym, ap, _∙_}
 use mathlib.Core.Logic.{⊎-elim}
 use mathlib.Core.List.{List, [], _∷_, _++_}
@@ -17,18 +17,20 @@ module _ {A : Type 0} where
   drop-take (suc b) (suc n) [] = sym (take-nil (suc n - suc b))
   drop-take (suc b) (suc n) (x ∷ l) = let e : n - b ≡ suc n - suc b = omega arith in drop-take b n l ∙ ap (λ (k : ℕ). take k (drop b l)) e
 
-  -- a part that is lent and comes back is a write
+  -- a slice that is lent and comes back is an overwrite
   pub put-back : (at size : ℕ) (new old : List A) → length new ≡ size → take at old ++ (new ++ drop size (drop at old)) ≡ over at new old
   unfolding over
   put-back at size new old e = ap (λ (l : List A). take at old ++ (new ++ l)) (drop-drop size at old ∙ ap (λ (k : ℕ). drop (at + k) old) (sym e))
 
   module _ (at : ℕ) (new old : List A) (room : at + length new ≤ length old) where
+    -- the slice that was written holds what was written
     pub part-written : (size : ℕ) → length new ≡ size → part (over at new old) at size ≡ new
     unfolding over
     part-written size e =
         ap (take size) (drop-at (take at old) (new ++ drop (at + length new) old) at (length-take-le at old (omega arith)))
         ∙ take-at new (drop (at + length new) old) size e
 
+    -- a slice in front of what was written is as it was
     pub part-in-front : (b size : ℕ) → b + size ≤ at → part (over at new old) b size ≡ part old b size
     unfolding over
     part-in-front b size h =
@@ -40,6 +42,7 @@ module _ {A : Type 0} where
         ∙ ap (take size) (drop-take b at old)
         ∙ take-take size (at - b) (drop b old) (omega arith)
 
+    -- a slice behind what was written is as it was
     pub part-behind : (b size : ℕ) → at + length new ≤ b → part (over at new old) b size ≡ part old b size
     unfolding over
     part-behind b size h =
@@ -54,6 +57,7 @@ module _ {A : Type 0} where
         ∙ ap (λ (n : ℕ). drop n old) past)
 
   -- ---- pieces of one element
+  -- the concatenation of one element a number has the t-th element at place t
   pub many-at : (g : ℕ → A) (n t : ℕ) (d : A) → t < n → getD (many (λ k. g k ∷ []) n) t d ≡ g t
   unfolding many
   many-at g zero t d h = absurd (omega arith)
@@ -64,7 +68,7 @@ module _ {A : Type 0} where
       (λ (l : t < n). List·getD-append (many (λ k. g k ∷ []) n) (g n ∷ []) d t (omega arith) ∙ many-at g n t d l)
       (eq-or-lt-of-le (le-of-suc-le-suc h))
 
-  -- what stands in the front that was written
+  -- an entry of the front that was written is the entry that was written there
   pub front-at : (new old : List A) (t : ℕ) (d : A) → t < length new → getD (over 0 new old) t d ≡ getD new t d
   unfolding over
   front-at new old t d h = List·getD-append new (drop (0 + length new) old) d t h

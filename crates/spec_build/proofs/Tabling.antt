@@ -1,4 +1,4 @@
--- The tables: the boxes that were put there are read again, and so are the centres, on each axis. Assumes nothing.
+-- The tables: the boxes that were put there are read again, and so are the centres, on each axis.
 use mathlib.Core.Path.{_≡_, refl, sym, ap, ap₂, _∙_}
 use mathlib.Core.Logic.{_⊎_, inl, inr, ⊎-elim}
 use mathlib.Core.List.{List, [], _∷_, _++_}
@@ -47,6 +47,7 @@ module _ (f : Format) (bounds : List Float) (axis : Axis) (count first size : �
       go (yes l) = inl l
       go (no l) = inr (omega arith)
 
+  -- one axis's centres, lent and put back, stand in their slice of the table, and the other axes are as they were
   pub centres-put : (new : List Float) → new ≡ take first old ++ (keys′ ++ drop size (drop first old)) → CentresPut f bounds axis count old new
   unfolding pieces centres
   centres-put new e =
@@ -66,6 +67,7 @@ module _ (f : Format) (bounds : List Float) (axis : Axis) (count first size : �
         long = ap length is ∙ length-over (place axis * mostTriangles) keys′ old room;
       }
 
+-- made axis by axis, the table holds the centres on all three
 pub all-centred : (f : Format) (bounds : List Float) (count : ℕ) (old x y z : List Float) → CentresPut f bounds X count old x → CentresPut f bounds Y count x y → CentresPut f bounds Z count y z → Centred f bounds count old z
 all-centred f bounds count old x y z p q r = record { centre-is = at; long = r .long ∙ q .long ∙ p .long }
   where
@@ -74,6 +76,6 @@ all-centred f bounds count old x y z p q r = record { centre-is = at; long = r .
     at Y t h = ap (λ (l : List Float). getD l t nan) (r .elsewhere Y (λ e. omega arith)) ∙ q .here t h
     at Z t h = r .here t h
 
--- the centres on an axis, as they are lent
+-- the slice of the table that is lent to the sort is the axis's centres
 pub keys-lent : (axis : Axis) (centres : List Float) (first size : ℕ) → first ≡ place axis * mostTriangles → size ≡ mostTriangles → part centres first size ≡ keysOn axis centres
 keys-lent axis centres first size e sized = ap₂ (λ (a k : ℕ). part centres a k) e sized

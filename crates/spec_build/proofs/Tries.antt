@@ -1,4 +1,4 @@
--- The tries only bring a part into another order. Where the rule cuts a sorted part inside, they do. Assumes nothing.
+-- The tries only bring a slice into another order. Where the rule cuts a sorted slice inside, they do.
 use mathlib.Core.Path.{_≡_, refl}
 use mathlib.Core.List.{List, [], _∷_, map, List·Permᴰ, List·Permᴰ·trans, Permᴰ·refl, Permᴰ·symm}
 use Prim.Native.Nat.{ℕ, _<_}
@@ -21,6 +21,7 @@ use Rattle.spec_sort.proofs.Each.{each-permuted, each-weaker}
 use Rattle.spec_sort.proofs.Permutes.{sorted-permutes}
 use Rattle.spec_sort.proofs.Merges.{sorted-is-sorted}
 
+-- the rule's answer leaves the slice as it is
 pub split-part : (part : List ℕ) (s : Split) → partOf (splitAs part s) ≡ part
 split-part part (cutAt k) = refl
 split-part part nowhere = refl
@@ -31,7 +32,7 @@ or-else-permutes next p (uncut part) = p part
 
 module _ (f : Format) (boxAt : ℕ → Box) where
   -- by their centres on an axis, the triangles whose centres are numbers are ordered
-  pub centres-ordered : (axis : Axis) → Ordered (isBefore f boxAt axis) (λ t. Number (centreOn f boxAt axis t))
+  centres-ordered : (axis : Axis) → Ordered (isBefore f boxAt axis) (λ t. Number (centreOn f boxAt axis t))
   centres-ordered axis = record {
     asymmetric = λ a b h. is-false _ (le→not-lt (key a) (key b) (lt→le (key a) (key b) (passed h)));
     transitive = λ a b c h k. is-true _ (lt-le-transitive (key a) (key b) (key c) (passed h) (lt→le (key b) (key c) (passed k)));
@@ -44,13 +45,14 @@ module _ (f : Format) (boxAt : ℕ → Box) where
 
   module _ (strategy : ℕ) where
     -- ---- only another order
+    -- a try on one axis only brings the slice into another order
     pub tried-on-permutes : (axis : Axis) (parent : Box) (part : List ℕ) → List·Permᴰ (partOf (triedOn f boxAt strategy axis parent part)) part
     unfolding triedOn
     tried-on-permutes axis parent part =
         rw (split-part (sortedOn f boxAt axis part) (rule f strategy axis parent (map boxAt (sortedOn f boxAt axis part))))
         (sorted-permutes (isBefore f boxAt axis) part)
 
-    pub tried-in-permutes : (axes : List Axis) (parent : Box) (part : List ℕ) → List·Permᴰ (partOf (triedIn f boxAt strategy axes parent part)) part
+    tried-in-permutes : (axes : List Axis) (parent : Box) (part : List ℕ) → List·Permᴰ (partOf (triedIn f boxAt strategy axes parent part)) part
     unfolding triedIn
     tried-in-permutes [] parent part = Permᴰ·refl part
     tried-in-permutes (axis ∷ axes) parent part =
@@ -58,6 +60,7 @@ module _ (f : Format) (boxAt : ℕ → Box) where
         (or-else-permutes (triedIn f boxAt strategy axes parent) (tried-in-permutes axes parent) (triedOn f boxAt strategy axis parent part))
         (tried-on-permutes axis parent part)
 
+    -- the tries on all axes only bring the slice into another order
     pub tried-permutes : (part : List ℕ) → List·Permᴰ (partOf (tried f boxAt strategy part)) part
     unfolding tried triedWithin
     tried-permutes part = tried-in-permutes _ (joined boxAt part) part
@@ -86,6 +89,7 @@ module _ (f : Format) (boxAt : ℕ → Box) where
           or-else-inside (triedIn f boxAt strategy axes parent) (tried-in-inside axes parent) (triedOn f boxAt strategy axis parent part)
           (omega (arith, permuted-length p)) (each-permuted Used (Permᴰ·symm p) u) (tried-on-inside axis parent part w u)
 
+      -- the tries are what the laws of growing need, where the rule cuts sorted slices inside
       pub tried-trying : Trying (tried f boxAt strategy) Used
       unfolding tried triedWithin
       tried-trying = record { permutes = tried-permutes; inside = λ part w u. tried-in-inside _ (joined boxAt part) part w u }

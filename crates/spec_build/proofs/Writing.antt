@@ -1,4 +1,5 @@
--- A leaf and a branch, written: three writes one behind the other are the nodes of the branch. Assumes nothing.
+-- A leaf and a branch, written: the nodes of the left side, those of the right side and the branch, one behind the other, are the nodes of the
+-- branch's tree.
 use mathlib.Core.Path.{_≡_, refl, ap, ap₂, _∙_}
 use mathlib.Core.List.{List, [], _∷_, _++_, map}
 use Prim.Native.Nat.{ℕ, _+_, _*_, _≤_, _<_, max}
@@ -15,6 +16,7 @@ use Rattle.spec_build.specs.Growing.{BranchPut, Written}
 use Rattle.spec_build.proofs.Boxes.{union-is-joined}
 
 -- ---- a leaf
+-- a leaf's links and box, written at its node, are the nodes of a tree that is a leaf
 pub leaf-written : (f : Format) (boxAt : ℕ → Box) (part : List ℕ) (entry node : ℕ) (links links′ : List ℕ) (boxes boxes′ : List Float) (box : Box) → 0 < length part
     → box ≡ unionOf f (map boxAt part) → links′ ≡ over (3 * node) (1 ∷ entry ∷ (entry + length part) ∷ []) links → boxes′ ≡ over (6 * node) (sixOf box) boxes
     → Written boxAt (leaf part) entry node links links′ boxes boxes′ node 1 box
@@ -46,6 +48,7 @@ module _ (boxAt : ℕ → Box) (l r : Tree) (entry node : ℕ) (links mid late l
   third : rightRoot + 1 ≡ node + nodeCount l + nodeCount r
   third = ap (λ (k : ℕ). k + 1) (right .root-is) ∙ root-last (leftRoot + 1) r ∙ ap (λ (k : ℕ). k + nodeCount r) second
 
+  -- the left side's nodes, the right side's and the branch's, one behind the other, are the nodes of its tree
   pub branch-written : 3 * (rightRoot + 1) + 3 ≤ length links → 6 * (rightRoot + 1) + 6 ≤ length boxes → Written boxAt (branch l r) entry node links links′ boxes boxes′ root deep box
   unfolding linksFrom boxesOf rootFrom levels boxOver
   branch-written links-room boxes-room = record {

@@ -1,4 +1,4 @@
--- The build: the tree over all triangles, what the call answers, and the lists that it leaves. Definitions only.
+-- The build: the tree over all triangles, what the call answers, and the lists that it leaves.
 use mathlib.Core.Path.{_≡_}
 use mathlib.Core.List.{List, [], _∷_}
 use Prim.Native.Nat.{ℕ, _-_, _*_}
@@ -14,18 +14,20 @@ use Rattle.spec_tree.specs.Order.{upTo}
 use Rattle.spec_build.specs.Grown.{grown}
 use Rattle.spec_build.specs.Tries.{tried}
 
--- depth starts at 1, and a leaf is made at the maximum depth: so many levels are left below the root
+-- depth starts at 1, and a leaf is made at the maximum depth: the root is one level of it
 abbrev pub levelsBelow : Settings → ℕ
 levelsBelow s = s .maximumDepth - 1
 
+-- the tree over all triangles, grown from the order 0, 1, 2 and so on
 unfoldable pub builtTree : Format → List Float → Settings → Tree
 builtTree f triangles s = grown (tried f (boxAt triangles) (s .strategy)) (s .leafMinimum) (levelsBelow s) (upTo (triangleCount triangles))
 
 -- ---- refusals 1 to 6
+-- n leaves have n - 1 branches: the room that is asked for is enough for any tree without empty leaves
 abbrev pub mostNodes : ℕ → ℕ
 mostNodes n = 2 * n - 1
 
--- of a triangle list, settings, and outputs of these lengths
+-- the triangles, the settings, then the room in lists of these lengths
 unfoldable pub buildRefusal : List Float → Settings → (order links boxes : ℕ) → Verdict
 buildRefusal triangles s order links boxes =
     let n = triangleCount triangles in
@@ -58,10 +60,11 @@ pub record Outcome (v : Verdict) (boxAt : ℕ → Box) (t : Tree) (order links :
   pub links-are : links′ ≡ leftBy v (linksFrom 0 0 t) links
   pub boxes-are : boxes′ ≡ leftBy v (boxesOf boxAt t) boxes
 
+-- the contract of the call, for every input: what it answers, and what its lists hold afterwards
 abbrev pub BuildIs : Format → List Float → Settings → (order links : List ℕ) (boxes : List Float) → Built → (order′ links′ : List ℕ) (boxes′ : List Float) → Type 0
 BuildIs f triangles s order links boxes = Outcome (buildRefusal triangles s (length order) (length links) (length boxes)) (boxAt triangles) (builtTree f triangles s) order links boxes
 
--- what is built passed the tests, and the tables that are lent have room for the most triangles
+-- needs of the program behind the tests: they passed, and the lent tables have room for the largest number of triangles
 pub record Asked (triangles : List Float) (s : Settings) (bounds centres : List Float) (scratch order links : List ℕ) (boxes : List Float) : Type 0 where
   pub passed : buildRefusal triangles s (length order) (length links) (length boxes) ≡ passes
   pub bounds-long : length bounds ≡ 6 * mostTriangles

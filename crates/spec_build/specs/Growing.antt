@@ -1,4 +1,4 @@
--- What growing a part of the order list asks of the tables and the lists that are lent, and what it leaves in them. Definitions only.
+-- What growing a slice of the order list needs of the tables and the lists that are lent, and what it leaves in them.
 use mathlib.Core.Path.{_≡_}
 use mathlib.Core.List.{List, [], _∷_}
 use Prim.Native.Nat.{ℕ, _+_, _*_, _≤_, _<_, max}
@@ -30,37 +30,37 @@ pub record Tabled (f : Format) (bounds centres : List Float) (t : ℕ) : Type 0 
   pub centre-is : (axis : Axis) → getD (keysOn axis centres) t nan ≡ centreOn f (boxIn bounds) axis t
   pub centred : (axis : Axis) → Number (centreOn f (boxIn bounds) axis t)
 
--- making them, for the first so many triangles
+-- needs of making the centres of the first `count` triangles
 pub record CentresAsked (bounds : List Float) (count : ℕ) (keys : List Float) : Type 0 where
   pub in-table : 6 * count ≤ length bounds
   pub few : count ≤ mostTriangles
   pub room : count ≤ length keys
 
--- the centres on this axis stand in their part of the table, and the rest is as it was
+-- the centres on this axis stand in their slice of the table, and the rest is as it was
 pub record CentresPut (f : Format) (bounds : List Float) (axis : Axis) (count : ℕ) (old new : List Float) : Type 0 where
   pub here : (t : ℕ) → t < count → getD (keysOn axis new) t nan ≡ centreOn f (boxIn bounds) axis t
   pub elsewhere : (other : Axis) → (place other ≡ place axis → ⊥) → keysOn other new ≡ keysOn other old
   pub long : length new ≡ length old
 
--- on each axis
+-- the centres on each axis stand in the table
 pub record Centred (f : Format) (bounds : List Float) (count : ℕ) (old new : List Float) : Type 0 where
   pub centre-is : (axis : Axis) (t : ℕ) → t < count → getD (keysOn axis new) t nan ≡ centreOn f (boxIn bounds) axis t
   pub long : length new ≡ length old
 
--- ---- a part, tried
--- sorting it on an axis
+-- ---- a slice, tried
+-- needs of sorting a slice on an axis
 pub record SortAsked (axis : Axis) (centres : List Float) (part scratch : List ℕ) : Type 0 where
   pub keyed : Each (Keyed (keysOn axis centres)) part
   pub long : length centres ≡ 3 * mostTriangles
   pub room : length part ≤ length scratch
 
--- asking the rule
+-- needs of the rule
 pub record RuleAsked (f : Format) (bounds : List Float) (part : List ℕ) : Type 0 where
   pub boxed : Boxed f bounds part
   pub some : 2 ≤ length part
   pub few : length part ≤ mostTriangles
 
--- both, on one axis or on all
+-- needs of a try: of the sort and of the rule, on one axis or on all
 pub record Triable (f : Format) (bounds centres : List Float) (part scratch : List ℕ) : Type 0 where
   pub tabled : Each (Tabled f bounds centres) part
   pub long : length centres ≡ 3 * mostTriangles
@@ -68,13 +68,14 @@ pub record Triable (f : Format) (bounds centres : List Float) (part scratch : Li
   pub few : length part ≤ mostTriangles
   pub room : length part ≤ length scratch
 
--- ---- a part, grown
--- the lists have room for the nodes of so many triangles, from this node on
+-- ---- a slice, grown
+-- the lists have room for the nodes of a tree over `count` triangles, from this node on
 pub record RoomFor (count node : ℕ) (links : List ℕ) (boxes : List Float) : Type 0 where
   pub links-room : 3 * (node + 2 * count) ≤ length links + 3
   pub boxes-room : 6 * (node + 2 * count) ≤ length boxes + 6
   pub few : node + 2 * count ≤ 2 * mostTriangles
 
+-- needs of growing a slice: its triangles are in the tables, and its nodes have room
 pub record Growable (f : Format) (bounds centres : List Float) (leafMinimum left : ℕ) (part scratch : List ℕ) (entry : ℕ) (links : List ℕ) (boxes : List Float) (node : ℕ) : Type 0 where
   pub tabled : Each (Tabled f bounds centres) part
   pub long : length centres ≡ 3 * mostTriangles
@@ -86,6 +87,7 @@ pub record Growable (f : Format) (bounds centres : List Float) (leafMinimum left
   pub room : RoomFor (length part) node links boxes
 
 -- ---- the nodes
+-- needs of writing a leaf
 pub record LeafAsked (bounds : List Float) (part : List ℕ) (entry : ℕ) (links : List ℕ) (boxes : List Float) (node : ℕ) : Type 0 where
   pub in-table : AllInTable bounds part
   pub some : 0 < length part
@@ -93,7 +95,7 @@ pub record LeafAsked (bounds : List Float) (part : List ℕ) (entry : ℕ) (link
   pub links-room : 3 * node + 3 ≤ length links
   pub boxes-room : 6 * node + 6 ≤ length boxes
 
--- a branch stands right behind its right subtree
+-- needs of writing a branch, which stands right behind its right side
 pub record BranchAsked (leftRoot leftLevels rightRoot rightLevels : ℕ) (links : List ℕ) (boxes : List Float) : Type 0 where
   pub left-shallow : leftLevels ≤ deepest
   pub right-shallow : rightLevels ≤ deepest
@@ -102,6 +104,7 @@ pub record BranchAsked (leftRoot leftLevels rightRoot rightLevels : ℕ) (links 
   pub links-room : 3 * (rightRoot + 1) + 3 ≤ length links
   pub boxes-room : 6 * (rightRoot + 1) + 6 ≤ length boxes
 
+-- what writing a branch leaves in the lists, and what it answers
 pub record BranchPut (leftRoot leftLevels : ℕ) (leftBox : Box) (rightRoot rightLevels : ℕ) (rightBox : Box) (links links′ : List ℕ) (boxes boxes′ : List Float) (root deep : ℕ) (box : Box) : Type 0 where
   pub links-are : links′ ≡ Tables.over (3 * (rightRoot + 1)) (2 ∷ leftRoot ∷ rightRoot ∷ []) links
   pub boxes-are : boxes′ ≡ Tables.over (6 * (rightRoot + 1)) (sixOf (union leftBox rightBox)) boxes
@@ -109,7 +112,7 @@ pub record BranchPut (leftRoot leftLevels : ℕ) (leftBox : Box) (rightRoot righ
   pub levels-are : deep ≡ max leftLevels rightLevels + 1
   pub box-is : box ≡ union leftBox rightBox
 
--- the nodes of the tree, put into the lists from this node on, and what is told of them
+-- the nodes of the tree, put into the lists from this node on, and the tree's root, depth and box, which are answered
 pub record Written (boxAt : ℕ → Box) (t : Tree) (entry node : ℕ) (links links′ : List ℕ) (boxes boxes′ : List Float) (root deep : ℕ) (box : Box) : Type 0 where
   pub links-are : links′ ≡ Tables.over (3 * node) (linksFrom node entry t) links
   pub boxes-are : boxes′ ≡ Tables.over (6 * node) (boxesOf boxAt t) boxes
@@ -117,11 +120,11 @@ pub record Written (boxAt : ℕ → Box) (t : Tree) (entry node : ℕ) (links li
   pub levels-are : deep ≡ levels t
   pub box-is : box ≡ boxOver boxAt t
 
--- the tree of a part, over the table of boxes
+-- the tree of a slice, over the table of boxes
 abbrev pub grownIn : Format → List Float → (strategy leafMinimum left : ℕ) → List ℕ → Tree
 grownIn f bounds strategy leafMinimum left part = grown (tried f (boxIn bounds) strategy) leafMinimum left part
 
--- the part is left in the order of the tree's leaves, and the tree's nodes are written
+-- the slice is left in the order of the tree's leaves, and the tree's nodes are written
 pub record GrownIs (f : Format) (bounds : List Float) (strategy leafMinimum left : ℕ) (part part′ : List ℕ) (entry : ℕ) (links links′ : List ℕ) (boxes boxes′ : List Float) (node root deep : ℕ) (box : Box) : Type 0 where
   pub order-is : part′ ≡ numbers (grownIn f bounds strategy leafMinimum left part)
   pub written : Written (boxIn bounds) (grownIn f bounds strategy leafMinimum left part) entry node links links′ boxes boxes′ root deep box
