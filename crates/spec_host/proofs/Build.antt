@@ -1,4 +1,5 @@
--- What the build of an image from bytes answers and leaves; that every image that is built is one that the writer accepts, and that it is no larger than is told. Assumes nothing.
+-- What the build of an image from bytes answers and leaves. Every image that is built is one that the writer accepts, and is no larger than the
+-- maximum size that a host can ask for.
 use mathlib.Core.Path.{_≡_, refl, sym, ap, _∙_}
 use mathlib.Core.List.{List, [], _∷_}
 use Prim.Native.Nat.{ℕ, _*_, _/_, _%_, _^_, _≤_, _<_}
@@ -57,38 +58,41 @@ module _ (triangles : List Float) (s : Settings) (g : GoodTriangles triangles) (
     shallow = whole .shallow;
   }
 
-  pub built-good : Good (builtImage triangles s)
+  built-good : Good (builtImage triangles s)
   unfolding imageOver
   built-good = record { triangles = g; settings = h; tree = t; listing = built-listing }
 
-  -- the writer accepts it
+  -- the writer accepts every image that is built, where its room is not short
   pub built-written : (given : ℕ) → exactSize version1 (builtImage triangles s) ≤ given → writeRefusal version1 (builtImage triangles s) given ≡ passes
   built-written given room = write-passes version1 (builtImage triangles s) given built-good room
 
-  -- so many bytes always do
+  -- the maximum size that a host can ask for is always enough room
   pub most-is-enough : exactSize version1 (builtImage triangles s) ≤ imageMost (triangleCount triangles)
   unfolding imageMost imageOver
   most-is-enough = rw (le-leb 1 (triangleCount triangles) (g .some), le-leb (triangleCount triangles) mostTriangles (g .few)) (omega (arith, whole-nodes whole))
 
 -- ---- what is put
 module _ {v : Verdict} {x : Image} {old : List ℕ} {answer : ℕ} where
+  -- a call that refuses, encodes the refusal and leaves the bytes as they were keeps the contract
   pub put-nothing : {number place : ℕ} → v ≡ refused number place → answer ≡ toldRefusal number place → ImagePut v x old answer old
   put-nothing e a = record { told-is = rw e a; bytes-are = rw e }
 
+  -- a call that passed, puts the image at the front and answers its size keeps the contract
   pub put-all : {new : List ℕ} {next : ℕ} → v ≡ passes → answer ≡ exactSize version1 x → Put 0 (imageBytes version1 x) old new next → ImagePut v x old answer new
   put-all e a p = record { told-is = rw e a; bytes-are = rw e (p .written) }
 
+-- room below the need is refused with 6
 pub room-short : (given need : ℕ) → given < need → roomRefusal given need ≡ refused 6 0
 unfolding roomRefusal
 room-short given need h = rw (lt-ltb given need h)
 
--- another verdict and image that are the same
+-- the contract depends on an image's bytes and size alone, so the image in the program's lists may stand for the defined one
 pub put-as : {v w : Verdict} {x y : Image} {old new : List ℕ} {answer : ℕ} → v ≡ w → imageBytes version1 x ≡ imageBytes version1 y → exactSize version1 x ≡ exactSize version1 y
     → ImagePut v x old answer new → ImagePut w y old answer new
 put-as e b n p = record { told-is = rw (← e, ← n) (p .told-is); bytes-are = rw (← e, ← b) (p .bytes-are) }
 
 -- ---- the list's refusals
-pub list-told : (triangles : List Float) (s : Settings) (given : ℕ) → InPlace (listRefusal triangles s given)
+list-told : (triangles : List Float) (s : Settings) (given : ℕ) → InPlace (listRefusal triangles s given)
 unfolding listRefusal
 list-told triangles s given =
     then-test (trianglesRefusal triangles) _ (triangles-told triangles)
@@ -106,7 +110,7 @@ not-made : (v : Verdict) (t : Tree) (number place : ℕ) → notMade number plac
 not-made passes t number place e = cc
 not-made (refused n p) t number place e = cc
 
--- ---- the build in lists that have room for the most triangles
+-- ---- the build in lists that have room for 4,096 triangles
 module _ (triangles : List Float) (s : Settings) (order links : List ℕ) (boxes : List Float)
     (order-long : length order ≡ 4096) (links-long : length links ≡ 24573) (boxes-long : length boxes ≡ 49146) where
   -- the lists' rooms are never short, so a refusal is one of the triangles or the settings
@@ -122,6 +126,7 @@ module _ (triangles : List Float) (s : Settings) (order links : List ℕ) (boxes
       then-passes _ (room-passes _ _ (omega arith), (room-passes _ _ (omega arith), (room-passes _ _ (omega arith), tt))))
       (not-made (buildRefusal triangles s (length order) (length links) (length boxes)) (builtTree binary32 triangles s) number place (b .answer-is))
 
+  -- a refusal of the build can be encoded in the status
   pub build-told : {number place : ℕ} {order′ links′ : List ℕ} {boxes′ : List Float} → BuildIs binary32 triangles s order links boxes (notMade number place) order′ links′ boxes′
       → Placed number place
   build-told b = rw (build-refused b 0) at (list-told triangles s 0)
@@ -133,10 +138,11 @@ module _ (triangles : List Float) (s : Settings) (order links : List ℕ) (boxes
     passed : Passed triangles s order links boxes
     passed = build-passed triangles s order links boxes (made-passed binary32 triangles s order links boxes order′ links′ boxes′ nodes depth b)
 
-    -- the lists as they are left
+    -- the image in the lists, as the build leaves them
     abbrev pub listed : Image
     listed = record { settings = s; triangles = triangles; order = take n order′; nodes = nodes; links = links′; boxes = boxes′ }
 
+    -- the image in the lists has at most 4,096 triangles, so the program's lengths do not overflow
     pub listed-few : n ≤ 4096
     listed-few = passed .triangles-good .few
 
@@ -148,6 +154,7 @@ module _ (triangles : List Float) (s : Settings) (order links : List ℕ) (boxes
       listing = made-listing binary32 triangles s order links boxes order′ links′ boxes′ nodes depth b;
     }
 
+    -- the image in the lists meets the needs of putting an image
     pub listed-puttable : Puttable listed
     listed-puttable = record {
       complete = good-complete listed listed-good;
@@ -155,7 +162,7 @@ module _ (triangles : List Float) (s : Settings) (order links : List ℕ) (boxes
       few = omega (arith, good-nodes listed listed-good, passed .triangles-good .few);
     }
 
-    -- they are written as the image of the tree that is built
+    -- the image in the lists is written as the image of the tree that is built
     pub listed-bytes : imageBytes version1 listed ≡ imageBytes version1 (builtImage triangles s)
     unfolding imageOver
     listed-bytes =
@@ -166,11 +173,12 @@ module _ (triangles : List Float) (s : Settings) (order links : List ℕ) (boxes
         let boxes-are : take (6 * nodeCount t) boxes′ ≡ boxesOf (boxAt triangles) t = rw (l .nodes-are) at (l .boxes-are) in
         rw (l .order-is, l .nodes-are) (image-used version1 (builtImage triangles s) links′ boxes′ (links-are ∙ sym (g .links-are)) (boxes-are ∙ sym (g .boxes-are)))
 
+    -- the image in the lists is as large as the image of the tree that is built
     pub listed-size : exactSize version1 listed ≡ exactSize version1 (builtImage triangles s)
     unfolding imageOver
     listed-size = rw (made-nodes binary32 triangles s order links boxes order′ links′ boxes′ nodes depth b)
 
-    -- only the room is left to be tested
+    -- once the tree is built only the room is left to be tested
     pub listed-refusal : (given : ℕ) → roomRefusal given (exactSize version1 listed) ≡ listRefusal triangles s given
     unfolding listRefusal firstRefusal
     listed-refusal given =
@@ -178,15 +186,18 @@ module _ (triangles : List Float) (s : Settings) (order links : List ℕ) (boxes
         rw (triangles-pass triangles (passed .triangles-good), settings-pass s (passed .settings-good)) room
 
 -- ---- from bytes
+-- four bytes are a number, and a rest of fewer is none
 pub numbers-long : (s : List ℕ) → length (numbersOf s) ≡ length s / 4
 numbers-long s = length-singles _ (length s / 4)
 
 module _ (s : List ℕ) (settings : Settings) (given : ℕ) where
+  -- bytes that are no whole triangles are refused with 1
   pub bytes-ragged : (length s % 36 ≡ 0 → ⊥) → bytesRefusal s settings given ≡ refused 1 0
   unfolding bytesRefusal raggedBytes firstRefusal
   bytes-ragged h = rw (ne-eqb (length s % 36) 0 h)
 
   module _ (h : length s % 36 ≡ 0) where
+    -- the bytes of whole triangles are refused as their list is
     pub bytes-whole : listRefusal (numbersOf s) settings given ≡ bytesRefusal s settings given
     unfolding bytesRefusal raggedBytes firstRefusal
     bytes-whole = rw (eq-eqb (length s % 36) 0 h) (ends _ _ refl)
@@ -196,13 +207,15 @@ module _ (s : List ℕ) (settings : Settings) (given : ℕ) where
     numbers-many m =
         rw (numbers-long, eq-eqb (length s / 4 % 9) 0 (omega arith), ne-eqb (length s / 4 / 9) 0 (λ (z : length s / 4 / 9 ≡ 0). omega arith), lt-ltb mostTriangles (length s / 4 / 9) (omega arith))
 
+    -- more bytes than 4,096 triangles have are refused with 3, so the program need not read them
     pub bytes-many : 147456 < length s → bytesRefusal s settings given ≡ refused 3 0
     bytes-many m = sym bytes-whole ∙ numbers-many m
 
+-- the loop that reads the bytes leaves their numbers at the front of the list
 pub numbers-read : (s : List ℕ) (old new : List Float) → new ≡ over 0 (numbersOf s) old → take (length s / 4) new ≡ numbersOf s
 numbers-read s old new e = rw e (take-over (length s / 4) (numbersOf s) old (length-singles _ (length s / 4)))
 
--- ---- what is told is read back
+-- ---- the status is decoded
 module _ (s : List ℕ) (settings : Settings) (given : ℕ) where
   bytes-told : InPlace (bytesRefusal s settings given)
   unfolding bytesRefusal raggedBytes
@@ -217,10 +230,12 @@ module _ (s : List ℕ) (settings : Settings) (given : ℕ) where
       let g = triangles-passed (numbersOf s) (p .0) in
       omega (arith, good-nodes (builtImage (numbersOf s) settings) (built-good (numbersOf s) settings g (settings-passed settings (p .1 .0))), g .few)
 
+  -- the status of the build is decoded without loss
   pub bytes-heard : Heard (bytesRefusal s settings given) (exactSize version1 (builtImage (numbersOf s) settings)) (told (bytesRefusal s settings given) (exactSize version1 (builtImage (numbersOf s) settings)))
   bytes-heard = heard (bytesRefusal s settings given) (exactSize version1 (builtImage (numbersOf s) settings)) bytes-told built-small
 
--- ---- what is put reads back: the settings, the triangles and the tree that was built
+-- ---- reading back
+-- the image that is put reads back as the settings, the triangles and the tree that was built
 pub built-back : (s : List ℕ) (settings : Settings) (given : ℕ) → bytesRefusal s settings given ≡ passes
     → imageIn version1 (imageBytes version1 (builtImage (numbersOf s) settings)) (triangleCount (numbersOf s)) (nodeCount (builtTree binary32 (numbersOf s) settings)) ≡ used (builtImage (numbersOf s) settings)
 unfolding bytesRefusal listRefusal imageOver

@@ -1,4 +1,4 @@
--- A call asks the image that was written as a list call asks the lists that it was written from, and what it tells is read back. Assumes nothing.
+-- A call answers on an image that was written as the list call on the lists that it was written from, and its status is decoded without loss.
 use mathlib.Core.Path.{_≡_, refl, sym, ap, _∙_}
 use mathlib.Core.Bool.{true}
 use mathlib.Core.List.{List, _∷_}
@@ -35,24 +35,29 @@ module _ (x : Image) (ok : Storable version1 x) where
   laid : laidOut (imageWants version1) written 0 ≡ bodies (imageSpans version1 (length (x .order)) (x .nodes))
   laid = written-laid version1 x ok
 
+  -- an image that was written holds what the writer was given
   pub written-contents : contents written ≡ used x
   written-contents = contents-are written (length (x .order)) (x .nodes) laid ∙ written-read version1 x ok
 
+  -- the check of an image that was written refuses what the tests of its lists refuse
   pub written-checked : checkVerdict written ≡ checkedRefusal (used x)
   unfolding checkVerdict
   written-checked = sym (inner-decides written (length (x .order)) (x .nodes) laid checkedRefusal (checkedRefusal (used x)) (ap checkedRefusal (sym (written-read version1 x ok))))
 
+  -- a query of an image that was written refuses what the tests of its lists refuse
   pub written-asked : (points : List ℕ) (distance : Float) (room : ℕ) → queryVerdict written points distance room ≡ askedRefusal (used x) points distance room
   unfolding queryVerdict
   written-asked points distance room =
       sym (inner-decides written (length (x .order)) (x .nodes) laid (λ y. askedRefusal y points distance room) (askedRefusal (used x) points distance room)
       (ap (λ (y : Image). askedRefusal y points distance room) (sym (written-read version1 x ok))))
 
--- ---- what is told is read back
+-- ---- the status is decoded
 module _ (image points : List ℕ) (ok : Bytes image) (fits : length points < 2 ^ 63) (few : length points / 12 < 2 ^ 56) (room : ℕ) where
+  -- the status of a query is decoded without loss
   pub query-heard : (distance : Float) → Heard (queryVerdict image points distance room) (length points / 12) (told (queryVerdict image points distance room) (length points / 12))
   query-heard distance = told-heard (queryVerdict image points distance room) (length points / 12) (record { verdict = query-told image points ok fits room distance; counted = few })
 
+  -- the status of the winding call is decoded without loss
   pub winding-heard : Heard (windingVerdict image points room) (length points / 12) (told (windingVerdict image points room) (length points / 12))
   winding-heard = told-heard (windingVerdict image points room) (length points / 12) (record { verdict = winding-told image points ok fits room; counted = few })
 
@@ -69,7 +74,7 @@ unfolding firstRefusal
 drop-second passes rest = refl
 drop-second (refused n p) rest = refl
 
--- a list query has no settings
+-- on whole points a query of an image is refused as the list query is, which has no settings to test
 pub asks-as-lists : (x : Image) (points : List ℕ) (distance : Float) (room : ℕ) → settingsRefusal (x .settings) ≡ passes → length points % 12 ≡ 0
     → askedRefusal x points distance room ≡ queryRefusal (x .triangles) (x .order) (x .links) (x .boxes) (x .nodes) (numbersOf points) distance (room / 4)
 unfolding askedRefusal queryRefusal
@@ -77,6 +82,7 @@ asks-as-lists x points distance room fine whole =
     let rooms : room / 4 / 6 ≡ room / 24 = omega arith in
     rw (fine, rooms, points-count points, points-as-lists points whole) (drop-second (trianglesRefusal (x .triangles)) _)
 
+-- on whole points the winding call on an image is refused as the list call is
 pub winds-as-lists : (triangles : List Float) (points : List ℕ) (room : ℕ) → length points % 12 ≡ 0 → woundRefusal triangles points room ≡ windingRefusal triangles (numbersOf points) (room / 4)
 unfolding woundRefusal windingRefusal
 winds-as-lists triangles points room whole = rw (points-count points, points-as-lists points whole)

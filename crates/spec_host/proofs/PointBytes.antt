@@ -1,4 +1,4 @@
--- What is read of point bytes, what bytes that passed give, and what a loop over the points writes. Assumes nothing.
+-- What is read of point bytes, what bytes that passed give, and what a loop over the points writes.
 use mathlib.Core.Path.{_≡_, refl, sym, ap, _∙_}
 use mathlib.Core.Bool.{true}
 use mathlib.Core.List.{List, _++_, append-assoc, append-nil}
@@ -33,14 +33,16 @@ use Rattle.spec_host.specs.PointBytes.{pointBytesRefusal, wordBytes, ans
 
 -- ---- what is read
 module _ (s : List ℕ) where
+  -- twelve bytes are a point, and a rest of fewer is none
   pub points-count : pointCount (numbersOf s) ≡ length s / 12
   unfolding pointCount
   points-count = rw numbers-long (omega arith)
 
-  -- number i stands at byte 4 i
+  -- number i of the bytes is read at byte 4 i
   pub number-is : (i : ℕ) → i < length s / 4 → getD (numbersOf s) i nan ≡ ofBits binary32 (littleAt 4 s (4 * i))
   number-is i h = getD-many nan _ (length s / 4) i h ∙ ap (λ (at : ℕ). ofBits binary32 (littleAt 4 s at)) (zero-add (4 * i))
 
+  -- point bytes that passed their test hold good points, as the list calls need them
   pub point-bytes-passed : pointBytesRefusal s ≡ passes → GoodPoints (numbersOf s)
   unfolding pointBytesRefusal pointCount
   point-bytes-passed e =
@@ -49,7 +51,7 @@ module _ (s : List ℕ) where
       record { whole = rw numbers-long (omega arith); coordinates = coordinates-passed 8 (numbersOf s) (p .1 .0) }
 
 -- ---- numbers as bytes, list by list
-pub many-add : {A : Type 0} (f : ℕ → List A) (m n : ℕ) → many f (m + n) ≡ many f m ++ many (λ i. f (m + i)) n
+many-add : {A : Type 0} (f : ℕ → List A) (m n : ℕ) → many f (m + n) ≡ many f m ++ many (λ i. f (m + i)) n
 unfolding many
 many-add f m zero = rw (add-zero, append-nil)
 many-add f m (suc n) = rw (add-suc, many-add f m n) (append-assoc (many f m) (many (λ i. f (m + i)) n) (f (m + n)))
@@ -72,14 +74,14 @@ unfolding sixWords
 six-long nothing = refl
 six-long (found h) = refl
 
-pub answer-long : (a : Answer) → length (wordBytes (sixWords binary32 a)) ≡ 24
+answer-long : (a : Answer) → length (wordBytes (sixWords binary32 a)) ≡ 24
 answer-long a = length-numbers 4 (sixWords binary32 a) 0 (length (sixWords binary32 a)) ∙ ap (λ (n : ℕ). 4 * n) (six-long a)
 
 over-all : {A : Type 0} (new old : List A) → length old ≡ length new → over 0 new old ≡ new
 unfolding over
 over-all new old e = let h : length old ≤ length new = omega arith in rw (zero-add, drop-of-length-le old h, append-nil)
 
--- the six words of an answer in a list of six, as bytes
+-- an answer's six words, stored in the program's list of six, are the answer's bytes
 pub six-bytes : (a : Answer) (old : List ℕ) → length old ≡ 6 → numberBytes 4 (over 0 (sixWords binary32 a) old) 0 6 ≡ wordBytes (sixWords binary32 a)
 six-bytes a old e =
     ap (λ (l : List ℕ). numberBytes 4 l 0 6) (over-all (sixWords binary32 a) old (e ∙ sym (six-long a)))
@@ -93,14 +95,17 @@ module _ (answer : Point → Answer) (points old : List ℕ) where
   abbrev pub Answered : (n : ℕ) (out : List ℕ) (k : ℕ) → Type 0
   Answered n out k = Run piece 0 n old out k
 
+  -- before the first turn no answer is written
   pub answered-start : (n : ℕ) → Answered n old 0
   answered-start n = run-start piece 24 0 n old
 
+  -- a turn of the loop writes the next point's answer behind the others
   pub answered-more : (n : ℕ) (out new : List ℕ) (k : ℕ) (a : Answer) → 24 * n ≤ length old → k < n → Answered n out k → a ≡ answer (pointAt (numbersOf points) (3 * k))
       → new ≡ over (24 * k) (wordBytes (sixWords binary32 a)) out → Answered n new (k + 1)
   answered-more n out new k a room l r e h =
       run-front piece 24 n old out new k (λ j. answer-long (answer (pointAt (numbersOf points) (3 * j)))) room l r (h ∙ ap (λ (b : Answer). over (24 * k) (wordBytes (sixWords binary32 b)) out) e)
 
+  -- after the last turn the answers at all points stand at the front
   pub answered-end : (n : ℕ) (out : List ℕ) (k : ℕ) → n ≡ length points / 12 → n ≤ k → Answered n out k → out ≡ over 0 (answerBytes answer points) old
   unfolding answerBytes answerWords
   answered-end n out k e l r =
@@ -117,14 +122,17 @@ module _ (triangles : List Float) (points old : List ℕ) where
   abbrev pub Wound : (n : ℕ) (out : List ℕ) (k : ℕ) → Type 0
   Wound n out k = Run turn 0 n old out k
 
+  -- before the first turn no winding number is written
   pub wound-start : (n : ℕ) → Wound n old 0
   wound-start n = run-start turn 4 0 n old
 
+  -- a turn of the loop writes the next point's winding number behind the others
   pub wound-more : (n : ℕ) (out new : List ℕ) (k bits : ℕ) → 4 * n ≤ length old → k < n → Wound n out k → bits ≡ toBits binary32 (windingAt binary32 triangles (numbersOf points) k)
       → new ≡ over (4 * k) (little 4 bits) out → Wound n new (k + 1)
   wound-more n out new k bits room l r e h =
       run-front turn 4 n old out new k (λ j. length-little 4 _) room l r (h ∙ ap (λ (b : ℕ). over (4 * k) (little 4 b) out) e)
 
+  -- after the last turn the winding numbers about all points stand at the front
   pub wound-end : (n : ℕ) (out : List ℕ) (k : ℕ) → n ≡ length points / 12 → n ≤ k → Wound n out k → out ≡ over 0 (windingBytes triangles points) old
   unfolding windingBytes windings
   wound-end n out k e l r =
@@ -134,10 +142,12 @@ module _ (triangles : List Float) (points old : List ℕ) where
       (many-same turn _ (pointCount (numbersOf points)) (λ i h. ap (λ (x : Float). little 4 (toBits binary32 x)) (sym (getD-many nan (windingAt binary32 triangles (numbersOf points)) (pointCount (numbersOf points)) (0 + i) (rw zero-add h) ∙ ap (windingAt binary32 triangles (numbersOf points)) (zero-add i)))))
 
 -- ---- the lent bytes afterwards
+-- a call that refuses keeps its contract by leaving the lent bytes as they were
 pub as-it-was : (v : Verdict) (new old : List ℕ) → refuses v ≡ true → old ≡ afterBytes v new old
 unfolding afterBytes
 as-it-was v new old h = refusal-leaves v (over 0 new old) old h
 
+-- a call that passed keeps its contract by writing at the front
 pub as-written : (v : Verdict) (new old out : List ℕ) → v ≡ passes → out ≡ over 0 new old → out ≡ afterBytes v new old
 unfolding afterBytes
 as-written v new old out e h = rw e h

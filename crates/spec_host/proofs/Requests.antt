@@ -1,4 +1,5 @@
--- The tests of the calls made in turn, by what was found of the image, and what passing them gives. Assumes nothing.
+-- The tests of the calls made in turn, by what was found of the image, and what passing them gives: the program tests in stages, the definition in
+-- one row.
 use mathlib.Core.Path.{_≡_, refl, sym, ap, _∙_}
 use mathlib.Core.Bool.{Bool, true, false, not}
 use mathlib.Core.List.{List, [], _∷_, _++_}
@@ -33,26 +34,28 @@ use Rattle.spec_host.specs.Requests.{layoutRefusal, contents, treeIn, ch
 use Rattle.spec_host.specs.Loading.{countRefusal, earlyRefusal, lateRefusal, lateIn, Ready}
 use Rattle.spec_host.proofs.PointBytes.{point-bytes-passed}
 
--- ---- a row of tests that is made in two parts
-pub row-then : (xs ys : List Verdict) → firstRefusal (xs ++ ys) ≡ firstRefusal (firstRefusal xs ∷ firstRefusal ys ∷ [])
+-- ---- a row of tests that is made in two halves
+row-then : (xs ys : List Verdict) → firstRefusal (xs ++ ys) ≡ firstRefusal (firstRefusal xs ∷ firstRefusal ys ∷ [])
 unfolding firstRefusal
 row-then [] ys = ends (firstRefusal ys) (firstRefusal ys) refl
 row-then (passes ∷ xs) ys = row-then xs ys
 row-then (refused number place ∷ xs) ys = refl
 
 module _ (v : Verdict) (xs ys : List Verdict) (b : Bool) (is : v ≡ firstRefusal xs) (told : b ≡ refuses v) where
-  pub row-stops : b ≡ true → v ≡ firstRefusal (xs ++ ys)
+  row-stops : b ≡ true → v ≡ firstRefusal (xs ++ ys)
   row-stops t = stops v (firstRefusal xs) (firstRefusal ys ∷ []) b is told t ∙ sym (row-then xs ys)
 
-  pub row-goes-on : b ≡ false → (rest : Verdict) → rest ≡ firstRefusal ys → rest ≡ firstRefusal (xs ++ ys)
+  row-goes-on : b ≡ false → (rest : Verdict) → rest ≡ firstRefusal ys → rest ≡ firstRefusal (xs ++ ys)
   row-goes-on f rest e = goes-on v (firstRefusal xs) (firstRefusal ys ∷ []) b rest is told f (ends rest (firstRefusal ys) e) ∙ sym (row-then xs ys)
 
 -- ---- the layout
+-- a wrong layout is refused with 10 at its place, before any other test
 pub layout-refuses : (s : List ℕ) (at : ℕ) → laidOut (imageWants version1) s 0 ≡ wrong at → (inner : Verdict) → refused 10 at ≡ firstRefusal (layoutRefusal s ∷ inner ∷ [])
 unfolding layoutRefusal firstRefusal
 layout-refuses s at laid inner = rw laid
 
 module _ (s : List ℕ) (t n : ℕ) (laid : laidOut (imageWants version1) s 0 ≡ bodies (imageSpans version1 t n)) where
+  -- an image of right layout is as long as its counts say
   pub image-long : imageSize version1 t n ≡ length s
   image-long = image-is version1 s t n laid .long
 
@@ -60,6 +63,7 @@ module _ (s : List ℕ) (t n : ℕ) (laid : laidOut (imageWants version1) s 0 �
   unfolding layoutRefusal
   layout-passes = rw laid
 
+  -- an image of right layout holds what is read by its counts
   pub contents-are : contents s ≡ imageIn version1 s t n
   unfolding contents imageSpans
   contents-are =
@@ -74,6 +78,7 @@ module _ (s : List ℕ) (t n : ℕ) (laid : laidOut (imageWants version1) s 0 �
 
 -- ---- the count
 module _ (xs : List Float) (t : ℕ) (nine : length xs ≡ 9 * t) where
+  -- nine numbers are a triangle, so the list of an image has as many triangles as its layout says
   pub count-counts : triangleCount xs ≡ t
   unfolding triangleCount
   count-counts = rw nine (omega arith)
@@ -93,40 +98,48 @@ count-passed t e =
     let none = eqb-false t 0 (not-refused (eqb t 0) 2 0 (p .0)) in
     (omega arith, ltb-false mostTriangles t (not-refused (ltb mostTriangles t) 3 0 (p .1 .0)))
 
+-- a count that passed its test is at most 4,096, so the triangles fit the program's list
 pub count-few : (t : ℕ) (v : Verdict) (b : Bool) → v ≡ countRefusal t → b ≡ refuses v → b ≡ false → t ≤ mostTriangles
 count-few t v b e r f = count-passed t (did-pass v (countRefusal t) b e r f) .1
 
 -- ---- the lists of an image of t triangles and n nodes, as they are read
 module _ (s : List ℕ) (t n : ℕ) where
+  -- the triangles that the program reads to the front of its list are the image's
   pub triangles-read : (old new : List Float) → new ≡ over 0 (floatsIn binary32 s 20 (9 * t)) old → take (9 * t) new ≡ imageIn version1 s t n .triangles
   unfolding imageIn
   triangles-read old new e = ap (take (9 * t)) e ∙ take-over (9 * t) _ old (length-singles _ (9 * t))
 
+  -- the triangles of an image have nine numbers each
   pub triangles-long : length (imageIn version1 s t n .triangles) ≡ 9 * t
   unfolding imageIn
   triangles-long = length-singles _ (9 * t)
 
+  -- the order that the program reads to the front of its list is the image's
   pub order-read : (old new : List ℕ) → new ≡ over 0 (numbersIn 2 s (orderStart version1 t) t) old → take t new ≡ imageIn version1 s t n .order
   unfolding imageIn
   order-read old new e = ap (take t) e ∙ take-over t _ old (length-singles _ t)
 
+  -- the links that the program reads to the front of its list are the image's
   pub links-read : (old new : List ℕ) → new ≡ over 0 (many (linksIn version1 s (nodesStart version1 t)) n) old → take (3 * n) new ≡ imageIn version1 s t n .links
   unfolding imageIn
   links-read old new e = ap (take (3 * n)) e ∙ take-over (3 * n) _ old (length-many _ 3 n (length-links version1 s (nodesStart version1 t)))
 
+  -- the boxes that the program reads to the front of its list are the image's
   pub boxes-read : (old new : List Float) → new ≡ over 0 (many (sidesIn version1 s (nodesStart version1 t)) n) old → take (6 * n) new ≡ imageIn version1 s t n .boxes
   unfolding imageIn
   boxes-read old new e = ap (take (6 * n)) e ∙ take-over (6 * n) _ old (length-many _ 6 n (length-box version1 s (nodesStart version1 t)))
 
--- how many triangles an image holds
+-- an image of wrong layout counts no triangle
 pub held-none : (s : List ℕ) (at : ℕ) → laidOut (imageWants version1) s 0 ≡ wrong at → 0 ≡ triangleCount (contents s .triangles)
 unfolding contents
 held-none s at laid = rw laid (sym (count-counts _ 0 (triangles-long s 0 0)))
 
+-- an image of right layout counts the triangles of its layout
 pub held-count : (s : List ℕ) (t n : ℕ) → laidOut (imageWants version1) s 0 ≡ bodies (imageSpans version1 t n) → t ≡ triangleCount (contents s .triangles)
 held-count s t n laid = rw (contents-are s t n laid) (sym (count-counts _ t (triangles-long s t n)))
 
--- ---- the tree check says no to more nodes than a tree over the most triangles has
+-- ---- too many nodes
+-- the tree check refuses more nodes than a tree over 4,096 triangles has, so the program need not load them
 pub too-many-nodes : (triangles : List Float) (order links : List ℕ) (boxes : List Float) (nodes : ℕ) → triangleCount triangles ≤ mostTriangles → 8191 < nodes
     → refused 7 0 ≡ treeRefusal triangles order links boxes nodes
 unfolding treeRefusal
@@ -140,6 +153,7 @@ too-many-nodes triangles order links boxes nodes few many = go (accepted (boxAt 
 
 -- ---- what passed
 module _ (triangles : List Float) (points : List ℕ) where
+  -- what passed before the tree is loaded has good triangles, and room for an answer a point
   pub early-passed : (settings : Settings) (room : ℕ) → earlyRefusal triangles settings (room / 24) (length points / 12) ≡ passes → Ready triangles points room
   unfolding earlyRefusal
   early-passed settings room e =
@@ -147,6 +161,7 @@ module _ (triangles : List Float) (points : List ℕ) where
       let enough : length points / 12 ≤ room / 24 = room-passed _ _ (p .1 .1 .0) in
       record { triangles-good = triangles-passed triangles (p .0); room-enough = omega arith }
 
+  -- what passed after the tree is loaded has a tree that can be searched, and good points
   pub late-passed : (order links : List ℕ) (boxes : List Float) (nodes : ℕ) (distance : Float) → GoodTriangles triangles → lateRefusal triangles order links boxes nodes points distance ≡ passes
       → Searchable triangles order links boxes nodes × GoodPoints (numbersOf points)
   unfolding lateRefusal treeRefusal
@@ -154,22 +169,26 @@ module _ (triangles : List Float) (points : List ℕ) where
       let p = all-pass _ e in
       (record { triangles-good = good; tree-accepted = so _ _ _ (p .0) }, point-bytes-passed points (p .1 .0))
 
+  -- what passed the winding call's tests has room for a number a point
   pub wound-passed : (room : ℕ) → woundRefusal triangles points room ≡ passes → 4 * (length points / 12) ≤ room
   unfolding woundRefusal
   wound-passed room e =
       let enough : length points / 12 ≤ room / 4 = room-passed _ _ (all-pass _ e .1 .0) in
       omega arith
 
--- ---- the tests before the tree is loaded, and those behind
+-- ---- the tests before the tree is loaded, and those after it
 module _ (x : Image) (points : List ℕ) (distance : Float) (room : ℕ) (v : Verdict) (b : Bool) (is : v ≡ earlyRefusal (x .triangles) (x .settings) (room / 24) (length points / 12)) (told : b ≡ refuses v) where
+  -- a refusal before the tree is loaded is the call's refusal
   pub early-stops : b ≡ true → v ≡ askedRefusal x points distance room
   unfolding earlyRefusal askedRefusal
   early-stops t = row-stops v _ (treeIn x ∷ pointBytesRefusal points ∷ distanceRefusal distance ∷ []) b is told t
 
+  -- where the tests before it passed, those after the tree is loaded decide
   pub late-decides : b ≡ false → (rest : Verdict) → rest ≡ lateIn x points distance → rest ≡ askedRefusal x points distance room
   unfolding earlyRefusal lateRefusal askedRefusal
   late-decides f rest e = row-goes-on v _ (treeIn x ∷ pointBytesRefusal points ∷ distanceRefusal distance ∷ []) b is told f rest e
 
+  -- where the tests before it passed, a refusal of the tree is the call's refusal
   pub tree-stops : b ≡ false → refused 7 0 ≡ treeIn x → refused 7 0 ≡ askedRefusal x points distance room
   unfolding lateRefusal
   tree-stops f e = late-decides f (refused 7 0) (stops (refused 7 0) (treeIn x) (pointBytesRefusal points ∷ distanceRefusal distance ∷ []) true e refl refl)
@@ -187,6 +206,7 @@ drop-passed passes passes (refused n p) d = refl
 drop-passed passes passes passes (refused n p) = refl
 drop-passed passes passes passes passes = refl
 
+-- the check of an image is a query at no points, so one function serves both
 pub check-asks-nothing : (image : List ℕ) → queryVerdict image [] zero 1 ≡ checkVerdict image
 unfolding queryVerdict checkVerdict askedRefusal checkedRefusal roomRefusal distanceRefusal isDistance le
 check-asks-nothing image = rw none-passes (drop-passed (layoutRefusal image) (trianglesRefusal (contents image .triangles)) (settingsRefusal (contents image .settings)) (treeIn (contents image)))

@@ -1,4 +1,4 @@
--- Every verdict of the calls can be told in one number. Assumes nothing.
+-- Every verdict of the calls can be encoded in the status: no place is too large for the bits that it has there.
 use mathlib.Core.Path.{_≡_, refl, sym}
 use mathlib.Core.Bool.{Bool, true, false, cond, not, true≢false}
 use mathlib.Core.List.{List, []}
@@ -55,7 +55,7 @@ near-one kind test next s at h k = go (isRight kind test s at) (laidOut (next (b
     go true (bodies spans) k = tt
     go false l k = near at h
 
-pub layout-told : (s : List ℕ) → Bytes s → InPlace (layoutRefusal s)
+layout-told : (s : List ℕ) → Bytes s → InPlace (layoutRefusal s)
 unfolding layoutRefusal
 layout-told s ok =
     let a = size-below s 0 ok in
@@ -71,7 +71,7 @@ layout-told s ok =
     (near-one _ _ _ s fourth (omega arith) (near-done s (fourth + 6 + sizeAt s fourth) (omega arith)))))
 
 -- ---- points and the tree
-pub point-bytes-told : (s : List ℕ) → length s < 2 ^ 63 → InPlace (pointBytesRefusal s)
+point-bytes-told : (s : List ℕ) → length s < 2 ^ 63 → InPlace (pointBytesRefusal s)
 unfolding pointBytesRefusal coordinateRefusal
 point-bytes-told s h =
     then-test (refusedIf (not (eqb (length s % 12) 0)) 8 (length s)) _
@@ -87,6 +87,7 @@ tree-told x = at-zero (not (accepted _ _ (x .order) (x .links) (x .boxes) (x .no
 
 -- ---- the calls
 module _ (image points : List ℕ) (ok : Bytes image) (fits : length points < 2 ^ 63) (room : ℕ) where
+  -- every verdict of a query can be encoded in the status
   pub query-told : (distance : Float) → InPlace (queryVerdict image points distance room)
   unfolding queryVerdict askedRefusal
   query-told distance =
@@ -100,6 +101,7 @@ module _ (image points : List ℕ) (ok : Bytes image) (fits : length points < 2 
       (λ _. then-test _ _ (distance-told distance) (λ _. no-test)))))))
       (λ _. no-test))
 
+  -- every verdict of the winding call can be encoded in the status
   pub winding-told : InPlace (windingVerdict image points room)
   unfolding windingVerdict woundRefusal
   winding-told =
@@ -110,11 +112,13 @@ module _ (image points : List ℕ) (ok : Bytes image) (fits : length points < 2 
       (λ _. then-test _ _ (point-bytes-told points fits) (λ _. no-test))))
       (λ _. no-test))
 
--- ---- a refusal is told whatever the count, and what is done tells the count
+-- ---- the status by the verdict
+-- the status of a refusal is the same whatever the count
 pub told-refused : (v : Verdict) (a b : ℕ) → refuses v ≡ true → told v a ≡ told v b
 told-refused (refused number place) a b h = refl
 told-refused passes a b h = absurd (true≢false (sym h))
 
+-- the status of a call that is done is its count
 pub told-done : (v : Verdict) (count : ℕ) → refuses v ≡ false → count ≡ told v count
 told-done passes count h = refl
 told-done (refused number place) count h = absurd (true≢false h)

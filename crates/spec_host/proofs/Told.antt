@@ -1,4 +1,4 @@
--- What a call tells is read back, number, place and count; and verdicts that can be told. Assumes nothing.
+-- The status of a call is decoded without loss, number, place and count; and which verdicts can be encoded in it.
 use mathlib.Core.Path.{_≡_, refl, sym, ap, _∙_}
 use mathlib.Core.Bool.{Bool, true, false, cond, not}
 use mathlib.Core.List.{List, [], _∷_}
@@ -15,7 +15,7 @@ use Rattle.spec_lists.specs.Refusals.{Verdict, passes, refused, firstRefusal, r
 use Rattle.spec_lists.proofs.Verdicts.{not-refused}
 use Rattle.spec_host.specs.Told.{told, toldRefusal, numberTold, placeTold, countTold, Placed, InPlace, Tellable, Heard}
 
--- ---- read back
+-- ---- decoding
 heard-8 : (place : ℕ) → place < 2 ^ 63 → (numberTold (2 ^ 63 + place) ≡ 8) × (placeTold (2 ^ 63 + place) ≡ place)
 unfolding numberTold placeTold
 heard-8 place h =
@@ -45,7 +45,7 @@ told-refusal number place ok = go (eqb number 8) refl
         let near : place < 2 ^ 56 = rw e at (ok .near) in
         rw e (heard-other number place (ok .most) near)
 
--- neither number nor place nor count is lost
+-- the status loses nothing: number, place and count are decoded as they were encoded
 pub told-heard : (v : Verdict) (count : ℕ) → Tellable v count → Heard v count (told v count)
 unfolding numberTold countTold
 told-heard passes count ok =
@@ -53,12 +53,13 @@ told-heard passes count ok =
     (rw (low, div-eq-of-lt (ok .counted)), mod-eq-of-lt (ok .counted))
 told-heard (refused number place) count ok = told-refusal number place (ok .verdict)
 
--- the count matters only where all passed
+-- a refusal is decoded without loss whatever the count, which matters only where all passed
 pub heard : (v : Verdict) (count : ℕ) → InPlace v → (v ≡ passes → count < 2 ^ 56) → Heard v count (told v count)
 heard passes count place few = told-heard passes count (record { verdict = tt; counted = few refl })
 heard (refused number place) count ok few = told-refusal number place ok
 
--- ---- verdicts that can be told
+-- ---- verdicts that can be encoded
+-- a refusal at place 0 can be encoded
 pub at-zero : (b : Bool) (number : ℕ) → 1 ≤ number → number ≤ 10 → InPlace (refusedIf b number 0)
 at-zero true number s m = record { some = s; most = m; near = go (eqb number 8) }
   where
@@ -67,21 +68,23 @@ at-zero true number s m = record { some = s; most = m; near = go (eqb number 8) 
     go false = omega arith
 at-zero false number s m = tt
 
+-- a row of no tests passes, which can be encoded
 pub no-test : InPlace (firstRefusal [])
 unfolding firstRefusal
 no-test = tt
 
--- a test can be told, and the rest can where it passed
+-- a row of tests can be encoded where its first can, and the rest can once that passed
 pub then-test : (test : Verdict) (tests : List Verdict) → InPlace test → (test ≡ passes → InPlace (firstRefusal tests)) → InPlace (firstRefusal (test ∷ tests))
 unfolding firstRefusal
 then-test passes tests h k = k refl
 then-test (refused number place) tests h k = h
 
+-- a test can be encoded where its place is in range whenever it refuses
 abbrev pub placed : (b : Bool) (number place : ℕ) → (b ≡ true → Placed number place) → InPlace (refusedIf b number place)
 placed true number place h = h refl
 placed false number place h = tt
 
--- the tests of a triangle list: a bad coordinate is looked for only in a list that is short enough
+-- the tests of a triangle list can be encoded: a bad coordinate is looked for only in a list that is short enough
 pub triangles-told : (xs : List Float) → InPlace (trianglesRefusal xs)
 unfolding trianglesRefusal raggedRefusal noneRefusal tooManyRefusal coordinateRefusal triangleCount
 triangles-told xs =
@@ -97,14 +100,17 @@ triangles-told xs =
       near = omega (arith, ltb-true (firstBad xs) (length xs) e, ltb-false mostTriangles (length xs / 9) (not-refused (ltb mostTriangles (triangleCount xs)) 3 0 few));
     }
 
+-- the test of the settings can be encoded
 pub settings-told : (s : Settings) → InPlace (settingsRefusal s)
 unfolding settingsRefusal
 settings-told s = at-zero (not (areSettings s)) 5 (omega arith) (omega arith)
 
+-- the test of the room can be encoded
 pub room-told : (given need : ℕ) → InPlace (roomRefusal given need)
 unfolding roomRefusal
 room-told given need = at-zero (ltb given need) 6 (omega arith) (omega arith)
 
+-- the test of the distance can be encoded
 pub distance-told : (d : Float) → InPlace (distanceRefusal d)
 unfolding distanceRefusal
 distance-told d = at-zero (not (isDistance d)) 9 (omega arith) (omega arith)

@@ -1,4 +1,4 @@
--- Building an image for a C host, from the bytes of a triangle list: which call is refused, and what the image's bytes hold afterwards. Definitions only.
+-- Building an image for a C host, from the bytes of a triangle list: which call is refused, and what the image's bytes hold afterwards.
 use Prim.Native.Nat.{ℕ, _/_, _%_, _^_, _<_}
 use mathlib.Core.Path.{_≡_}
 use mathlib.Core.Bool.{not, cond, _&&_}
@@ -19,7 +19,7 @@ use Rattle.spec_image.specs.Stored.{Complete}
 use Rattle.spec_image.specs.Writing.{exactSize}
 use Rattle.spec_host.specs.Told.{told}
 
--- how large an image of so many triangles is at most; 0 where there is none
+-- the maximum size of an image of n triangles, by which a host lends room; 0 where there is no such image
 unfoldable pub imageMost : ℕ → ℕ
 imageMost n = cond (leb 1 n && leb n mostTriangles) (imageSize version1 n (mostNodes n)) 0
 
@@ -42,24 +42,25 @@ imageOver triangles s t = record {
   boxes = boxesOf (boxAt triangles) t;
 }
 
--- of the tree that is built
+-- the image of the tree that is built
 abbrev pub builtImage : List Float → Settings → Image
 builtImage triangles s = imageOver triangles s (builtTree binary32 triangles s)
 
--- 1 to 6 of a triangle list, into so many bytes
+-- 1 to 6 of a triangle list, into `given` bytes
 unfoldable pub listRefusal : List Float → Settings → (given : ℕ) → Verdict
 listRefusal triangles s given = firstRefusal (trianglesRefusal triangles ∷ settingsRefusal s ∷ roomRefusal given (exactSize version1 (builtImage triangles s)) ∷ [])
 
--- 1 by the bytes, then those of the list
+-- 1 by the bytes, then the refusals of the list that they hold
 unfoldable pub bytesRefusal : List ℕ → Settings → (given : ℕ) → Verdict
 bytesRefusal s settings given = firstRefusal (raggedBytes s ∷ listRefusal (numbersOf s) settings given ∷ [])
 
--- what a call with this verdict tells, and what the lent bytes hold afterwards: the image from the front, and what was behind it; on a refusal what they held
+-- the contract of a call with this verdict: its status, and the lent bytes afterwards
+-- they hold the image at the front and what was there behind it; on a refusal what they held
 pub record ImagePut (v : Verdict) (x : Image) (old : List ℕ) (answer : ℕ) (new : List ℕ) : Type 0 where
   pub told-is : answer ≡ told v (exactSize version1 x)
   pub bytes-are : new ≡ afterVerdict v (over 0 (imageBytes version1 x) old) old
 
--- ---- what putting an image asks
+-- ---- needs of putting an image
 pub record Puttable (x : Image) : Type 0 where
   pub complete : Complete x
   pub counted : length (x .order) ≡ triangleCount (x .triangles)

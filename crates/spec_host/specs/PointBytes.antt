@@ -1,4 +1,4 @@
--- Points as bytes, twelve a point, and what is answered at them as bytes. Definitions only.
+-- Points as bytes, twelve a point, and the answers at them as bytes: what a C host lends and reads.
 use Prim.Native.Nat.{ℕ, _%_}
 use mathlib.Core.Bool.{not}
 use mathlib.Core.List.{List, [], _∷_}
@@ -31,6 +31,7 @@ answerBytes answer points = wordBytes (answerWords binary32 answer (numbersOf po
 unfoldable pub windings : (triangles points : List Float) → List Float
 windings triangles points = many (λ k. windingAt binary32 triangles points k ∷ []) (pointCount points)
 
+-- the winding numbers as bytes, four each
 unfoldable pub windingBytes : (triangles : List Float) (points : List ℕ) → List ℕ
 windingBytes triangles points = floatBytes binary32 (windings triangles (numbersOf points)) 0 (pointCount (numbersOf points))
 

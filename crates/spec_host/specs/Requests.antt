@@ -1,4 +1,4 @@
--- The calls over an image's bytes and point bytes: what they refuse, in the words of the list calls on what the image holds. Definitions only.
+-- The calls over an image's bytes and point bytes: what they refuse, in the words of the list calls on what the image holds.
 use Prim.Native.Nat.{ℕ, _/_}
 use mathlib.Core.List.{List, [], _∷_}
 use lib.ListN.{length}
@@ -23,7 +23,7 @@ layoutBy (bodies spans) = passes
 unfoldable pub layoutRefusal : (image : List ℕ) → Verdict
 layoutRefusal image = layoutBy (laidOut (imageWants version1) image 0)
 
--- what an image holds; of one that is laid out wrong nothing is asked
+-- what an image holds; of one that is laid out wrong nothing is used
 abbrev pub contentsBy : (image : List ℕ) → Layout → Image
 contentsBy image (wrong at) = imageIn version1 image 0 0
 contentsBy image (bodies spans) = imageIn version1 image (sizeOf spans 1 / triangleSize version1) (sizeOf spans 3 / nodeSize version1)
@@ -31,7 +31,7 @@ contentsBy image (bodies spans) = imageIn version1 image (sizeOf spans 1 / trian
 unfoldable pub contents : (image : List ℕ) → Image
 contents image = contentsBy image (laidOut (imageWants version1) image 0)
 
--- 7: the tree check says no
+-- 7: the tree check refuses
 abbrev pub treeIn : Image → Verdict
 treeIn x = treeRefusal (x .triangles) (x .order) (x .links) (x .boxes) (x .nodes)
 

@@ -1,4 +1,4 @@
--- The one number that an exported call answers: done, with a count, or a refusal's number and place. Definitions only.
+-- The status, the one number that an exported call answers: done, with a count, or a refusal's number and place.
 use Prim.Native.Nat.{ℕ, _+_, _*_, _-_, _/_, _%_, _^_, _≤_, _<_}
 use mathlib.Core.Path.{_≡_}
 use mathlib.Core.Bool.{cond}
@@ -9,23 +9,26 @@ use Rattle.spec_lists.specs.Refusals.{Verdict, passes, refused}
 unfoldable pub toldRefusal : (number place : ℕ) → ℕ
 toldRefusal number place = cond (eqb number 8) (2 ^ 63 + place) (number * 2 ^ 56 + place)
 
+-- a call that is done answers its count
 abbrev pub told : Verdict → (count : ℕ) → ℕ
 told passes count = count
 told (refused number place) count = toldRefusal number place
 
--- ---- how a host reads it
--- 0: done
+-- ---- how a host decodes it
+-- the refusal's number; 0 where the call is done
 unfoldable pub numberTold : ℕ → ℕ
 numberTold n = cond (leb (2 ^ 63) n) 8 (n / 2 ^ 56)
 
+-- the refusal's place
 unfoldable pub placeTold : ℕ → ℕ
 placeTold n = cond (leb (2 ^ 63) n) (n - 2 ^ 63) (n % 2 ^ 56)
 
--- where it is done
+-- the count, where the call is done
 unfoldable pub countTold : ℕ → ℕ
 countTold n = n % 2 ^ 56
 
--- ---- what can be told
+-- ---- what can be encoded
+-- the places of a refusal with this number stay below this limit
 abbrev pub placesOf : (number : ℕ) → ℕ
 placesOf number = cond (eqb number 8) (2 ^ 63) (2 ^ 56)
 
@@ -38,11 +41,12 @@ abbrev pub InPlace : Verdict → Type 0
 InPlace passes = Unit {0}
 InPlace (refused number place) = Placed number place
 
+-- the verdict's place and the count have bits enough in the status
 pub record Tellable (v : Verdict) (count : ℕ) : Type 0 where
   pub verdict : InPlace v
   pub counted : count < 2 ^ 56
 
--- ---- what is read back is what was told
+-- ---- what is decoded is what was encoded
 abbrev pub Heard : Verdict → (count : ℕ) → ℕ → Type 0
 Heard passes count n = (numberTold n ≡ 0) × (countTold n ≡ count)
 Heard (refused number place) count n = (numberTold n ≡ number) × (placeTold n ≡ place)
