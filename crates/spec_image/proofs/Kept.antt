@@ -1,4 +1,4 @@
--- What the writer accepts is kept: it reads back equal, and an image whose contents the writer accepts is written back byte for byte. Assumes nothing.
+-- What the writer accepts is kept: it reads back equal, and an image whose contents the writer accepts is written back byte for byte.
 use mathlib.Core.Path.{_≡_, refl, sym, ap, _∙_, subst}
 use mathlib.Core.Bool.{Bool, true, false, cond}
 use mathlib.Core.List.{List}
@@ -37,7 +37,7 @@ use Rattle.spec_image.proofs.Writing.{Good, good-count, good-complete, 
 use Rattle.spec_image.proofs.Written.{written-read, written-holds}
 use Rattle.spec_image.proofs.Rewritten.{rewritten}
 
--- floats that are read are of the format
+-- floats that are read are values of the format, so they can be written again
 pub floats-fit : (s : List ℕ) (start n : ℕ) → AllFit binary32 (floatsIn binary32 s start n)
 floats-fit s start n i h =
     rw (getD-many nan (λ (j : ℕ). ofBits binary32 (littleAt 4 s (start + 4 * j))) n i (omega (arith, length-singles (λ (j : ℕ). ofBits binary32 (littleAt 4 s (start + 4 * j))) n)))
@@ -65,7 +65,7 @@ module _ (x : Image) (g : Good x) (fit : AllFit binary32 (x .triangles)) where
       each-taken (Plain binary32) nan (6 * x .nodes) (x .boxes) (boxesOf (boxAt (x .triangles)) t) (l .boxes-are) long
       (boxes-plain binary32 (boxAt (x .triangles)) t (l .filled) (subst (Each (λ (k : ℕ). PlainBox binary32 (boxAt (x .triangles) k))) (l .order-is) plains)) i h
 
-  pub good-storable : Storable version1 x
+  good-storable : Storable version1 x
   good-storable =
       let count = good-count x g in
       let few = g .triangles .few in
@@ -86,27 +86,30 @@ module _ (x : Image) (g : Good x) (fit : AllFit binary32 (x .triangles)) where
         fewNodes = omega (arith, good-nodes x g);
       }
 
--- ---- what is written stands at the front of the lent bytes
+-- ---- written
+-- what the writer accepts stands, as an image, at the front of the lent bytes
 pub written-front : (x : Image) (out : List ℕ) → writeRefusal version1 x (length out) ≡ passes → take (exactSize version1 x) (bytesAfter version1 x out) ≡ imageBytes version1 x
 unfolding bytesAfter
 written-front x out accepted =
     let good = write-passed version1 x (length out) accepted .0 in
     rw accepted (take-over (exactSize version1 x) (imageBytes version1 x) out (length-image version1 x (good-complete x good) ∙ ap (λ (k : ℕ). imageSize version1 k (x .nodes)) (good-count x good)))
 
--- ---- and reads back equal
+-- ---- written, then read
 module _ (x : Image) (given : ℕ) (fit : AllFit binary32 (x .triangles)) (accepted : writeRefusal version1 x given ≡ passes) where
   good : Good x
   good = write-passed version1 x given accepted .0
 
+  -- the image of what the writer accepts reads back equal
   pub written-back : imageIn version1 (imageBytes version1 x) (triangleCount (x .triangles)) (x .nodes) ≡ used x
   written-back = ap (λ (k : ℕ). imageIn version1 (imageBytes version1 x) k (x .nodes)) (sym (good-count x good)) ∙ written-read version1 x (good-storable x good fit)
 
+  -- reading the image answers the settings and counts that were written, where there is room
   pub written-held : (r : Rooms) → roomFor r (triangleCount (x .triangles)) (x .nodes) ≡ true → imageRead version1 (imageBytes version1 x) r ≡ holds (x .settings) (triangleCount (x .triangles)) (x .nodes)
   written-held r room =
       subst (λ (k : ℕ). roomFor r k (x .nodes) ≡ true → imageRead version1 (imageBytes version1 x) r ≡ holds (x .settings) k (x .nodes)) (good-count x good)
       (written-holds version1 x (good-storable x good fit) r) room
 
--- ---- a layout is wrong somewhere, or right for so many triangles and nodes
+-- ---- a layout is wrong somewhere, or right for t triangles and n nodes
 data Laid (s : List ℕ) : Type 0 where
   off : (at : ℕ) → laidOut (imageWants version1) s 0 ≡ wrong at → Laid s
   right : (t n : ℕ) → laidOut (imageWants version1) s 0 ≡ bodies (imageSpans version1 t n) → Laid s
@@ -172,7 +175,7 @@ read-laid s r settings t n e = go (laid s)
         let same = held-counts (roomFor r (36 * t′ / 36) (30 * n′ / 30)) (settingsIn s) settings t n (36 * t′ / 36) (30 * n′ / 30) k in
         w ∙ ap (λ (j : ℕ). bodies (imageSpans version1 j n′)) (sym a ∙ same .0) ∙ ap (λ (j : ℕ). bodies (imageSpans version1 t j)) (sym b ∙ same .1)
 
--- ---- an image whose contents the writer accepts is written back byte for byte
+-- ---- read, then written
 module _ (s : List ℕ) (ok : Bytes s) (r : Rooms) (settings : Settings) (t n : ℕ) (read : imageRead version1 s r ≡ holds settings t n) (given : ℕ)
     (accepted : writeRefusal version1 (imageIn version1 s t n) given ≡ passes) where
   held : Good (imageIn version1 s t n)
@@ -193,5 +196,6 @@ module _ (s : List ℕ) (ok : Bytes s) (r : Rooms) (settings : Settings) (t n : 
   unfolding imageIn
   bound-number i h = box-plain (imageIn version1 s t n) held numbers-fit i h .number
 
+  -- an image whose contents the writer accepts is written back byte for byte
   pub read-back : imageBytes version1 (imageIn version1 s t n) ≡ s
   read-back = rewritten s ok version1 t n (read-laid s r settings t n read) corner-number bound-number

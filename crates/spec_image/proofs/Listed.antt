@@ -1,4 +1,4 @@
--- What stands in the listing of a tree: links that are small numbers, and boxes of plain numbers. Assumes nothing.
+-- What stands in the listing of a tree: links that are small numbers, and boxes of plain numbers. So a listing fits the bytes of an image.
 use mathlib.Core.Path.{_≡_, sym, ap, _∙_, subst}
 use mathlib.Core.List.{List, [], _∷_, _++_}
 use Prim.Native.Nat.{ℕ, zero, suc, _+_, _≤_, _<_}
@@ -15,7 +15,8 @@ use Rattle.spec_shapes.proofs.Plain.{union-plain}
 use Rattle.spec_tree.specs.Trees.{Tree, leaf, branch, numbers, nodeCount, Filled, joinedTo, joined, boxOver, sixOf, linksFrom, boxesOf}
 use Rattle.spec_tree.proofs.Trees.{root-last}
 
--- ---- each element of a list
+-- ---- lists, element by element
+-- the property holds of each element
 abbrev pub Each : {A : Type 0} → (A → Type 0) → List A → Type 0
 Each P [] = Unit {0}
 Each P (x ∷ xs) = P x × Each P xs
@@ -41,15 +42,17 @@ module _ {A : Type 0} (P : A → Type 0) where
   each-at d (x ∷ xs) zero l h = h .0
   each-at d (x ∷ xs) (suc i) l h = each-at d xs i (le-of-suc-le-suc l) (h .1)
 
+  -- what holds at every place holds of each element
   pub each-by-place : (d : A) (xs : List A) → ((i : ℕ) → i < length xs → P (getD xs i d)) → Each P xs
   each-by-place d [] h = tt
   each-by-place d (x ∷ xs) h = (h 0 (omega arith), each-by-place d xs (λ i l. h (suc i) (omega arith)))
 
-  -- of a list whose first n elements are these
+  -- what holds of each element holds at the places of a list that begins with them
   pub each-taken : (d : A) (n : ℕ) (l xs : List A) → take n l ≡ xs → length xs ≡ n → Each P xs → (i : ℕ) → i < n → P (getD l i d)
   each-taken d n l xs e long h i k = subst P (ap (λ (ys : List A). getD ys i d) (sym e) ∙ getD-take n l i d k) (each-at d xs i (omega arith) h)
 
 -- ---- the links: a kind, and entries of the order list or nodes
+-- no link reaches a bound on the tree's nodes and entries, so links fit their bytes
 pub links-below : (most node entry : ℕ) (t : Tree) → 2 < most → node + nodeCount t ≤ most → entry + length (numbers t) < most → Each (λ (n : ℕ). n < most) (linksFrom node entry t)
 unfolding linksFrom nodeCount numbers
 links-below most node entry (leaf part) two nodes entries = (omega arith, (omega arith, (entries, tt)))
@@ -86,6 +89,7 @@ module _ (f : Format) (boxAt : ℕ → Box) where
   six-plain : (b : Box) → PlainBox f b → Each (Plain f) (sixOf b)
   six-plain b p = (p .min X, (p .min Y, (p .min Z, (p .max X, (p .max Y, (p .max Z, tt))))))
 
+  -- the boxes of a tree are plain where its triangles' boxes are, so the format holds their numbers
   pub boxes-plain : (t : Tree) → Filled t → Plains (numbers t) → Each (Plain f) (boxesOf boxAt t)
   unfolding boxesOf numbers
   boxes-plain (leaf part) some h = six-plain _ (joined-plain part some h)

@@ -1,4 +1,4 @@
--- An image that was read is written back byte for byte, where no float in it is a NaN. Assumes nothing.
+-- An image that was read is written back byte for byte, where no float in it is a NaN: a NaN is read from many patterns, and written as one.
 use mathlib.Core.Path.{_≡_, refl, sym, ap, _∙_, subst}
 use mathlib.Core.List.{List, _++_, append-assoc}
 use Prim.Native.Nat.{ℕ, _+_, _*_, _≤_, _<_}

@@ -1,4 +1,4 @@
--- How long the parts of an image are, and what the layout of an image says of the numbers in it. Assumes nothing.
+-- How long the records of an image are, so that each is found behind the one before it, and what a right layout says of the numbers in the image.
 use mathlib.Core.Path.{_≡_, sym, _∙_}
 use mathlib.Core.List.{List, []}
 use Prim.Native.Nat.{ℕ, _+_, _*_, _/_, _≤_}
@@ -22,10 +22,12 @@ use Rattle.spec_image.specs.Image.{Image, settingsBytes, nodeBytes, tria
 use Rattle.spec_image.specs.Stored.{Complete, ImageIs}
 
 -- ---- of what is written
+-- the body of the settings has eight bytes
 pub length-settings : (sh : Shape) (x : Settings) → length (settingsBytes sh x) ≡ 8
 unfolding settingsBytes
 length-settings sh x = simp (length-append, length-little)
 
+-- the bytes of a node are as many as the shape says
 pub length-node : (sh : Shape) (links : List ℕ) (boxes : List Float) (i : ℕ) → length (nodeBytes sh links boxes i) ≡ nodeSize sh
 unfolding nodeBytes
 length-node sh links boxes i =
@@ -35,31 +37,38 @@ module _ (sh : Shape) (x : Image) where
   nine : (w n t : ℕ) → n ≡ 9 * t → w * n ≡ 9 * w * t
   nine w n t e = rw e (omega arith)
 
+  -- the body of the triangles is as long as the layout wants it
   pub length-triangles : Complete x → length (trianglesBody sh x) ≡ triangleSize sh * length (x .order)
   length-triangles ok =
       length-floats (sh .float) (x .triangles) 0 (length (x .triangles)) ∙ nine (floatSize (sh .float)) (length (x .triangles)) (length (x .order)) (ok .triples)
 
+  -- the body of the order is as long as the layout wants it
   pub length-order : length (orderBody sh x) ≡ sh .entry * length (x .order)
   length-order = length-numbers (sh .entry) (x .order) 0 (length (x .order))
 
+  -- the body of the nodes is as long as the layout wants it
   pub length-nodes : length (nodesBody sh x) ≡ nodeSize sh * x .nodes
   length-nodes = length-many (nodeBytes sh (x .links) (x .boxes)) (nodeSize sh) (x .nodes) (length-node sh (x .links) (x .boxes))
 
+  -- an image has exactly the size that the writer asks room for
   pub length-image : Complete x → length (imageBytes sh x) ≡ imageSize sh (length (x .order)) (x .nodes)
   unfolding imageBytes
   length-image ok =
       simp (length-append, length-record, length-settings, length-triangles ok, length-order, length-nodes) (omega arith)
 
 -- ---- of what is read
+-- a node that is read gives three links
 pub length-links : (sh : Shape) (s : List ℕ) (start i : ℕ) → length (linksIn sh s start i) ≡ 3
 unfolding linksIn
 length-links sh s start i = simp (length-append, length-singles)
 
+-- a node that is read gives the six numbers of its box
 pub length-box : (sh : Shape) (s : List ℕ) (start i : ℕ) → length (sidesIn sh s start i) ≡ 6
 unfolding sidesIn
 length-box sh s start i = length-singles _ 6
 
 -- ---- of a layout
+-- a right layout fixes the sizes, kinds, version and length of an image
 pub image-is : (sh : Shape) (s : List ℕ) (t n : ℕ) → laidOut (imageWants sh) s 0 ≡ bodies (imageSpans sh t n) → ImageIs sh s t n
 unfolding imageSpans
 image-is sh s t n e =

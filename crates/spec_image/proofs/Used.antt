@@ -1,4 +1,4 @@
--- The bytes of an image depend on the links and boxes of its nodes alone, whatever stands behind them in the lent lists. Assumes nothing.
+-- The bytes of an image depend on the links and boxes of its nodes alone, whatever stands behind them in the lent lists.
 use mathlib.Core.Path.{_≡_, sym, ap, _∙_}
 use mathlib.Core.List.{List}
 use Prim.Native.Nat.{ℕ, _+_, _*_, _≤_, _<_}

@@ -1,4 +1,4 @@
--- What the writer's tests give where they pass. Assumes nothing.
+-- What the writer's tests give where they pass, and that they pass exactly where the lists are good and there is room.
 use mathlib.Core.Path.{_≡_, sym, ap, _∙_}
 use mathlib.Core.Bool.{Bool, true}
 use Prim.Native.Nat.{ℕ, _+_, _*_, _≤_}
@@ -29,9 +29,11 @@ module _ (x : Image) (g : Good x) where
   abbrev n : ℕ
   n = triangleCount (x .triangles)
 
+  -- good lists have an order entry a triangle
   pub good-count : length (x .order) ≡ n
   good-count = permutes-length n (x .order) (g .listing .permuted)
 
+  -- good lists have every entry that is written
   pub good-complete : Complete x
   good-complete = record {
     triples = g .triangles .whole ∙ ap (λ (k : ℕ). 9 * k) (sym good-count);
@@ -39,6 +41,7 @@ module _ (x : Image) (g : Good x) where
     boxed = listing-boxes (boxAt (x .triangles)) n (x .order) (x .links) (x .boxes) (x .nodes) (g .tree) (g .listing);
   }
 
+  -- a good tree over n triangles has at most 2n - 1 nodes
   pub good-nodes : x .nodes + 1 ≤ 2 * n
   good-nodes = listing-most (boxAt (x .triangles)) n (x .order) (x .links) (x .boxes) (x .nodes) (g .tree) (g .listing)
 
@@ -47,6 +50,7 @@ module _ (sh : Shape) (x : Image) (given : ℕ) where
   abbrev isTree : Bool
   isTree = accepted (boxAt (x .triangles)) (triangleCount (x .triangles)) (x .order) (x .links) (x .boxes) (x .nodes)
 
+  -- what passed the writer's tests has good lists and room for the image
   pub write-passed : writeRefusal sh x given ≡ passes → Good x × (exactSize sh x ≤ given)
   unfolding writeRefusal treeRefusal
   write-passed e =
@@ -61,6 +65,7 @@ module _ (sh : Shape) (x : Image) (given : ℕ) where
         room-passed given (exactSize sh x) (p .1 .1 .0),
       )
 
+  -- good lists with room for the image pass the writer's tests
   pub write-passes : Good x → exactSize sh x ≤ given → writeRefusal sh x given ≡ passes
   unfolding writeRefusal treeRefusal
   write-passes g room =

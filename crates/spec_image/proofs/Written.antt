@@ -1,4 +1,5 @@
--- The bytes of an image have the right layout, and reading them gives back the settings, the triangles, the order and the links and boxes of the nodes. Assumes nothing.
+-- The bytes of an image have the right layout, and reading them gives back the settings, the triangles, the order and the links and boxes of
+-- the nodes.
 use mathlib.Core.Path.{_≡_, refl, sym, ap, _∙_, subst}
 use mathlib.Core.List.{List, [], _++_, append-assoc, append-nil}
 use mathlib.Core.Bool.{Bool, true}
@@ -204,7 +205,7 @@ module _ (sh : Shape) (x : Image) (ok : Storable sh x) where
         let room : 6 * i + 6 ≤ length (x .boxes) = omega (arith, ok .complete .boxed) in
         floats-read (sh .float) (x .boxes) (6 * i) 6 s (at + (2 + 2 * sh .entry)) _ (ok .bounds i l) room box-left
 
-  -- what was written is read
+  -- reading what was written gives back what was written
   pub written-read : imageIn sh s t (x .nodes) ≡ used x
   unfolding imageIn
   written-read =
@@ -214,7 +215,7 @@ module _ (sh : Shape) (x : Image) (ok : Storable sh x) where
       many-same (sidesIn sh s (nodesStart sh t)) (λ i. part (x .boxes) (6 * i) 6) (x .nodes) box-back ∙ many-parts 6 (x .boxes) (x .nodes) in
       λ i. record { settings = settings-back i; triangles = triangles-back i; order = order-back i; nodes = x .nodes; links = links-are i; boxes = boxes-are i }
 
-  -- so the answer is what was written, where there is room
+  -- reading what was written answers its settings and counts, where there is room
   pub written-holds : (r : Rooms) → roomFor r t (x .nodes) ≡ true → imageRead sh s r ≡ holds (x .settings) t (x .nodes)
   unfolding imageRead imageSpans
   written-holds r room =

@@ -1,4 +1,4 @@
--- The image of a tree: the bytes that are written, and the values that are read. Definitions only.
+-- The image of a tree: the bytes that are written, and the values that are read.
 -- All goes by a `Shape`: another version of the image is another shape.
 use Prim.Native.Nat.{ℕ, _+_, _*_}
 use mathlib.Core.List.{List, _++_}
@@ -11,7 +11,7 @@ use Rattle.spec_records.specs.Records.{recordOf}
 use Rattle.spec_records.specs.Layouts.{Shape, nodeSize, orderStart, nodesStart}
 use Rattle.spec_lists.specs.Refusals.{Settings}
 
--- in the lent lists: the triangles, the order, and of the first `nodes` nodes three links and six numbers each
+-- what an image is written from, in lent lists: of the first `nodes` nodes three links and six numbers each
 pub record Image : Type 0 where
   pub settings : Settings
   pub triangles : List Float
@@ -21,6 +21,7 @@ pub record Image : Type 0 where
   pub boxes : List Float
 
 -- ---- the bytes of an image
+-- the version stands in front of the settings, so that a reader sees it first
 unfoldable pub settingsBytes : Shape → Settings → List ℕ
 settingsBytes sh s = little 2 (sh .version) ++ little 2 (s .strategy) ++ little 2 (s .leafMinimum) ++ little 2 (s .maximumDepth)
 
@@ -38,21 +39,25 @@ orderBody sh x = numberBytes (sh .entry) (x .order) 0 (length (x .order))
 abbrev pub nodesBody : Shape → Image → List ℕ
 nodesBody sh x = many (nodeBytes sh (x .links) (x .boxes)) (x .nodes)
 
+-- the four records, one behind the other
 unfoldable pub imageBytes : Shape → Image → List ℕ
 imageBytes sh x =
     recordOf 1 (settingsBytes sh (x .settings)) ++ recordOf 2 (trianglesBody sh x) ++ recordOf 3 (orderBody sh x) ++ recordOf 4 (nodesBody sh x)
 
 -- ---- what an image of t triangles and n nodes holds
+-- the settings' record is the first, so its numbers stand at fixed places
 unfoldable pub settingsIn : List ℕ → Settings
 settingsIn s = record { strategy = littleAt 2 s 8; leafMinimum = littleAt 2 s 10; maximumDepth = littleAt 2 s 12 }
 
--- of the nodes that stand from start on, node i
+-- kind, left and right of node i, of the nodes that stand from start on
 unfoldable pub linksIn : Shape → List ℕ → ℕ → ℕ → List ℕ
 linksIn sh s start i = numbersIn 2 s (start + nodeSize sh * i) 1 ++ numbersIn (sh .entry) s (start + nodeSize sh * i + 2) 2
 
+-- the box of node i, behind its links
 unfoldable pub sidesIn : Shape → List ℕ → ℕ → ℕ → List Float
 sidesIn sh s start i = floatsIn (sh .float) s (start + nodeSize sh * i + (2 + 2 * sh .entry)) 6
 
+-- every record begins where the one before it ends, which the counts say
 unfoldable pub imageIn : Shape → List ℕ → ℕ → ℕ → Image
 imageIn sh s t n = record {
   settings = settingsIn s;

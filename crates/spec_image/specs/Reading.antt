@@ -1,4 +1,4 @@
--- What reading an image answers and leaves in the lent lists: layout first, then room. Definitions only.
+-- What reading an image answers and leaves in the lent lists: layout first, then room.
 use Prim.Native.Nat.{ℕ, _*_, _/_}
 use mathlib.Core.List.{List, []}
 use mathlib.Core.Bool.{Bool, cond, _&&_}
@@ -21,10 +21,11 @@ pub data ImageRead : Type 0 where
   refused : (number place : ℕ) → ImageRead
   holds : (settings : Settings) (triangles nodes : ℕ) → ImageRead
 
+-- the lent lists have room for t triangles and n nodes
 abbrev pub roomFor : Rooms → ℕ → ℕ → Bool
 roomFor r t n = leb (9 * t) (r .triangles) && leb t (r .order) && leb (3 * n) (r .links) && leb (6 * n) (r .boxes)
 
--- of an image of t triangles and n nodes
+-- 6 where there is no room for t triangles and n nodes
 abbrev pub byRoom : List ℕ → Rooms → ℕ → ℕ → ImageRead
 byRoom s r t n = cond (roomFor r t n) (holds (settingsIn s) t n) (refused 6 0)
 
@@ -32,10 +33,12 @@ byRoom s r t n = cond (roomFor r t n) (holds (settingsIn s) t n) (refused 6 0)
 abbrev pub sizeOf : List Span → ℕ → ℕ
 sizeOf bs k = getD bs k (record { start = 0; size = 0 }) .size
 
+-- 10 where the layout is wrong, and only then the room
 abbrev pub judged : Shape → List ℕ → Rooms → Layout → ImageRead
 judged sh s r (wrong at) = refused 10 at
 judged sh s r (bodies bs) = byRoom s r (sizeOf bs 1 / triangleSize sh) (sizeOf bs 3 / nodeSize sh)
 
+-- what reading answers
 unfoldable pub imageRead : Shape → List ℕ → Rooms → ImageRead
 imageRead sh s r = judged sh s r (laidOut (imageWants sh) s 0)
 

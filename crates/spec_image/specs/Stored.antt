@@ -1,4 +1,4 @@
--- What can be written, what comes back, and what a right layout says. Definitions only.
+-- What can be written, what comes back, and what a right layout says.
 use Prim.Native.Nat.{ℕ, _+_, _*_, _^_, _≤_, _<_}
 use mathlib.Core.Path.{_≡_}
 use mathlib.Core.List.{List}

@@ -1,4 +1,4 @@
--- What writing an image answers and leaves in the lent bytes: the tests 1 to 7, then the image. Definitions only.
+-- What writing an image answers and leaves in the lent bytes: the tests 1 to 7, then the image.
 use Prim.Native.Nat.{ℕ}
 use mathlib.Core.List.{List, [], _∷_}
 use lib.ListN.{length}
@@ -14,7 +14,7 @@ use Rattle.spec_image.specs.Image.{Image, imageBytes}
 abbrev pub exactSize : Shape → Image → ℕ
 exactSize sh x = imageSize sh (triangleCount (x .triangles)) (x .nodes)
 
--- 1 to 7, into so many bytes
+-- 1 to 7, into `given` bytes
 unfoldable pub writeRefusal : Shape → Image → (given : ℕ) → Verdict
 writeRefusal sh x given =
     firstRefusal (trianglesRefusal (x .triangles) ∷ settingsRefusal (x .settings) ∷ roomRefusal given (exactSize sh x) ∷ treeRefusal (x .triangles) (x .order) (x .links) (x .boxes) (x .nodes) ∷ [])
@@ -24,10 +24,12 @@ pub data ImageWritten : Type 0 where
   refused : (number place : ℕ) → ImageWritten
   wrote : (bytes : ℕ) → ImageWritten
 
+-- the verdict as the writer answers it
 abbrev pub answered : Verdict → (bytes : ℕ) → ImageWritten
 answered passes bytes = wrote bytes
 answered (Refusals.refused number place) bytes = refused number place
 
+-- what writing answers
 unfoldable pub imageWritten : Shape → Image → (given : ℕ) → ImageWritten
 imageWritten sh x given = answered (writeRefusal sh x given) (exactSize sh x)
 
