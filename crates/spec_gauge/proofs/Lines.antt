@@ -1,4 +1,4 @@
--- The lines made from the numbers that a query wrote are the lines of its answers. Assumes nothing.
+-- The lines made from the words that a query wrote are the lines of its answers: the program prints from the list that the query filled.
 use mathlib.Core.Path.{_≡_, refl, sym, ap, _∙_}
 use mathlib.Core.List.{List, _++_}
 use Prim.Native.Nat.{ℕ, _+_, _*_, _<_, _≤_}
@@ -19,10 +19,12 @@ use Rattle.spec_gauge.specs.Printed.{answerLine, answerLines}
 use Rattle.spec_gauge.specs.Lines.{wordsLine}
 
 module _ (words : List ℕ) (k : ℕ) where
+  -- where the first of six words is 0, the line says that nothing was found
   pub nothing-words : getD words (6 * k) 0 ≡ 0 → nothingLine k ≡ wordsLine words k
   unfolding wordsLine
   nothing-words e = rw e
 
+  -- where the first of six words is not 0, the line shows the five behind it
   pub found-words : (triangle : ℕ) → (getD words (6 * k) 0 ≡ 0 → ⊥) → triangle ≡ getD words (6 * k + 1) 0
       → foundLine k (record {
         triangle = triangle;
@@ -40,7 +42,7 @@ module _ (words : List ℕ) (k : ℕ) where
   first : (a : Answer) → part words (6 * k) 6 ≡ sixWords binary32 a → getD words (6 * k) 0 ≡ getD (sixWords binary32 a) 0 0
   first a e = rw add-zero at (six a e 0 (omega arith))
 
-  pub words-line : (a : Answer) → part words (6 * k) 6 ≡ sixWords binary32 a → wordsLine words k ≡ answerLine k a
+  words-line : (a : Answer) → part words (6 * k) 6 ≡ sixWords binary32 a → wordsLine words k ≡ answerLine k a
   unfolding wordsLine answerLine sixWords
   words-line nothing e = rw (first nothing e)
   words-line (found h) e =
@@ -59,12 +61,13 @@ module _ (answer : Point → Answer) (points : List Float) (old words : List ℕ
   unfolding over answerWords pieces
   words-left = record { within = omega arith; left = e }
 
-  pub lines-of-words : many (wordsLine words) (pointCount points) ≡ many (λ k. answerLine k (answer (pointAt points (3 * k)))) (pointCount points)
+  lines-of-words : many (wordsLine words) (pointCount points) ≡ many (λ k. answerLine k (answer (pointAt points (3 * k)))) (pointCount points)
   unfolding pieces
   lines-of-words =
       many-same (wordsLine words) (λ k. answerLine k (answer (pointAt points (3 * k)))) (pointCount points)
       (λ k l. words-line words k (answer (pointAt points (3 * k))) (rw zero-add at (left-many pieces 6 (pointCount points) words 0 _ (λ j. six-long (answer (pointAt points (3 * j)))) words-left k l)))
 
+-- the lines made from the sure query's words are the lines of its answers, point by point
 pub sure-lines : (triangles points : List Float) (distance : Float) (old words : List ℕ) → words ≡ over 0 (answerWords binary32 (sureAnswer binary32 triangles distance) points) old
     → many (wordsLine words) (pointCount points) ≡ answerLines triangles points distance
 unfolding answerLines
@@ -78,10 +81,12 @@ pub record Lined (f : ℕ → List ℕ) (at n : ℕ) (old out : List ℕ) (next 
   pub long : length out ≡ length old
 
 module _ (f : ℕ → List ℕ) (at n : ℕ) (old : List ℕ) where
+  -- before the first turn no line is written
   pub lined-start : at ≤ length old → Lined f at n old old at 0
   unfolding many
   lined-start h = record { within = omega arith; put = put-none at old h; room = omega arith; long = refl }
 
+  -- a turn of the loop writes the next line behind the others
   pub lined-more : (mid out : List ℕ) (next end k : ℕ) → k < n → Lined f at n old mid next k → Put next (f k) mid out end → end ≤ next + 84 → Lined f at n old out end (k + 1)
   lined-more mid out next end k l r p h = record {
     within = omega arith;
@@ -90,6 +95,7 @@ module _ (f : ℕ → List ℕ) (at n : ℕ) (old : List ℕ) where
     long = put-long p ∙ r .long;
   }
 
+  -- after the last turn the lines stand one behind the other
   pub lined-end : (out : List ℕ) (next k : ℕ) → n ≤ k → Lined f at n old out next k → Put at (many f n) old out next
   lined-end out next k l r =
       let e : k ≡ n = omega (arith, r .within) in

@@ -1,4 +1,4 @@
--- What is printed, by what was found out of the input: a layout that is wrong, one that is right, tests that passed. Assumes nothing.
+-- What is printed, by what was found of the input: a layout that is wrong, one that is right, tests that passed.
 use mathlib.Core.Path.{_≡_}
 use mathlib.Core.List.{List, [], _++_}
 use mathlib.Core.Bool.{false}
@@ -16,6 +16,7 @@ use Rattle.spec_lists.proofs.Verdicts.{all-pass}
 use Rattle.spec_gauge.specs.Printed.{mostBytes, Asked, askedIn, askedRefusal, treeLine, answerLines, printedRun, printed}
 
 -- ---- the layout
+-- an input of right layout is as long as its counts say
 pub gauge-long : (s : List ℕ) (t p : ℕ) → laidOut gaugeWants s 0 ≡ bodies (gaugeSpans t p) → 36 + 36 * t + 12 * p ≡ length s
 unfolding gaugeSpans
 gauge-long s t p e =
@@ -25,6 +26,7 @@ gauge-long s t p e =
     let d = one-back 6 (exactly 4) (λ _. done) s (20 + 36 * t + 6 + 12 * p) _ _ (c .onward) in
     omega (arith, done-back s (20 + 36 * t + 6 + 12 * p + 6 + 4) [] (d .onward))
 
+-- an input over the maximum size is refused with 10 at place 0, unread
 pub too-long : (s : List ℕ) → mostBytes < length s → refusedLine 10 0 ≡ printed s
 unfolding printed
 too-long s h = rw (lt-ltb mostBytes (length s) h)
@@ -33,10 +35,12 @@ module _ (s : List ℕ) (h : length s ≤ mostBytes) where
   short : ltb mostBytes (length s) ≡ false
   short = le-ltb mostBytes (length s) h
 
+  -- a wrong layout prints its refusal, 10 at its place
   pub wrong-printed : (at : ℕ) → laidOut gaugeWants s 0 ≡ wrong at → refusedLine 10 at ≡ printed s
   unfolding printed
   wrong-printed at e = rw (short, e)
 
+  -- a right layout prints the run of the request that it holds
   pub right-printed : (t p : ℕ) → laidOut gaugeWants s 0 ≡ bodies (gaugeSpans t p) → printedRun (askedIn s t p) ≡ printed s
   unfolding printed gaugeSpans
   right-printed t p e =
@@ -45,10 +49,12 @@ module _ (s : List ℕ) (h : length s ≤ mostBytes) where
       rw (short, e, a, b)
 
 -- ---- the tests
+-- a request that is refused prints its refusal and nothing else
 pub refused-printed : (a : Asked) (number place : ℕ) → askedRefusal a ≡ refused number place → refusedLine number place ≡ printedRun a
 unfolding printedRun
 refused-printed a number place e = rw e
 
+-- a request that passed prints the tree's counts and a line a point
 pub passed-printed : (a : Asked) → askedRefusal a ≡ passes → treeLine (a .triangles) (a .settings) ++ answerLines (a .triangles) (a .points) (a .distance) ≡ printedRun a
 unfolding printedRun
 passed-printed a e = rw e
@@ -60,6 +66,7 @@ pub record AllPassed (a : Asked) : Type 0 where
   pub points : pointsRefusal (a .points) ≡ passes
   pub distance : distanceRefusal (a .distance) ≡ passes
 
+-- a request that passed has passed each of its tests
 pub all-passed : (a : Asked) → askedRefusal a ≡ passes → AllPassed a
 unfolding askedRefusal
 all-passed a e =

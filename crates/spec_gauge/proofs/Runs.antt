@@ -1,4 +1,4 @@
--- What passed the tests is built and asked without a refusal, and what is written are the lines of the run. Assumes nothing.
+-- What passed the tests is built and searched without a refusal, and what is written are the lines of the run.
 use mathlib.Core.Path.{_≡_, refl, ap, _∙_}
 use mathlib.Core.List.{List}
 use mathlib.Core.Bool.{Bool, true, false, not}
@@ -46,7 +46,7 @@ module _ (a : Asked) (passed : AllPassed a) (order links : List ℕ) (boxes : Li
         ),
       )
 
-  -- a build that refuses cannot come up
+  -- the build of a request that passed is never refused
   pub is-built : (number place : ℕ) (order′ links′ : List ℕ) (boxes′ : List Float) → BuildIs binary32 (a .triangles) (a .settings) order links boxes (notMade number place) order′ links′ boxes′ → ⊥
   is-built number place order′ links′ boxes′ b =
       let e : notMade number place ≡ made _ _ = b .answer-is ∙ ap (λ (v : Verdict). answerBy v (builtTree binary32 (a .triangles) (a .settings))) build-passes in
@@ -54,10 +54,12 @@ module _ (a : Asked) (passed : AllPassed a) (order links : List ℕ) (boxes : Li
       omega arith
 
   module _ (nodes depth : ℕ) (order′ links′ : List ℕ) (boxes′ : List Float) (b : BuildIs binary32 (a .triangles) (a .settings) order links boxes (made nodes depth) order′ links′ boxes′) where
+    -- the counts that the build answers are those of the tree's line
     pub tree-line : (count : ℕ) → count ≡ triangleCount (a .triangles) → countsLine count nodes depth ≡ treeLine (a .triangles) (a .settings)
     unfolding treeLine
     tree-line count e = rw (e, made-nodes binary32 (a .triangles) (a .settings) order links boxes order′ links′ boxes′ nodes depth b, made-depth binary32 (a .triangles) (a .settings) order links boxes order′ links′ boxes′ nodes depth b)
 
+    -- the query of the tree that was built is never refused
     pub query-passes : (count : ℕ) → count ≡ triangleCount (a .triangles) → pointCount (a .points) ≤ mostPoints → queryRefusal (a .triangles) (take count order′) links′ boxes′ nodes (a .points) (a .distance) 16380 ≡ passes
     unfolding queryRefusal treeRefusal
     query-passes count e h =
@@ -82,11 +84,13 @@ unfolding afterQuery
 is-answered triangles distance points old new v w e h n = rw (e ∙ h) at n
 
 -- ---- the lists as they are read
+-- an input up to the maximum size fits the program's lists
 pub fits : (t p : ℕ) (triangles points : List Float) (out : List ℕ) → length triangles ≡ 9 * t → length points ≡ 3 * p → 36 + 36 * t + 12 * p ≤ mostBytes → mostPrinted ≤ length out
     → Fits triangles points out
 unfolding triangleCount pointCount
 fits t p triangles points out a b h room = record { triangles-few = rw a (omega arith); points-few = rw b (omega arith); room = room }
 
+-- what the program reads into its lists is the request as defined
 pub asked-is : (s : List ℕ) (t p : ℕ) (settings : Settings) (triangles points old older : List Float) (distance : Float) → settings ≡ settingsIn s
     → triangles ≡ over 0 (floatsIn binary32 s 20 (9 * t)) old → points ≡ over 0 (floatsIn binary32 s (20 + 36 * t + 6) (3 * p)) older
     → distance ≡ ofBits binary32 (littleAt 4 s (20 + 36 * t + 6 + 12 * p + 6))

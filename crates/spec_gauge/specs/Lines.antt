@@ -1,4 +1,4 @@
--- A point's line, from the six numbers of its answer in a lent list. Definitions only.
+-- A point's line, from the six words of its answer in a lent list: what the program prints from.
 use Prim.Native.Nat.{ℕ, _+_, _*_}
 use mathlib.Core.List.{List}
 use mathlib.Core.Bool.{cond}
@@ -6,7 +6,7 @@ use lib.Dec.{eqb}
 use lib.ListN.{getD}
 use Rattle.spec_printing.specs.Printed.{foundLine, nothingLine}
 
--- the line of point k, whose six numbers start at 6 k
+-- the line of point k, whose six words start at 6 k
 unfoldable pub wordsLine : List ℕ → ℕ → List ℕ
 wordsLine words k =
     cond (eqb (getD words (6 * k) 0) 0)

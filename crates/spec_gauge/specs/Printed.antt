@@ -1,4 +1,4 @@
--- What `gauge` prints, of the bytes that came in: a refusal, or the counts and a line a point. Definitions only.
+-- What `gauge` prints, of the bytes that came in: a refusal, or the counts and a line a point.
 use Prim.Native.Nat.{ℕ, _+_, _*_, _/_, _≤_}
 use mathlib.Core.List.{List, [], _∷_, _++_}
 use mathlib.Core.Bool.{cond}
@@ -25,6 +25,7 @@ abbrev pub mostBytes : ℕ
 mostBytes = 32768
 
 -- ---- what the records hold
+-- a request: what the records of an input hold
 pub record Asked : Type 0 where
   pub settings : Settings
   pub triangles : List Float
@@ -51,6 +52,7 @@ askedRefusal a =
     ∷ [])
 
 -- ---- the lines
+-- nothing, or the triangle and the bits of point and squared distance
 unfoldable pub answerLine : ℕ → Answer → List ℕ
 answerLine k nothing = nothingLine k
 answerLine k (found h) = foundLine k (record {
@@ -77,6 +79,7 @@ abbrev pub byVerdict : Verdict → List ℕ → List ℕ
 byVerdict passes lines = lines
 byVerdict (refused number place) lines = refusedLine number place
 
+-- what is printed of a request
 unfoldable pub printedRun : Asked → List ℕ
 printedRun a =
     byVerdict (askedRefusal a)
@@ -88,18 +91,19 @@ abbrev pub byLayout : List ℕ → Layout → List ℕ
 byLayout s (wrong at) = refusedLine 10 at
 byLayout s (bodies spans) = printedRun (askedIn s (sizeOf spans 1 / 36) (sizeOf spans 2 / 12))
 
+-- what is printed of any bytes
 unfoldable pub printed : List ℕ → List ℕ
 printed s = cond (ltb mostBytes (length s)) (refusedLine 10 0) (byLayout s (laidOut gaugeWants s 0))
 
 -- ---- what fits
--- no more triangles and no more points than these fit in so many bytes
+-- no more triangles and no more points than these fit in an input of the maximum size
 abbrev pub mostGauged : ℕ
 mostGauged = 909
 
 abbrev pub mostPoints : ℕ
 mostPoints = 2730
 
--- room for the longest run
+-- the longest run: the room that the program lends
 abbrev pub mostPrinted : ℕ
 mostPrinted = 229405
 
