@@ -1,4 +1,4 @@
--- The loop that writes digits from the last one backwards: its invariant and laws. Assumes nothing.
+-- The loop that writes digits from the last one backwards: its invariant, and what it leaves.
 use mathlib.Core.Path.{_≡_, refl, sym, ap, _∙_}
 use mathlib.Core.List.{List, [], _∷_, _++_, append-nil}
 use Prim.Native.Nat.{ℕ, _+_, _/_, _%_, _≤_}
@@ -19,9 +19,11 @@ pub record Backwards (base at count n : ℕ) (old out : List ℕ) (left rest : �
   pub long : length out ≡ length old
 
 module _ (base at count n : ℕ) (old : List ℕ) where
+  -- before the first turn no digit is written
   pub back-start : Backwards base at count n old old count n
   back-start = record { tail = []; split = sym (append-nil _); filled = sym (over-none (at + count) old); sized = add-zero count; long = refl }
 
+  -- a turn of the loop writes the lowest digit of the rest in front of the others
   pub back-more : (out : List ℕ) (left rest d less : ℕ) → at + count ≤ length old → left ≡ less + 1 → d ≡ digit (rest % base) → Backwards base at count n old out left rest
       → Backwards base at count n old (set out (at + less) d) less (rest / base)
   back-more out left rest d less room e f r =
@@ -35,6 +37,7 @@ module _ (base at count n : ℕ) (old : List ℕ) where
         long = length-set out (at + less) d ∙ r .long;
       }
 
+  -- after the last turn all digits stand in their place
   pub back-end : (out : List ℕ) (left rest : ℕ) → at + count ≤ length old → left ≤ 0 → Backwards base at count n old out left rest
       → Put at (digits base count n) old out (at + count)
   unfolding digits

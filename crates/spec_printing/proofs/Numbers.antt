@@ -1,4 +1,4 @@
--- Digits, widths and decimal numbers: how long they are, and that a printed decimal reads back. Assumes nothing.
+-- Digits, widths and decimal numbers: how long they are, so that the program knows its room, and that a printed decimal reads back.
 use mathlib.Core.Path.{_≡_, refl, ap, _∙_}
 use mathlib.Core.Logic.{_⊎_, inl, inr, ⊎-elim}
 use mathlib.Core.List.{List, [], _∷_, _++_, append-assoc}
@@ -18,20 +18,23 @@ decided false = inr refl
 lt-or-ge : (n m : ℕ) → (n < m) ⊎ (m ≤ n)
 lt-or-ge n m = ⊎-elim (λ (e : ltb n m ≡ true). inl (ltb-true n m e)) (λ (e : ltb n m ≡ false). inr (ltb-false n m e)) (decided (ltb n m))
 
+-- the digits 0 to 9, as characters
 pub digit-low : (d : ℕ) → d < 10 → digit d ≡ 48 + d
 unfolding digit
 digit-low d h = rw (lt-ltb d 10 h)
 
+-- the digits from ten on, as characters a to f
 pub digit-high : (d : ℕ) → 10 ≤ d → digit d ≡ 87 + d
 unfolding digit
 digit-high d h = rw (le-ltb d 10 h)
 
+-- as many bytes as digits
 pub length-digits : (base k n : ℕ) → length (digits base k n) ≡ k
 unfolding digits
 length-digits base zero n = refl
 length-digits base (suc k) n = simp (length-append, length-digits base k (n / base)) (omega arith)
 
--- one digit more in front of those that are written
+-- one digit more in front of those that are written, as the loop goes
 pub digits-split : (base k n : ℕ) (tail : List ℕ) → digits base (k + 1) n ++ tail ≡ digits base k (n / base) ++ (digit (n % base) ∷ tail)
 unfolding digits
 digits-split base k n tail =
@@ -49,11 +52,13 @@ same-width (suc f) zero n a b = let z : n < 10 = omega arith in rw (lt-ltb n 10 
 same-width (suc f) (suc g) n a b =
     ⊎-elim (λ (l : n < 10). rw (lt-ltb n 10 l)) (λ (l : 10 ≤ n). rw (le-ltb n 10 l, same-width f g (n / 10) (omega arith) (omega arith))) (lt-or-ge n 10)
 
+-- a number below ten has one digit
 pub width-one : (n : ℕ) → n < 10 → width n ≡ 1
 unfolding widthIn
 width-one zero h = refl
 width-one (suc n) h = rw (lt-ltb (suc n) 10 h)
 
+-- any other number has one digit more than its tenth
 pub width-more : (n : ℕ) → 10 ≤ n → width n ≡ width (n / 10) + 1
 unfolding widthIn
 width-more zero h = omega arith
@@ -61,6 +66,7 @@ width-more (suc n) h =
     let e : (m : ℕ) → suc m ≡ m + 1 = λ m. omega arith in
     rw (le-ltb (suc n) 10 h) (ap suc (same-width n (suc n / 10) (suc n / 10) (omega arith) (omega arith)) ∙ e _)
 
+-- every number has a digit, zero too
 pub width-pos : (n : ℕ) → 1 ≤ width n
 width-pos n = ⊎-elim (λ (l : n < 10). omega (arith, width-one n l)) (λ (l : 10 ≤ n). omega (arith, width-more n l)) (lt-or-ge n 10)
 

@@ -1,4 +1,4 @@
--- What `gauge` prints, as bytes: numbers, words and the four kinds of line. Definitions only.
+-- What `gauge` prints, as bytes: numbers, words and the four kinds of line.
 use Prim.Native.Nat.{ℕ, zero, suc, _+_, _/_, _%_}
 use mathlib.Core.List.{List, [], _∷_, _++_}
 use mathlib.Core.Bool.{cond}
@@ -19,6 +19,7 @@ unfoldable pub widthIn : ℕ → ℕ → ℕ
 widthIn zero n = 1
 widthIn (suc turns) n = cond (ltb n 10) 1 (suc (widthIn turns (n / 10)))
 
+-- n turns are enough: a number above zero has no more digits than its value
 abbrev pub width : ℕ → ℕ
 width n = widthIn n n
 
@@ -64,6 +65,7 @@ unfoldable pub refusedWord : List ℕ
 refusedWord = 114 ∷ 101 ∷ 102 ∷ 117 ∷ 115 ∷ 101 ∷ 100 ∷ []
 
 -- ---- the lines
+-- the line of a tree: its triangles, nodes and depth
 unfoldable pub countsLine : ℕ → ℕ → ℕ → List ℕ
 countsLine triangles nodes depth = named trianglesWord triangles ++ named nodesWord nodes ++ named depthWord depth ++ lineFeed
 
@@ -75,13 +77,16 @@ pub record Found : Type 0 where
   pub z : ℕ
   pub squared : ℕ
 
+-- the line of a point at which a triangle was found
 unfoldable pub foundLine : ℕ → Found → List ℕ
 foundLine point found =
     decimal point ++ named foundWord (found .triangle)
     ++ spacedHex (found .x) ++ spacedHex (found .y) ++ spacedHex (found .z) ++ spacedHex (found .squared) ++ lineFeed
 
+-- the line of a point at which nothing was found
 unfoldable pub nothingLine : ℕ → List ℕ
 nothingLine point = decimal point ++ nothingWord ++ lineFeed
 
+-- the line of a refusal: its number and place
 unfoldable pub refusedLine : ℕ → ℕ → List ℕ
 refusedLine number place = named refusedWord number ++ spacedDecimal place ++ lineFeed
