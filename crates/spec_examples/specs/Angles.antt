@@ -1,4 +1,4 @@
--- E8 and E9: roots of binary32, and angles in units of 2 ^ -30 before they are rounded. Definitions only.
+-- E8 and E9: roots of binary32, and angles in units of 2 ^ -30 before they are rounded.
 use mathlib.Core.Bool.{cond}
 use mathlib.Core.List.{List, [], _∷_}
 use Prim.Native.Nat.{ℕ}

@@ -1,4 +1,4 @@
--- E10: the two queries at (5.5, 0, 0) over T0 and T1, in the tree that is built (median, 1, 40), at distance 50 and at 4.5. Definitions only.
+-- E10: the two queries at (5.5, 0, 0) over T0 and T1, in the tree that is built (median, 1, 40), at distance 50 and at 4.5.
 use mathlib.Core.Bool.{false}
 use mathlib.Core.List.{List, [], _∷_}
 use lib.IntN.{ℤ, pos, negsuc}
@@ -12,7 +12,7 @@ use Rattle.spec_search.specs.Answers.{Answer, nothing, found}
 use Rattle.spec_search.specs.Calls.{sureAnswer, sourceAnswer}
 use Rattle.spec_examples.specs.Table.{Example, Shown, float, whole}
 
--- an answer as it is told: its triangle, point and squared distance, or nothing
+-- an answer as the example shows it: its triangle, point and squared distance, or nothing
 abbrev pub told : Answer → List Shown
 told nothing = []
 told (found h) = whole (pos (h .triangle)) ∷ float (h .point .x) ∷ float (h .point .y) ∷ float (h .point .z) ∷ float (h .squared) ∷ []

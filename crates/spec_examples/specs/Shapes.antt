@@ -1,4 +1,4 @@
--- E1 to E7: boxes, and the closest points of a plain and of a pinched triangle. Definitions only.
+-- E1 to E7: boxes, and the closest points of a plain and of a pinched triangle.
 use mathlib.Core.Bool.{false}
 use mathlib.Core.List.{List, [], _∷_}
 use lib.IntN.{ℤ, pos, negsuc}

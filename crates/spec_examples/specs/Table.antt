@@ -1,4 +1,4 @@
--- A table of worked examples: what the definitions work out, beside what the scope document gives. Definitions only.
+-- A table of worked examples: what the definitions work out, beside what the scope document gives.
 use mathlib.Core.Path.{_≡_}
 use mathlib.Core.List.{List, map}
 use lib.IntN.{ℤ}
