@@ -8,6 +8,7 @@ A frame holds a theory crate and the code that it defines. The rule: code crate 
 theory crate it stands on that stands on all its others. Arrows go between frames and are reduced transitively.
 """
 
+import html
 import os
 import random
 import sys
@@ -42,9 +43,13 @@ def read_list(text):
 
 def closure(on):
     below = {}
-    for name in on:  # crates.txt names a crate before whoever stands on it
-        below[name] = set(on[name]).union(*(below[d] for d in on[name]))
-    return below
+
+    def under(name):
+        if name not in below:
+            below[name] = set(on[name]).union(*(under(d) for d in on[name]))
+        return below[name]
+
+    return {name: under(name) for name in on}
 
 
 def reduced(on):
@@ -57,7 +62,8 @@ def theory_of(name, on, below):
     theory = [d for d in on[name] if d.startswith("spec_")]
     if own in on:
         return own
-    return next(t for t in theory if all(d == t or d in below[t] for d in theory))
+    all_others = [t for t in theory if all(d == t or d in below[t] for d in theory)]
+    return all_others[0] if all_others else sys.exit(f"crates.txt: which theory defines {name}?")
 
 
 # ---- frames and their rows
@@ -65,7 +71,7 @@ class Frame:
     def __init__(self, theory, code, on):
         self.theory, self.code = theory, code
         depth = {}
-        for c in code:
+        for c in sorted(code, key=lambda c: len(closure(on)[c])):  # whatever a crate stands on comes before it
             depth[c] = 1 + max((depth[d] for d in on[c] if d in depth), default=-1)
         self.columns = [[theory]] + [[c for c in code if depth[c] == k] for k in range(1 + max(depth.values(), default=-1))]
         self.widths = [max(width(c) for c in column) for column in self.columns]
@@ -310,7 +316,7 @@ def draw(text):
 
 def main():
     with open(LIST, encoding="utf-8") as f:
-        picture = draw(f.read())
+        picture = draw(html.escape(f.read(), quote=False))
     if sys.argv[1:] == ["--check"]:
         try:
             with open(PICTURE, encoding="utf-8") as f:
