@@ -1,4 +1,5 @@
--- The tree check says yes exactly where the lists are the listing of a tree over the n triangles, which has 1 to 2n - 1 nodes. Assumes nothing.
+-- The tree check says yes exactly where the lists are the listing of a tree over the n triangles, which has 1 to 2n - 1 nodes.
+-- Whoever holds accepted lists reasons of that tree from here on, and no longer of the test.
 use mathlib.Core.Path.{_≡_, sym, ap, subst, subst₂, _∙_}
 use mathlib.Core.Bool.{true, _&&_, false≢true}
 use mathlib.Core.List.{List}
@@ -47,6 +48,7 @@ whole-listed boxAt n order links boxes nodes p w (spans first entry box) s h =
       },
     )
 
+-- soundness: lists that the check accepts are the listing of a tree; laws about accepted lists start from this tree
 pub accepted-listed : (boxAt : ℕ → Box) (n : ℕ) (order links : List ℕ) (boxes : List Float) (nodes : ℕ)
     → accepted boxAt n order links boxes nodes ≡ true → (t : Tree) × Listing boxAt n order links boxes nodes t
 unfolding accepted present
@@ -65,19 +67,24 @@ accepted-listed boxAt n order links boxes nodes h =
 
 -- ---- what a listing has
 module _ (boxAt : ℕ → Box) (n : ℕ) (order links : List ℕ) (boxes : List Float) (nodes : ℕ) (t : Tree) (s : Listing boxAt n order links boxes nodes t) where
+  -- there is a root, so a walk can begin at the last node
   pub listing-some : 1 ≤ nodes
   listing-some = omega (arith, s .nodes-are, count-least t)
 
+  -- a tree over n triangles has at most 2n - 1 nodes, which bounds the images and lists that are lent for it
   pub listing-most : nodes + 1 ≤ 2 * n
   listing-most =
       omega (arith, s .nodes-are, count-most t (s .filled), ap length (s .order-is), permutes-length n order (s .permuted))
 
+  -- the links of every node are there, so reading one stays within the list
   pub listing-links : 3 * nodes ≤ length links
   listing-links = omega (arith, s .nodes-are, ap length (s .links-are), length-take (3 * nodes) links, links-length 0 0 t)
 
+  -- the boxes of every node are there, so reading one stays within the list
   pub listing-boxes : 6 * nodes ≤ length boxes
   listing-boxes = omega (arith, s .nodes-are, ap length (s .boxes-are), length-take (6 * nodes) boxes, boxes-length boxAt t)
 
+  -- a whole listing is one from node 0 and order entry 0 on: laws by recursion on subtrees apply to it
   pub listing-stands : Listed boxAt order links boxes 0 0 (nodes - 1) n t
   listing-stands =
       record {
@@ -89,6 +96,7 @@ module _ (boxAt : ℕ → Box) (n : ℕ) (order links : List ℕ) (boxes : List 
         boxes-stand = taken-stands nan boxes (boxesOf boxAt t) (6 * nodes) (s .boxes-are);
       }
 
+  -- completeness: the check accepts the listing of any tree, so what was built or written is never refused
   pub listed-accepted : accepted boxAt n order links boxes nodes ≡ true
   unfolding accepted present
   listed-accepted =

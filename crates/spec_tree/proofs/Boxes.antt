@@ -1,4 +1,5 @@
--- The box over a tree is proper and holds the box of every triangle under it, where each triangle's box is proper. Assumes nothing.
+-- The box over a tree is proper and holds the box of every triangle under it, where each triangle's box is proper.
+-- So a search may skip a subtree by its box alone.
 use mathlib.Core.Path.{_≡_, refl}
 use mathlib.Core.Logic.{⊎-elim}
 use mathlib.Core.List.{List, [], _∷_, List·Memᴰ, List·Memᴰ·head, List·Memᴰ·tail, List·Memᴰ·cases-cons, List·Memᴰ·not-nil, List·Memᴰ·append-cases, Memᴰ·append-left, Memᴰ·append-right}
@@ -48,6 +49,7 @@ module _ (boxAt : ℕ → Box) where
         each = λ j m. ⊎-elim (λ (e : j ≡ k). rw e (rest .0)) (λ (m′ : List·Memᴰ j ks). rest .1 .each j m′) (List·Memᴰ·cases-cons m);
       }
 
+  -- the box over a tree bounds every triangle under it, so a box that is too far away rules all of them out
   pub box-over-holds : (t : Tree) → Filled t → AllProper (numbers t) → Holds (boxOver boxAt t) (numbers t)
   unfolding boxOver numbers
   box-over-holds (leaf part) f all = joined-holds part f all

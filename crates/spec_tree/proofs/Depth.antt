@@ -1,4 +1,4 @@
--- The depth that is read off the links of an accepted tree is the number of its levels, and a look down the links meets only nodes that are there. Assumes nothing.
+-- The depth that is read off the links of an accepted tree is the number of its levels, and reading it meets only nodes that are there.
 use mathlib.Core.Path.{_≡_, ap, _∙_}
 use mathlib.Core.Bool.{Bool, true, false}
 use mathlib.Core.Logic.{_⊎_, inl, inr}
@@ -18,7 +18,7 @@ use Rattle.spec_tree.specs.Depth.{depthBy, depthAt, depthOf, Descends}
 use Rattle.spec_tree.proofs.Hangs.{listing-hangs}
 
 module _ (boxAt : ℕ → Box) (order links : List ℕ) (boxes : List Float) where
-  pub hangs-depth : (t : Tree) (most node : ℕ) → levels t ≤ most → Hangs boxAt order links boxes t node → depthAt links most node ≡ levels t
+  hangs-depth : (t : Tree) (most node : ℕ) → levels t ≤ most → Hangs boxAt order links boxes t node → depthAt links most node ≡ levels t
   unfolding depthAt levels
   hangs-depth (leaf part) zero node w h = absurd (omega arith)
   hangs-depth (leaf part) (suc most) node w h = rw (h .kind-is)
@@ -28,6 +28,7 @@ module _ (boxAt : ℕ → Box) (order links : List ℕ) (boxes : List Float) whe
       let right : depthAt links most (rightAt links node) ≡ levels r = hangs-depth r most (rightAt links node) (omega arith) (h .right) in
       rw (h .kind-is) (rw (left, right))
 
+-- the depth that is read off the links of a listing is the number of levels of its tree
 pub listing-depth : (boxAt : ℕ → Box) (n : ℕ) (order links : List ℕ) (boxes : List Float) (nodes : ℕ) (t : Tree) → Listing boxAt n order links boxes nodes t → depthOf links nodes ≡ levels t
 listing-depth boxAt n order links boxes nodes t s =
     hangs-depth boxAt order links boxes t deepest (nodes - 1) (s .shallow) (listing-hangs boxAt n order links boxes nodes t s)
@@ -38,11 +39,13 @@ module _ (links : List ℕ) where
   depth-by-most true most node below h = omega (arith, h (leftAt links node), h (rightAt links node))
   depth-by-most false most node below h = omega arith
 
+  -- the depth is at most the bound of the recursion, so one more for the parent does not overflow
   pub depth-most : (most node : ℕ) → depthAt links most node ≤ most
   unfolding depthAt
   depth-most zero node = omega arith
   depth-most (suc most) node = depth-by-most (eqb (kindAt links node) 2) most node (depthAt links most) (depth-most most)
 
+  -- the recursion ends where no level remains
   pub depth-none : (most node : ℕ) → most ≡ 0 → depthAt links most node ≡ 0
   unfolding depthAt
   depth-none most node p = rw p
@@ -52,13 +55,15 @@ module _ (links : List ℕ) where
     unfolding depthAt
     opened = let p : most ≡ suc (most - 1) = omega arith in ap (λ (k : ℕ). depthAt links k node) p
 
+    -- a node that is no branch is one level
     pub depth-leaf : (kindAt links node ≡ 2 → ⊥) → depthAt links most node ≡ 1
     depth-leaf p = opened ∙ rw (ne-eqb (kindAt links node) 2 p)
 
+    -- a branch is one level more than the deeper of its children
     pub depth-branch : kindAt links node ≡ 2 → depthAt links most node ≡ max (depthAt links (most - 1) (leftAt links node)) (depthAt links (most - 1) (rightAt links node)) + 1
     depth-branch p = opened ∙ rw p
 
-  -- what it asks it can ask of the children
+  -- what the depth needs at a branch holds at its children
   module _ (node : ℕ) (d : Descends links node) (p : kindAt links node ≡ 2) where
     here : ChildrenBefore links node
     here = d .falls node (omega arith) p
@@ -66,13 +71,15 @@ module _ (links : List ℕ) where
     before : (k : ℕ) → k < node → Descends links k
     before k h = let there : 3 * node + 3 ≤ length links = d .there in record { there = omega arith; falls = λ j w. d .falls j (omega arith) }
 
+    -- the left child has what the recursive call on it needs
     pub descends-left : Descends links (leftAt links node)
     descends-left = before (leftAt links node) (here .left-before)
 
+    -- the right child has what the recursive call on it needs
     pub descends-right : Descends links (rightAt links node)
     descends-right = before (rightAt links node) (here .right-before)
 
--- sound lists can be looked down from every node
+-- sound lists have what the depth needs at every node, so an accepted tree has
 pub sound-descends : (n : ℕ) (order links : List ℕ) (boxes : List Float) (nodes node : ℕ) → Sound n order links boxes nodes → node < nodes → Descends links node
 sound-descends n order links boxes nodes node s h =
     let there : 3 * nodes ≤ length links = s .links-there in

@@ -1,4 +1,4 @@
--- What the check finds is there: a subtree that is not found wrong is the listing of a tree. Assumes nothing.
+-- Soundness of the tree check: a subtree that is not found wrong is the listing of a tree.
 use mathlib.Core.Path.{_≡_, refl, sym, ap, _∙_}
 use mathlib.Core.Bool.{Bool, true, false, cond, _&&_}
 use mathlib.Core.List.{List, _++_}
@@ -18,7 +18,7 @@ use Rattle.spec_tree.proofs.Nodes.{same-box, links-stand, box-stands}
 use Rattle.spec_tree.proofs.Trees.{root-last, links-length, boxes-length, count-least}
 
 module _ (boxAt : ℕ → Box) (order links : List ℕ) (boxes : List Float) where
-  -- the tree that was found, with so many levels at most, its root at this node, its triangles ending at `last`
+  -- the tree that was found, with at most `most` levels, its root at this node, its triangles ending before `last`
   pub record Found (most node last first entry : ℕ) (box : Box) : Type 0 where
     pub tree : Tree
     pub filled : Filled tree
@@ -30,6 +30,7 @@ module _ (boxAt : ℕ → Box) (order links : List ℕ) (boxes : List Float) whe
     pub links-stand : Stands 0 links (3 * first) (linksFrom first entry tree)
     pub boxes-stand : Stands nan boxes (6 * first) (boxesOf boxAt tree)
 
+  -- what a finding promises: of a wrong one nothing, of a span the tree that was found
   abbrev pub Says : ℕ → ℕ → ℕ → Finding → Type 0
   Says most node last wrong = Unit {0}
   Says most node last (spans first entry box) = Found most node last first entry box
@@ -87,7 +88,7 @@ module _ (boxAt : ℕ → Box) (order links : List ℕ) (boxes : List Float) whe
             (box-stands boxes node (union (boxOver boxAt lt) (boxOver boxAt rt)) wb ((λ i. union (sym (left .under) i) (sym (right .under) i)) ∙ b));
       }
 
-  -- the check, step by step: of each answer it says what it has to
+  -- the check, step by step: each finding keeps its promise
   leaf-says : (most node last : ℕ) → Room order links boxes node last → kindAt links node ≡ 1 → Says (suc most) node last (leafFinding boxAt order links boxes node last)
   unfolding leafFinding boxed
   leaf-says most node last w k = in-range (ltb entry last && eqb (rightAt links node) last) refl
@@ -150,6 +151,7 @@ module _ (boxAt : ℕ → Box) (order links : List ℕ) (boxes : List Float) whe
       branch-says most node last w (eqb-true (kindAt links node) 2 q) below says (eqb (rightAt links node + 1) node) refl
   kind-says most node last w below says false false p q = tt
 
+  -- soundness at any node: what the check finds there is a tree that stands in the lists
   pub found : (most node last : ℕ) → Room order links boxes node last → Says most node last (finding boxAt order links boxes most node last)
   unfolding finding
   found zero node last w = tt

@@ -1,4 +1,4 @@
--- What an accepted tree gives a walk: it hangs at the root, node by node, and every node is sound. Assumes nothing.
+-- What an accepted tree gives a walk: it hangs at the root, node by node, and every node is sound.
 use mathlib.Core.Path.{_≡_, subst}
 use mathlib.Core.List.{List}
 use mathlib.Core.Logic.{_⊎_, inl, inr}
@@ -36,7 +36,7 @@ module _ (boxAt : ℕ → Box) (order links : List ℕ) (boxes : List Float) whe
       }
 
   -- the listing of a tree hangs at its root
-  pub listed-hangs : (t : Tree) (first entry node last : ℕ) → Filled t → Listed boxAt order links boxes first entry node last t
+  listed-hangs : (t : Tree) (first entry node last : ℕ) → Filled t → Listed boxAt order links boxes first entry node last t
       → 3 * node + 3 ≤ length links → 6 * node + 6 ≤ length boxes → Hangs boxAt order links boxes t node
   unfolding boxOver rootFrom
   listed-hangs (leaf part) first entry node last f s wl wb =
@@ -66,7 +66,8 @@ module _ (boxAt : ℕ → Box) (order links : List ℕ) (boxes : List Float) whe
       at (no p) (yes q) = right (omega arith) q
       at (no p) (no q) = let e : node ≡ k = omega arith in subst Node e own
 
-  pub listed-node : (t : Tree) (first entry node last : ℕ) → Filled t → Listed boxAt order links boxes first entry node last t
+  -- every node of a listing, not only the root, is a sound leaf or branch
+  listed-node : (t : Tree) (first entry node last : ℕ) → Filled t → Listed boxAt order links boxes first entry node last t
       → 3 * node + 3 ≤ length links → 6 * node + 6 ≤ length boxes → (k : ℕ) → first ≤ k → k < node + 1 → Node k
   unfolding rootFrom
   listed-node (leaf part) first entry node last f s wl wb k a b =
@@ -94,12 +95,13 @@ module _ (boxAt : ℕ → Box) (n : ℕ) (order links : List ℕ) (boxes : List 
   boxes-there : 6 * nodes ≤ length boxes
   boxes-there = listing-boxes boxAt n order links boxes nodes t s
 
-  -- the tree hangs at the last node
+  -- the tree hangs at the last node, where every walk begins
   pub listing-hangs : Hangs boxAt order links boxes t (nodes - 1)
   listing-hangs =
       listed-hangs boxAt order links boxes t 0 0 (nodes - 1) n (s .filled) (listing-stands boxAt n order links boxes nodes t s)
       (omega (arith, some, links-there)) (omega (arith, some, boxes-there))
 
+  -- every node is sound, so that a reader who meets nodes in any order stays within the lists
   pub listing-sound : Sound n order links boxes nodes
   listing-sound =
       record {

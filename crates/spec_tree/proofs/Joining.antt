@@ -1,4 +1,4 @@
--- A loop that joins boxes, turn by turn: before turn i what is still to be joined is the list without its first i. Assumes nothing.
+-- A loop that joins boxes, turn by turn: before turn i the list without its first i remains to be joined.
 use mathlib.Core.Path.{_≡_}
 use mathlib.Core.List.{List, [], _∷_}
 use Prim.Native.Nat.{ℕ, _+_, _≤_, _<_}
@@ -10,6 +10,7 @@ use Rattle.spec_shapes.specs.Boxes.{Box, union}
 use Rattle.spec_tree.specs.Trees.{joinedTo, joined}
 
 module _ (boxAt : ℕ → Box) (part : List ℕ) where
+  -- start: the first triangle's box, with the rest of the list remaining, joins to the box of the whole list
   pub joining-starts : (b : Box) → 0 < length part → b ≡ boxAt (getD part 0 0) → joinedTo boxAt b (drop 1 part) ≡ joined boxAt part
   unfolding joined
   joining-starts b h p = at part h p
@@ -18,11 +19,13 @@ module _ (boxAt : ℕ → Box) (part : List ℕ) where
       at [] h p = absurd (omega arith)
       at (k ∷ ks) h p = rw p
 
+  -- turn: the box of entry i is joined, and one entry fewer remains
   pub joining-goes-on : (i : ℕ) (b c : Box) → i < length part → c ≡ union b (boxAt (getD part i 0)) → joinedTo boxAt b (drop i part) ≡ joined boxAt part
       → joinedTo boxAt c (drop (i + 1) part) ≡ joined boxAt part
   unfolding joinedTo
   joining-goes-on i b c h p q = rw (p, add-one i) (rw (drop-cons part i 0 h) at q)
 
+  -- end: nothing remains, so what was joined is the box of the whole list
   pub joining-ends : (i : ℕ) (b : Box) → length part ≤ i → joinedTo boxAt b (drop i part) ≡ joined boxAt part → b ≡ joined boxAt part
   unfolding joinedTo
   joining-ends i b h q = rw (drop-of-length-le part h) at q

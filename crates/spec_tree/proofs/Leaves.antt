@@ -1,4 +1,5 @@
--- The leaves that are read off the lists of an accepted tree are the tree's, left to right: their parts, one after another, are the whole order list, each triangle stands in exactly one, and there are 1 to n of them. Assumes nothing.
+-- The leaves that are read off the lists of an accepted tree are the tree's, left to right.
+-- Their slices, one after another, are the whole order list; each triangle is in exactly one; there are 1 to n of them.
 use mathlib.Core.Path.{_≡_, refl, sym, ap, subst, _∙_}
 use mathlib.Core.Bool.{Bool, true, false, not, _&&_, _||_, or-true, true≢false}
 use mathlib.Core.List.{List, [], _∷_, _++_, map, flatten, append-assoc, append-nil}
@@ -40,25 +41,25 @@ flatten-append [] ys = refl
 flatten-append (x ∷ xs) ys = ap (λ (r : List _). x ++ r) (flatten-append xs ys) ∙ sym (append-assoc x (flatten xs) (flatten ys))
 
 -- ---- the leaves of a tree
--- one after another they are its triangle numbers
-pub leaves-numbers : (t : Tree) → flatten (leaves t) ≡ numbers t
+-- their slices, one after another, are the tree's triangle numbers
+leaves-numbers : (t : Tree) → flatten (leaves t) ≡ numbers t
 unfolding leaves numbers flatten
 leaves-numbers (leaf part) = append-nil part
 leaves-numbers (branch l r) = flatten-append (leaves l) (leaves r) ∙ (λ i. leaves-numbers l i ++ leaves-numbers r i)
 
-pub leaves-least : (t : Tree) → 1 ≤ length (leaves t)
+leaves-least : (t : Tree) → 1 ≤ length (leaves t)
 unfolding leaves
 leaves-least (leaf part) = omega arith
 leaves-least (branch l r) = omega (arith, leaves-least l, length-append (leaves l) (leaves r))
 
-pub leaves-most : (t : Tree) → Filled t → length (leaves t) ≤ length (numbers t)
+leaves-most : (t : Tree) → Filled t → length (leaves t) ≤ length (numbers t)
 unfolding leaves numbers
 leaves-most (leaf part) f = omega arith
 leaves-most (branch l r) f =
     omega (arith, leaves-most l (f .0), leaves-most r (f .1), length-append (leaves l) (leaves r), length-append (numbers l) (numbers r))
 
 -- each has the box that its triangles give it
-pub leaves-boxed : (boxAt : ℕ → Box) (node entry : ℕ) (t : Tree) → map (λ (l : Leaf). l .box) (leavesFrom boxAt node entry t) ≡ map (joined boxAt) (leaves t)
+leaves-boxed : (boxAt : ℕ → Box) (node entry : ℕ) (t : Tree) → map (λ (l : Leaf). l .box) (leavesFrom boxAt node entry t) ≡ map (joined boxAt) (leaves t)
 unfolding leavesFrom leaves
 leaves-boxed boxAt node entry (leaf part) = refl
 leaves-boxed boxAt node entry (branch l r) =
@@ -66,8 +67,8 @@ leaves-boxed boxAt node entry (branch l r) =
     ∙ (λ i. leaves-boxed boxAt node entry l i ++ leaves-boxed boxAt (node + nodeCount l) (entry + length (numbers l)) r i)
     ∙ sym (map-append (joined boxAt) (leaves l) (leaves r))
 
--- and its part of an order list in which the tree's triangle numbers stand
-pub leaves-parts : (boxAt : ℕ → Box) (order : List ℕ) (node entry : ℕ) (t : Tree) → Stands 0 order entry (numbers t) → map (partOf order) (leavesFrom boxAt node entry t) ≡ leaves t
+-- and its slice of an order list in which the tree's triangle numbers stand
+leaves-parts : (boxAt : ℕ → Box) (order : List ℕ) (node entry : ℕ) (t : Tree) → Stands 0 order entry (numbers t) → map (partOf order) (leavesFrom boxAt node entry t) ≡ leaves t
 unfolding leavesFrom leaves numbers
 leaves-parts boxAt order node entry (leaf part) s =
     let cut : Tables.part order entry (entry + length part - entry) ≡ part = stands-part 0 order part entry (entry + length part - entry) (omega arith) s in
@@ -78,7 +79,7 @@ leaves-parts boxAt order node entry (branch l r) s =
     ∙ (λ i. leaves-parts boxAt order node entry l (stands-first 0 order (numbers l) (numbers r) entry s) i
     ++ leaves-parts boxAt order (node + nodeCount l) mid r (stands-second 0 order (numbers l) (numbers r) entry mid refl s) i)
 
--- ---- a number that stands in a list of parts, in which none stands twice, stands in exactly one of them
+-- ---- a number that stands in a list of slices, in which none stands twice, stands in exactly one of them
 neither : (a b : Bool) → (a || b) ≡ false → (a ≡ false) × (b ≡ false)
 neither true b h = absurd (true≢false h)
 neither false b h = (refl, h)
@@ -160,7 +161,7 @@ getD-map g [] k d e h = absurd (omega arith)
 getD-map g (x ∷ xs) zero d e h = refl
 getD-map g (x ∷ xs) (suc k) d e h = getD-map g xs k d e (omega arith)
 
--- a leaf of these triangles was found: its part of the order list, and the box that its triangles give it
+-- a leaf of these triangles was found: its slice of the order list, and the box that its triangles give it
 pub record TheLeaf (boxAt : ℕ → Box) (order : List ℕ) (f : LeafFound) (part : List ℕ) : Type 0 where
   pub leaf : Leaf
   pub found-is : f ≡ found leaf
@@ -173,46 +174,47 @@ module _ (boxAt : ℕ → Box) (n : ℕ) (order links : List ℕ) (boxes : List 
   stands = listing-stands boxAt n order links boxes nodes t s
 
   -- the leaves are the tree's
-  pub leaves-read : map (leafAt links boxes) (leafNodes links 0 nodes) ≡ leavesFrom boxAt 0 0 t
+  leaves-read : map (leafAt links boxes) (leafNodes links 0 nodes) ≡ leavesFrom boxAt 0 0 t
   leaves-read = rw (s .nodes-are) (listed-leaves boxAt order links boxes t 0 0 (nodes - 1) n stands)
 
-  -- their parts are the tree's leaves, and one after another the whole order list
-  pub parts-read : map (partOf order) (leavesFrom boxAt 0 0 t) ≡ leaves t
+  -- their slices are the tree's leaves, and one after another the whole order list
+  parts-read : map (partOf order) (leavesFrom boxAt 0 0 t) ≡ leaves t
   parts-read = leaves-parts boxAt order 0 0 t (stands .part)
 
-  pub parts-whole : flatten (leaves t) ≡ order
+  parts-whole : flatten (leaves t) ≡ order
   parts-whole = leaves-numbers t ∙ sym (s .order-is)
 
   -- each triangle stands in exactly one
-  pub in-one-leaf : (k : ℕ) → k < n → partsWith k (leaves t) ≡ 1
+  in-one-leaf : (k : ℕ) → k < n → partsWith k (leaves t) ≡ 1
   unfolding permutes
   in-one-leaf k h = parts-one k (leaves t) (rw parts-whole order-distinct) (rw parts-whole (permuted-occurs k (s .permuted) ∙ up-to-has n k h))
     where
       order-distinct : distinct order ≡ true
       order-distinct = both-passed (eqb (length order) n && allBelow n order) (distinct order) (permutes-test n order (s .permuted)) .1
 
-  -- there are as many as are counted, 1 to n
-  pub count-read : leafCount links nodes ≡ length (leaves t)
+  -- the count is the number of leaves, 1 to n
+  count-read : leafCount links nodes ≡ length (leaves t)
   unfolding leafCount
   count-read =
       sym (length-map (leafNodes links 0 nodes) (leafAt links boxes)) ∙ ap length leaves-read ∙ sym (length-map (leavesFrom boxAt 0 0 t) (partOf order)) ∙ ap length parts-read
 
-  pub count-some : 1 ≤ leafCount links nodes
+  count-some : 1 ≤ leafCount links nodes
   count-some = omega (arith, count-read, leaves-least t)
 
-  pub count-few : leafCount links nodes ≤ n
+  count-few : leafCount links nodes ≤ n
   count-few = omega (arith, count-read, leaves-most t (s .filled), ap length (s .order-is), permutes-length n order (s .permuted))
 
-  -- the k-th leaf that is read is the tree's: its part, and the box that its triangles give it
-  pub leaf-is : (k : ℕ) → leafFrom links boxes nodes 0 k ≡ kth (leavesFrom boxAt 0 0 t) k
+  -- the k-th leaf that is read is the tree's k-th
+  leaf-is : (k : ℕ) → leafFrom links boxes nodes 0 k ≡ kth (leavesFrom boxAt 0 0 t) k
   unfolding leafFrom
   leaf-is k = let all : nodes - 0 ≡ nodes = omega arith in rw (all, leaves-read)
 
   -- past the last there is nothing
-  pub leaf-none : (k : ℕ) → leafCount links nodes ≤ k → leafFrom links boxes nodes 0 k ≡ nothing
+  leaf-none : (k : ℕ) → leafCount links nodes ≤ k → leafFrom links boxes nodes 0 k ≡ nothing
   leaf-none k h = leaf-is k ∙ kth-none (leavesFrom boxAt 0 0 t) k (omega (arith, count-read, ap length parts-read, length-map (leavesFrom boxAt 0 0 t) (partOf order)))
 
-  pub leaf-some : (k : ℕ) → k < leafCount links nodes → TheLeaf boxAt order (leafFrom links boxes nodes 0 k) (getD (leaves t) k [])
+  -- up to the last, it has the k-th leaf's slice, and the box that its triangles give it
+  leaf-some : (k : ℕ) → k < leafCount links nodes → TheLeaf boxAt order (leafFrom links boxes nodes 0 k) (getD (leaves t) k [])
   leaf-some k h =
       let all = leavesFrom boxAt 0 0 t in
       let none : Leaf = record { node = 0; first = 0; last = 0; box = boxAt 0 } in
@@ -240,6 +242,7 @@ pub record LeavesAre (boxAt : ℕ → Box) (n : ℕ) (order links : List ℕ) (b
   pub each : (k : ℕ) → k < leafCount links nodes → TheLeaf boxAt order (leafFrom links boxes nodes 0 k) (getD (leaves t) k [])
   pub none : (k : ℕ) → leafCount links nodes ≤ k → leafFrom links boxes nodes 0 k ≡ nothing
 
+-- the promise of the leaf calls in one law: what is read off accepted lists is their tree's leaves, each triangle in exactly one
 pub accepted-leaves : (boxAt : ℕ → Box) (n : ℕ) (order links : List ℕ) (boxes : List Float) (nodes : ℕ) → accepted boxAt n order links boxes nodes ≡ true
     → (t : Tree) × Listing boxAt n order links boxes nodes t × LeavesAre boxAt n order links boxes nodes t
 accepted-leaves boxAt n order links boxes nodes h =
@@ -263,51 +266,59 @@ accepted-leaves boxAt n order links boxes nodes h =
 
 -- ---- lists that pass
 module _ (triangles : List Float) (order links : List ℕ) (boxes : List Float) (nodes : ℕ) (p : checkRefusal triangles order links boxes nodes ≡ passes) where
-  pub passed-accepted : accepted (boxAt triangles) (triangleCount triangles) order links boxes nodes ≡ true
+  passed-accepted : accepted (boxAt triangles) (triangleCount triangles) order links boxes nodes ≡ true
   unfolding checkRefusal treeRefusal
   passed-accepted = so _ 7 0 (all-pass _ p .1 .0)
 
-  -- hold a tree
+  -- they are the listing of a tree
   passed-listed : (t : Tree) × Listing (boxAt triangles) (triangleCount triangles) order links boxes nodes t
   passed-listed = accepted-listed (boxAt triangles) (triangleCount triangles) order links boxes nodes passed-accepted
 
-  pub passed-sound : Sound (triangleCount triangles) order links boxes nodes
+  passed-sound : Sound (triangleCount triangles) order links boxes nodes
   passed-sound = listing-sound (boxAt triangles) (triangleCount triangles) order links boxes nodes (passed-listed .0) (passed-listed .1)
 
+  -- lists that pass have what reading the leaves needs
   pub passed-there : NodesThere links boxes nodes
   passed-there = record { links-there = passed-sound .links-there; boxes-there = passed-sound .boxes-there }
 
 -- ---- what the calls answer
 module _ (triangles : List Float) (order links : List ℕ) (boxes : List Float) (nodes : ℕ) where
+  -- where the lists are refused, so is the k-th leaf, with the same number and place
   pub leaf-refused : (k number place : ℕ) → checkRefusal triangles order links boxes nodes ≡ refused number place → notSought number place ≡ leafAnswer triangles order links boxes nodes k
   unfolding leafAnswer
   leaf-refused k number place p = rw p
 
+  -- where the lists pass, the k-th leaf is looked for from node 0 on
   pub leaf-sought : (k : ℕ) (f : LeafFound) → checkRefusal triangles order links boxes nodes ≡ passes → f ≡ leafFrom links boxes nodes 0 k → f ≡ leafAnswer triangles order links boxes nodes k
   unfolding leafAnswer
   leaf-sought k f p q = rw p q
 
+  -- where the lists are refused, so is the count of leaves, with the same number and place
   pub count-refused : (number place : ℕ) → checkRefusal triangles order links boxes nodes ≡ refused number place → notCounted number place ≡ countAnswer triangles order links boxes nodes
   unfolding countAnswer
   count-refused number place p = rw p
 
+  -- where the lists pass, the leaves are counted
   pub count-made : (n : ℕ) → checkRefusal triangles order links boxes nodes ≡ passes → n ≡ leafCount links nodes → counted n ≡ countAnswer triangles order links boxes nodes
   unfolding countAnswer
   count-made n p q = rw p (ap counted q)
 
+  -- where a leaf is refused, so is each of its triangles, with the same number and place
   pub entry-refused : (k i number place : ℕ) → leafAnswer triangles order links boxes nodes k ≡ notSought number place → notAsked number place ≡ entryAnswer triangles order links boxes nodes k i
   unfolding entryAnswer
   entry-refused k i number place p = rw p
 
+  -- where there is no k-th leaf, it has no triangles
   pub entry-none : (k i : ℕ) → leafAnswer triangles order links boxes nodes k ≡ nothing → noEntry ≡ entryAnswer triangles order links boxes nodes k i
   unfolding entryAnswer
   entry-none k i p = rw p
 
+  -- where the k-th leaf is found, its i-th triangle is read from its slice
   pub entry-read : (k i : ℕ) (l : Leaf) (e : EntryFound) → leafAnswer triangles order links boxes nodes k ≡ found l → e ≡ entryAt (partOf order l) i → e ≡ entryAnswer triangles order links boxes nodes k i
   unfolding entryAnswer
   entry-read k i l e p q = rw p q
 
-  -- what is counted is there
+  -- where leaves were counted, the lists passed, so the links and boxes of every node are there
   pub counted-there : (n : ℕ) → countAnswer triangles order links boxes nodes ≡ counted n → NodesThere links boxes nodes
   unfolding countAnswer
   counted-there n = at (checkRefusal triangles order links boxes nodes) refl

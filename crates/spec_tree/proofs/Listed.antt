@@ -1,4 +1,4 @@
--- The listing of a tree is found by the check. Assumes nothing.
+-- Completeness of the tree check: it finds the listing of a tree, subtree by subtree.
 use mathlib.Core.Path.{_≡_, refl, sym}
 use mathlib.Core.List.{List, _++_}
 use Prim.Native.Nat.{ℕ, zero, suc, _+_, _-_, _*_, _≤_, _<_}
@@ -39,7 +39,7 @@ module _ (boxAt : ℕ → Box) (order links : List ℕ) (boxes : List Float) whe
   unfolding finding
   by-kind most node last kind left right f l p = rw (l .kind-is) p
 
-  -- the part of the order list that a listing's triangles are
+  -- the listing of t stands in the lists: nodes from `first` on to its root `node`, order entries from `entry` on up to `last`
   pub record Listed (first entry node last : ℕ) (t : Tree) : Type 0 where
     pub root : rootFrom first t ≡ node
     pub part : Stands 0 order entry (numbers t)
@@ -48,7 +48,7 @@ module _ (boxAt : ℕ → Box) (order links : List ℕ) (boxes : List Float) whe
     pub links-stand : Stands 0 links (3 * first) (linksFrom first entry t)
     pub boxes-stand : Stands nan boxes (6 * first) (boxesOf boxAt t)
 
-  -- what the two subtrees of a branch are
+  -- what the listing of a branch is made of: those of its two subtrees, and its own node
   pub record Halves (first entry node last : ℕ) (l r : Tree) : Type 0 where
     pub left : Listed first entry (rootFrom first l) (entry + length (numbers l)) l
     pub right : Listed (first + nodeCount l) (entry + length (numbers l)) (rootFrom (first + nodeCount l) r) last r
@@ -57,6 +57,7 @@ module _ (boxAt : ℕ → Box) (order links : List ℕ) (boxes : List Float) whe
     pub own : NodeLinks links node 2 (rootFrom first l) (rootFrom (first + nodeCount l) r)
     pub box : nodeBox boxes node ≡ union (boxOver boxAt l) (boxOver boxAt r)
 
+  -- the listing of a branch is taken apart: the step of every recursion on listings
   pub halves : (first entry node last : ℕ) (l r : Tree) → Listed first entry node last (branch l r) → Halves first entry node last l r
   unfolding rootFrom numbers linksFrom boxesOf boxOver
   halves first entry node last l r s =
@@ -77,6 +78,7 @@ module _ (boxAt : ℕ → Box) (order links : List ℕ) (boxes : List Float) whe
         box = box-read boxes node (union (boxOver boxAt l) (boxOver boxAt r)) (six .2);
       }
 
+  -- completeness at any node: where the listing of a tree stands, the check finds its span and its box
   pub listed-found : (t : Tree) (most first entry node last : ℕ) → Filled t → levels t ≤ most → Listed first entry node last t
       → finding boxAt order links boxes most node last ≡ spans first entry (boxOver boxAt t)
   unfolding levels boxOver numbers rootFrom linksFrom boxesOf

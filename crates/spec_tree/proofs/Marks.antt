@@ -1,4 +1,4 @@
--- The test of the order list by marks: a loop that marks each entry, and stops at one that is too large or marked already. Assumes nothing.
+-- The test of the order list by marks: a loop marks each entry, and stops at one that is too large or marked already.
 use mathlib.Core.Path.{_≡_, refl, sym, ap, _∙_}
 use mathlib.Core.Bool.{Bool, true, false, _&&_, _||_, and-false, or-true, or-false}
 use mathlib.Core.List.{List, [], _∷_, _++_}
@@ -21,11 +21,12 @@ pub record Marked (n : ℕ) (order : List ℕ) (seen : List Bool) (i : ℕ) : Ty
   pub apart : distinct (take i order) ≡ true
   pub marks : (k : ℕ) → k < n → getD seen k false ≡ occurs k (take i order)
 
+-- start: no entry was read, and no mark is set
 pub marked-none : (n : ℕ) (order : List ℕ) (seen : List Bool) → Unmarked n seen → Marked n order seen 0
 unfolding allBelow distinct occurs
 marked-none n order seen u = record { within = omega arith; room = u .room; below = refl; apart = refl; marks = u .unset }
 
--- a fresh array of marks
+-- a fresh array of marks has none set, so the loop can start with it
 pub all-unmarked : (n most : ℕ) → n ≤ most → Unmarked n (replicate most false)
 all-unmarked n most h =
     record { room = omega (arith, length-replicate most false); unset = λ k w. getD-replicate most k false false (omega arith) }
@@ -43,6 +44,7 @@ module _ (n : ℕ) (order : List ℕ) (seen : List Bool) (i : ℕ) (s : Marked n
   one-mark k w b (no e) =
       getD-set-other seen here k true false e ∙ s .marks k w ∙ sym (rw (ne-eqb here k (λ q. e (sym q))) (or-false (occurs k (take i order))))
 
+  -- turn: an entry below n that had no mark gets one
   pub marked-more : here < n → getD seen here false ≡ false → Marked n order (set seen here true) (i + 1)
   unfolding allBelow occurs
   marked-more b f =
@@ -59,6 +61,7 @@ module _ (n : ℕ) (order : List ℕ) (seen : List Bool) (i : ℕ) (s : Marked n
   unfolding allBelow
   large-below b = rw (one-more, below-append n (take i order) (here ∷ []), s .below, le-ltb here n b)
 
+  -- early end: an entry that is not below n, so the order list is no permutation
   pub marked-large : n ≤ here → permutes n order ≡ false
   unfolding permutes
   marked-large b =
@@ -69,7 +72,7 @@ module _ (n : ℕ) (order : List ℕ) (seen : List Bool) (i : ℕ) (s : Marked n
       in
       rw (part, and-false (eqb (length order) n))
 
-  -- an entry that was there before
+  -- early end: an entry that has a mark already, so the order list is no permutation
   pub marked-twice : here < n → getD seen here false ≡ true → permutes n order ≡ false
   unfolding permutes
   marked-twice b f =
@@ -80,6 +83,7 @@ module _ (n : ℕ) (order : List ℕ) (seen : List Bool) (i : ℕ) (s : Marked n
       in
       rw whole (and-false (eqb (length order) n && allBelow n order))
 
+-- end: n entries were marked, so the order list is a permutation
 pub marked-all : (n : ℕ) (order : List ℕ) (seen : List Bool) (i : ℕ) → Marked n order seen i → length order ≡ n → n ≤ i → permutes n order ≡ true
 unfolding permutes
 marked-all n order seen i s p h =

@@ -1,4 +1,4 @@
--- A node as it stands in the lists and as it is read, and the test of boxes, which says yes exactly where they are equal. Assumes nothing.
+-- A node as it stands in the lists and as it is read, and the test of boxes, which says yes exactly where they are equal.
 use mathlib.Core.Path.{_≡_, refl, ap, _∙_}
 use mathlib.Core.Bool.{true, _&&_}
 use mathlib.Core.List.{List, [], _∷_}
@@ -26,6 +26,7 @@ same-point a b h =
     let z : a .z ≡ b .z = same-equal (a .z) (b .z) (outer .1) in
     λ i. record { x = x i; y = y i; z = z i }
 
+-- boxes that pass the test are equal, so the check knows the box that a node has
 pub same-box : (a b : Box) → sameBox a b ≡ true → a ≡ b
 unfolding sameBox
 same-box a b h =
@@ -37,17 +38,19 @@ same-box a b h =
 point-same : (a b : Point) → a ≡ b → samePoint a b ≡ true
 point-same a b p = simp (equal-same _ _ (λ i. p i .x), equal-same _ _ (λ i. p i .y), equal-same _ _ (λ i. p i .z))
 
+-- equal boxes pass the test, so the check accepts a box that the build wrote
 pub box-same : (a b : Box) → a ≡ b → sameBox a b ≡ true
 unfolding sameBox
 box-same a b p = both-pass _ _ (point-same (a .min) (b .min) (λ i. p i .min)) (point-same (a .max) (b .max) (λ i. p i .max))
 
 -- ---- a node that stands in the lists
--- the three numbers of a node stand in the links, and the six of its box in the boxes
+-- three links that are read at a node stand in the list there: what the check reads becomes a listing
 pub links-stand : (links : List ℕ) (node kind left right : ℕ) → 3 * node + 3 ≤ length links
     → kindAt links node ≡ kind → leftAt links node ≡ left → rightAt links node ≡ right → Stands 0 links (3 * node) (kind ∷ left ∷ right ∷ [])
 links-stand links node kind left right w k l r =
     (omega arith, k, (omega arith, rw (← add-one (3 * node)) l, (omega arith, rw (← add-two (3 * node)) r, tt)))
 
+-- a box that is read at a node stands in the list there, with its six numbers
 pub box-stands : (boxes : List Float) (node : ℕ) (b : Box) → 6 * node + 6 ≤ length boxes → b ≡ nodeBox boxes node → Stands nan boxes (6 * node) (sixOf b)
 box-stands boxes node b w p =
     rw p (
@@ -67,7 +70,7 @@ box-stands boxes node b w p =
     place : (k m : ℕ) → k ≡ m → getD boxes k nan ≡ getD boxes m nan
     place k m q = ap (λ (j : ℕ). getD boxes j nan) q
 
--- and is read
+-- ---- a node that is read
 -- the three numbers of a node
 pub record NodeLinks (links : List ℕ) (node kind left right : ℕ) : Type 0 where
   pub kind-is : kindAt links node ≡ kind
@@ -78,10 +81,12 @@ pub record NodeLinks (links : List ℕ) (node kind left right : ℕ) : Type 0 wh
 read : {A : Type 0} (d : A) (l : List A) (k m : ℕ) (v : A) → getD l m d ≡ v → k ≡ m → getD l k d ≡ v
 read d l k m v p q = ap (λ (j : ℕ). getD l j d) q ∙ p
 
+-- three links that stand in the list are read at their node: what a listing says becomes what a walk reads
 pub links-read : (links : List ℕ) (node kind left right : ℕ) → Stands 0 links (3 * node) (kind ∷ left ∷ right ∷ []) → NodeLinks links node kind left right
 links-read links node kind left right s =
     record { kind-is = s .1; left-is = read 0 links _ _ _ (s .2 .1) (omega arith); right-is = read 0 links _ _ _ (s .2 .2 .1) (omega arith) }
 
+-- a box that stands in the list is read at its node
 pub box-read : (boxes : List Float) (node : ℕ) (b : Box) → Stands nan boxes (6 * node) (sixOf b) → nodeBox boxes node ≡ b
 box-read boxes node b s =
     let low-y : nodeBox boxes node .min .y ≡ b .min .y = read nan boxes _ _ _ (s .2 .1) (omega arith) in

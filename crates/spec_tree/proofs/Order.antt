@@ -1,4 +1,4 @@
--- The test of the order list says yes exactly where it is a permutation of 0 to n - 1. Assumes nothing.
+-- The test of the order list says yes exactly where it is a permutation of 0 to n - 1.
 use mathlib.Core.Path.{_≡_, refl, sym, ap, _∙_}
 use mathlib.Core.Bool.{Bool, true, false, not, _&&_, _||_, true≢false, or-true, or-assoc, and-assoc, and-false}
 use mathlib.Core.Logic.{⊎-elim}
@@ -46,7 +46,7 @@ distinct-parts : (x : ℕ) (xs : List ℕ) → distinct (x ∷ xs) ≡ true → 
 unfolding distinct
 distinct-parts x xs h = let both = both-passed (not (occurs x xs)) (distinct xs) h in (not-true (occurs x xs) (both .0), both .1)
 
-pub fills : (xs ys : List ℕ) → distinct xs ≡ true → ((j : ℕ) → List·Memᴰ j xs → List·Memᴰ j ys) → length ys ≤ length xs → List·Permᴰ xs ys
+fills : (xs ys : List ℕ) → distinct xs ≡ true → ((j : ℕ) → List·Memᴰ j xs → List·Memᴰ j ys) → length ys ≤ length xs → List·Permᴰ xs ys
 fills [] [] d m w = List·Permᴰ·nil
 fills [] (y ∷ ys) d m w = absurd (omega arith)
 fills (x ∷ xs) ys d m w =
@@ -77,6 +77,7 @@ unfolding allBelow
 below-each n (x ∷ xs) h k (List·Memᴰ·head p) = rw p (ltb-true x n (both-passed (ltb x n) (allBelow n xs) h .0))
 below-each n (x ∷ xs) h k (List·Memᴰ·tail m) = below-each n xs (both-passed (ltb x n) (allBelow n xs) h .1) k m
 
+-- soundness of the test: an order list that passes is a permutation of 0 to n - 1
 pub test-permutes : (n : ℕ) (order : List ℕ) → permutes n order ≡ true → Permutes n order
 unfolding permutes
 test-permutes n order h =
@@ -86,6 +87,7 @@ test-permutes n order h =
     fills order (upTo n) (outer .1) (λ j m. up-to-has n j (below-each n order (inner .1) j m)) (omega (arith, up-to-length n))
 
 -- ---- the test says the same of two lists that are permutations of each other
+-- a permutation keeps the length
 pub permuted-length : {xs ys : List ℕ} → List·Permᴰ xs ys → length xs ≡ length ys
 permuted-length List·Permᴰ·nil = refl
 permuted-length (List·Permᴰ·cons e p) = ap suc (permuted-length p)
@@ -104,6 +106,7 @@ and-swap true false c = refl
 and-swap false true c = refl
 and-swap false false c = refl
 
+-- a permutation keeps which numbers occur
 pub permuted-occurs : (k : ℕ) {xs ys : List ℕ} → List·Permᴰ xs ys → occurs k xs ≡ occurs k ys
 unfolding occurs
 permuted-occurs k List·Permᴰ·nil = refl
@@ -142,12 +145,14 @@ permuted-distinct (List·Permᴰ·swap {a = a} {b = b} {l = l} e f) =
     ∙ (λ i. not (eqb (e i) (f i) || occurs (f i) l) && (not (occurs (e i) l) && distinct l))
 permuted-distinct (List·Permᴰ·trans p q) = permuted-distinct p ∙ permuted-distinct q
 
--- ---- lists in two parts
+-- ---- two lists, one behind the other
+-- a number occurs in the two where it occurs in one of them
 pub occurs-append : (k : ℕ) (xs ys : List ℕ) → occurs k (xs ++ ys) ≡ (occurs k xs || occurs k ys)
 unfolding occurs
 occurs-append k [] ys = refl
 occurs-append k (x ∷ xs) ys = rw (occurs-append k xs ys) (sym (or-assoc (eqb x k) (occurs k xs) (occurs k ys)))
 
+-- the two have all numbers below n where each has
 pub below-append : (n : ℕ) (xs ys : List ℕ) → allBelow n (xs ++ ys) ≡ (allBelow n xs && allBelow n ys)
 unfolding allBelow
 below-append n [] ys = refl
@@ -159,7 +164,7 @@ one-more false true true a = refl
 one-more false true false a = refl
 one-more false false d a = refl
 
--- one more at the end
+-- one entry more at the end keeps the list distinct where it did not occur before: a turn of the loop with marks
 pub distinct-more : (xs : List ℕ) (y : ℕ) → distinct (xs ++ (y ∷ [])) ≡ (distinct xs && not (occurs y xs))
 unfolding distinct occurs
 distinct-more [] y = refl
@@ -167,7 +172,7 @@ distinct-more (x ∷ xs) y =
     rw (occurs-append x xs (y ∷ []), distinct-more xs y, same-either-way y x)
     (one-more (occurs x xs) (eqb x y) (distinct xs) (occurs y xs))
 
--- a beginning with a number twice
+-- a front with a number twice decides the whole list, so the loop with marks may end early
 pub twice-before : (xs ys : List ℕ) → distinct xs ≡ false → distinct (xs ++ ys) ≡ false
 unfolding distinct
 twice-before [] ys h = absurd (true≢false h)
@@ -195,15 +200,17 @@ up-to-below zero k h = refl
 up-to-below (suc n) k h =
     rw (below-append k (upTo n) (n ∷ []), up-to-below n k (omega arith), lt-ltb n k (omega arith))
 
+-- completeness of the test: every permutation of 0 to n - 1 passes
 pub permutes-test : (n : ℕ) (order : List ℕ) → Permutes n order → permutes n order ≡ true
 unfolding permutes
 permutes-test n order p =
     rw (permuted-below n p, permuted-distinct p, up-to-below n n (omega arith), up-to-distinct n, eq-eqb (length order) n (permuted-length p ∙ up-to-length n))
 
+-- a permutation of 0 to n - 1 has n entries
 pub permutes-length : (n : ℕ) (order : List ℕ) → Permutes n order → length order ≡ n
 permutes-length n order p = permuted-length p ∙ up-to-length n
 
--- each number of the list is one of 0 to n - 1, and each of those is in the list
+-- each member of a permutation of 0 to n - 1 is below n: it is a triangle's number
 pub permutes-below : (n : ℕ) (order : List ℕ) → Permutes n order → (k : ℕ) → List·Memᴰ k order → k < n
 permutes-below n order p k m = below-each n order (permuted-below n p ∙ up-to-below n n (omega arith)) k m
 
@@ -212,5 +219,6 @@ member-at [] i h = absurd (omega arith)
 member-at (x ∷ xs) zero h = List·Memᴰ·head refl
 member-at (x ∷ xs) (suc i) h = List·Memᴰ·tail (member-at xs i (omega arith))
 
+-- the same by place: each entry is below n, so reading its triangle stays within the list
 pub permutes-entries : (n : ℕ) (order : List ℕ) → Permutes n order → EntriesBelow n order
 permutes-entries n order p i h = permutes-below n order p (getD order i 0) (member-at order i h)

@@ -1,4 +1,5 @@
--- How the leaves are met node by node: what a look for the k-th leaf and a count go on with, and that the leaves behind a found one are those from the next node on. Assumes nothing.
+-- How the leaves are met node by node: the turns of a search for the k-th leaf and of a count.
+-- The leaves behind a found one are those from the next node on, so that a search can resume there.
 use mathlib.Core.Path.{_≡_, refl, sym, ap, _∙_}
 use mathlib.Core.Bool.{Bool, true, false}
 use mathlib.Core.List.{List, [], _∷_, _++_, map}
@@ -19,11 +20,12 @@ module _ (links : List ℕ) where
   unfolding leafNodes
   leaf-node node count p = rw p
 
+  -- a node that is no leaf adds none
   pub other-node : (node count : ℕ) → (kindAt links node ≡ 1 → ⊥) → leafNodes links node (suc count) ≡ leafNodes links (suc node) count
   unfolding leafNodes
   other-node node count p = rw (ne-eqb (kindAt links node) 1 p)
 
-  -- first so many nodes, then the rest
+  -- the leaves of a run of nodes are those of its front and then those of the rest: subtree by subtree
   pub leaf-nodes-then : (node a b : ℕ) → leafNodes links node (a + b) ≡ leafNodes links node a ++ leafNodes links (node + a) b
   unfolding leafNodes
   leaf-nodes-then node zero b = let p : 0 + b ≡ b = omega arith in let q : node + 0 ≡ node = omega arith in rw (p, q)
@@ -41,10 +43,11 @@ module _ (links : List ℕ) (nodes : ℕ) where
   left-is : (node : ℕ) → node < nodes → nodes - node ≡ suc (nodes - (node + 1))
   left-is node h = omega arith
 
-  -- what is left to be counted, and what is counted, are all
+  -- the count's invariant: what was counted and what remains are all leaves
   abbrev pub Counts : ℕ → ℕ → Type 0
   Counts node count = count + length (leafNodes links node (nodes - node)) ≡ leafCount links nodes
 
+  -- start of the count: nothing is counted, all nodes remain
   pub counting-starts : Counts 0 0
   unfolding leafCount
   counting-starts =
@@ -52,6 +55,7 @@ module _ (links : List ℕ) (nodes : ℕ) where
       let sum : 0 + length (leafNodes links 0 nodes) ≡ length (leafNodes links 0 nodes) = omega arith in
       rw all sum
 
+  -- end of the count: no node remains, so all leaves are counted
   pub counting-ends : (node count : ℕ) → nodes ≤ node → Counts node count → count ≡ leafCount links nodes
   unfolding leafNodes
   counting-ends node count h c = let none : nodes - node ≡ 0 = omega arith in omega (arith, rw none at c)
@@ -63,37 +67,45 @@ module _ (links : List ℕ) (nodes : ℕ) where
     on-other : (kindAt links node ≡ 1 → ⊥) → leafNodes links node (nodes - node) ≡ leafNodes links (node + 1) (nodes - (node + 1))
     on-other p = ap (leafNodes links node) (left-is node h) ∙ other-node links node (nodes - (node + 1)) p ∙ rw add-one
 
+    -- turn of the count at a leaf: one more
     pub counting-leaf : (count : ℕ) → kindAt links node ≡ 1 → Counts node count → Counts (node + 1) (count + 1)
     counting-leaf count p c = omega (arith, c, ap length (on-leaf p))
 
+    -- turn of the count at a node that is no leaf: the count stays
     pub counting-other : (count : ℕ) → (kindAt links node ≡ 1 → ⊥) → Counts node count → Counts (node + 1) count
     counting-other count p c = omega (arith, c, ap length (on-other p))
 
 module _ (links : List ℕ) (boxes : List Float) (nodes : ℕ) where
+  -- the search for the k-th leaf ends past the last node: there is none
   pub seek-ends : (node left : ℕ) → nodes ≤ node → leafFrom links boxes nodes node left ≡ nothing
   unfolding leafFrom leafNodes kth
   seek-ends node left h = let none : nodes - node ≡ 0 = omega arith in rw none
 
   module _ (node : ℕ) (h : node < nodes) where
+    -- at a leaf, with none remaining to be skipped, the search ends: it is this one
     pub seek-here : (left : ℕ) → kindAt links node ≡ 1 → left ≡ 0 → leafFrom links boxes nodes node left ≡ found (leafAt links boxes node)
     unfolding leafFrom kth
     seek-here left p none = ap (leafFrom links boxes nodes node) none ∙ rw (on-leaf links nodes node h p)
 
+    -- at a leaf, with some remaining to be skipped, the search goes on for one fewer
     pub seek-past : (left : ℕ) → kindAt links node ≡ 1 → (left ≡ 0 → ⊥) → leafFrom links boxes nodes (node + 1) (left - 1) ≡ leafFrom links boxes nodes node left
     unfolding leafFrom kth
     seek-past left p some = let more : left ≡ suc (left - 1) = omega arith in sym (ap (leafFrom links boxes nodes node) more ∙ rw (on-leaf links nodes node h p))
 
+    -- at a node that is no leaf the search goes on
     pub seek-on : (left : ℕ) → (kindAt links node ≡ 1 → ⊥) → leafFrom links boxes nodes (node + 1) left ≡ leafFrom links boxes nodes node left
     unfolding leafFrom
     seek-on left p = sym (rw (on-other links nodes node h p))
 
 -- ---- the k-th of a list
+-- past the last of a list there is nothing
 pub kth-none : (ls : List Leaf) (k : ℕ) → length ls ≤ k → kth ls k ≡ nothing
 unfolding kth
 kth-none [] k h = refl
 kth-none (l ∷ ls) zero h = absurd (omega arith)
 kth-none (l ∷ ls) (suc k) h = kth-none ls k (omega arith)
 
+-- up to the last of a list, what is found is what stands there
 pub kth-some : (ls : List Leaf) (k : ℕ) (d : Leaf) → k < length ls → kth ls k ≡ found (getD ls k d)
 unfolding kth
 kth-some [] k d h = absurd (omega arith)
@@ -104,7 +116,7 @@ module _ (links : List ℕ) (boxes : List Float) where
   abbrev among : ℕ → ℕ → List Leaf
   among node count = map (leafAt links boxes) (leafNodes links node count)
 
-  -- the k-th leaf of so many nodes from this one on: it is one of them, and the leaves behind it are those from the next node on
+  -- the k-th leaf of `count` nodes from this one on: it is one of them, and the leaves behind it are those from the next node on
   pub record FoundAt (node count k : ℕ) (l : Leaf) : Type 0 where
     pub within : l .node < node + count
     pub next : (j : ℕ) → kth (among (l .node + 1) (node + count - (l .node + 1))) j ≡ kth (among node count) (k + j + 1)
@@ -160,7 +172,7 @@ module _ (links : List ℕ) (boxes : List Float) (nodes from k : ℕ) (l : Leaf)
       at (yes h) = h
       at (no h) = absurd (let q : nothing ≡ found l = sym (seek-ends links boxes nodes from k (omega arith)) ∙ p in let z : _≡_ {A = ℕ} 0 1 = cc in omega arith)
 
-  -- the leaves behind it are those from the next node on
+  -- the leaves behind a found one are those from the next node on, so a reader of all leaves need not begin anew each time
   pub found-next : (j : ℕ) → leafFrom links boxes nodes (l .node + 1) j ≡ leafFrom links boxes nodes from (k + j + 1)
   unfolding leafFrom
   found-next j = let end : from + (nodes - from) ≡ nodes = omega (arith, before-end) in rw end at (unfolded .next j)

@@ -1,4 +1,5 @@
--- The tree check: what it is for lists to be the listing of a tree over n triangles, and the check itself, by recursion from the root. Definitions only.
+-- The tree check: what it is for lists to be the listing of a tree over n triangles, and the test of it, by recursion from the root.
+-- Walks read accepted lists without further tests, so every bound that they rely on is decided here.
 use mathlib.Core.Path.{_≡_}
 use mathlib.Core.Bool.{Bool, true, false, cond, _&&_}
 use mathlib.Core.List.{List}
@@ -14,7 +15,8 @@ use Rattle.spec_shapes.specs.Boxes.{Box, union}
 use Rattle.spec_tree.specs.Trees.{Tree, numbers, nodeCount, levels, Filled, joined, linksFrom, boxesOf, kindAt, leftAt, rightAt, nodeBox}
 use Rattle.spec_tree.specs.Order.{Permutes, permutes}
 
--- The lists are the listing of the tree: the first 3 × nodes links and the first 6 × nodes box numbers are there and are the tree's; what stands behind them is free.
+-- The lists are the listing of the tree: the first 3 × nodes links and the first 6 × nodes box numbers are there and are the tree's.
+-- What stands behind them is free: a host may lend longer lists.
 pub record Listing (boxAt : ℕ → Box) (n : ℕ) (order links : List ℕ) (boxes : List Float) (nodes : ℕ) (t : Tree) : Type 0 where
   pub order-is : order ≡ numbers t
   pub permuted : Permutes n order
@@ -28,11 +30,11 @@ pub record Listing (boxAt : ℕ → Box) (n : ℕ) (order links : List ℕ) (box
 abbrev pub samePoint : Point → Point → Bool
 samePoint a b = same (a .x) (b .x) && same (a .y) (b .y) && same (a .z) (b .z)
 
--- bit for bit
+-- bit for bit: an accepted box is the very one that the triangles give
 unfoldable pub sameBox : Box → Box → Bool
 sameBox a b = samePoint (a .min) (b .min) && samePoint (a .max) (b .max)
 
--- what a subtree is found to be: wrong, or a listing with this first node, whose triangles begin at this entry of the order list, under this box
+-- What a subtree is found to be: wrong, or a listing, with its first node, the order entry at which its triangles begin, and its box.
 pub data Finding : Type 0 where
   wrong : Finding
   spans : ℕ → ℕ → Box → Finding
@@ -41,13 +43,13 @@ pub data Finding : Type 0 where
 unfoldable pub boxed : List Float → ℕ → ℕ → ℕ → Box → Finding
 boxed boxes node first entry box = cond (sameBox box (nodeBox boxes node)) (spans first entry box) wrong
 
--- a branch, whose left subtree is found to be this
+-- a branch whose right subtree is right, once its left subtree was looked at
 abbrev pub leftFound : List Float → ℕ → Box → Finding → Finding
 leftFound boxes node rightBox wrong = wrong
 leftFound boxes node rightBox (spans first entry leftBox) = boxed boxes node first entry (union leftBox rightBox)
 
 module _ (boxAt : ℕ → Box) (order links : List ℕ) (boxes : List Float) where
-  -- a leaf: its triangles are those from its left to its right, which is `last`
+  -- a leaf: its triangles stand from its left link on and end before its right link, which must be `last`
   unfoldable pub leafFinding : ℕ → ℕ → Finding
   leafFinding node last =
       let entry = leftAt links node in
@@ -71,12 +73,13 @@ module _ (boxAt : ℕ → Box) (order links : List ℕ) (boxes : List Float) whe
   byKind false true below node last = rightTried (eqb (rightAt links node + 1) node) below node last
   byKind false false below node last = wrong
 
-  -- the subtree whose root is this node and whose triangles end at `last`, the end not included, with so many levels left
+  -- The subtree whose root is this node and whose triangles end before `last`.
+  -- The first argument bounds its levels, so that the recursion ends on links that run in a circle.
   unfoldable pub finding : ℕ → ℕ → ℕ → Finding
   finding zero node last = wrong
   finding (suc left) node last = byKind (eqb (kindAt links node) 1) (eqb (kindAt links node) 2) (finding left) node last
 
--- the node is there, and its triangles end within the order list
+-- what a look at a node needs: the node is there, and its triangles end within the order list
 pub record Room (order links : List ℕ) (boxes : List Float) (node last : ℕ) : Type 0 where
   pub links-there : 3 * node + 3 ≤ length links
   pub boxes-there : 6 * node + 6 ≤ length boxes
@@ -87,10 +90,11 @@ abbrev pub isWhole : Finding → Bool
 isWhole wrong = false
 isWhole (spans first entry box) = eqb first 0 && eqb entry 0
 
--- there is a node, and the links and boxes of so many are there
+-- there is a node, and the links and boxes of every node are there
 unfoldable pub present : List ℕ → List Float → ℕ → Bool
 present links boxes nodes = ltb 0 nodes && leb (3 * nodes) (length links) && leb (6 * nodes) (length boxes)
 
+-- the whole check; the root is the last node, and its listing must span all nodes and all triangles
 unfoldable pub accepted : (ℕ → Box) → ℕ → List ℕ → List ℕ → List Float → ℕ → Bool
 accepted boxAt n order links boxes nodes =
     permutes n order && present links boxes nodes && isWhole (finding boxAt order links boxes deepest (nodes - 1) n)

@@ -1,4 +1,4 @@
--- The depth of a tree, read off its links. Definitions only.
+-- The depth of a tree, read off its links, and what it needs of them.
 use mathlib.Core.Bool.{Bool, true, false}
 use mathlib.Core.List.{List}
 use mathlib.Core.Path.{_≡_}
@@ -14,16 +14,16 @@ abbrev pub depthBy : Bool → List ℕ → (ℕ → ℕ) → ℕ → ℕ
 depthBy true links below node = max (below (leftAt links node)) (below (rightAt links node)) + 1
 depthBy false links below node = 1
 
--- the levels from this node down, of which so many are looked at
+-- the levels from this node down; `most` bounds the recursion, so that it ends on any links
 unfoldable pub depthAt : List ℕ → ℕ → ℕ → ℕ
 depthAt links zero node = 0
 depthAt links (suc most) node = depthBy (eqb (kindAt links node) 2) links (depthAt links most) node
 
--- of the whole tree, whose root is the last node
+-- the depth of the whole tree, whose root is the last node
 abbrev pub depthOf : List ℕ → ℕ → ℕ
 depthOf links nodes = depthAt links deepest (nodes - 1)
 
--- what a look for the depth from this node down asks: the node is there, and every branch up to it has its children before it
+-- What the depth from a node down needs: the node is there, and every branch up to it has its children before it.
 pub record Descends (links : List ℕ) (node : ℕ) : Type 0 where
   pub there : 3 * node + 3 ≤ length links
   pub falls : (k : ℕ) → k ≤ node → kindAt links k ≡ 2 → ChildrenBefore links k

@@ -1,4 +1,5 @@
--- What a walk meets at a node of the lists: the tree that hangs there, and what holds of every node. Definitions only.
+-- What a walk meets at a node of the lists: the tree that hangs there, and what holds of every node.
+-- A walk descends by these records alone; it never sees the listing as a whole.
 use mathlib.Core.Path.{_≡_}
 use mathlib.Core.List.{List}
 use mathlib.Core.Logic.{_⊎_}
@@ -10,7 +11,7 @@ use Rattle.spec_shapes.specs.Boxes.{Box}
 use Rattle.spec_tree.specs.Trees.{Tree, leaf, branch, joined, boxOver, kindAt, leftAt, rightAt, nodeBox}
 use Rattle.spec_tree.specs.Order.{EntriesBelow}
 
--- the part of the order list that a leaf's range is
+-- the slice of the order list that a leaf's range names
 abbrev pub leafPart : List ℕ → List ℕ → ℕ → List ℕ
 leafPart order links node = Tables.part order (leftAt links node) (rightAt links node - leftAt links node)
 
@@ -19,6 +20,7 @@ pub record There (links : List ℕ) (boxes : List Float) (node : ℕ) : Type 0 w
   pub links-there : 3 * node + 3 ≤ length links
   pub boxes-there : 6 * node + 6 ≤ length boxes
 
+-- the node is a leaf of these triangles, under this box
 pub record LeafAt (order links : List ℕ) (boxes : List Float) (part : List ℕ) (box : Box) (node : ℕ) : Type 0 where
   pub there : There links boxes node
   pub kind-is : kindAt links node ≡ 1
@@ -27,7 +29,7 @@ pub record LeafAt (order links : List ℕ) (boxes : List Float) (part : List ℕ
   pub part-is : leafPart order links node ≡ part
   pub box-is : nodeBox boxes node ≡ box
 
--- its children stand before it, and this hangs at them
+-- the node is a branch, its children stand before it, so that a walk ends, and this hangs at them
 pub record BranchAt (links : List ℕ) (boxes : List Float) (box : Box) (Left Right : ℕ → Type 0) (node : ℕ) : Type 0 where
   pub there : There links boxes node
   pub kind-is : kindAt links node ≡ 2
@@ -37,24 +39,27 @@ pub record BranchAt (links : List ℕ) (boxes : List Float) (box : Box) (Left Ri
   pub left : Left (leftAt links node)
   pub right : Right (rightAt links node)
 
--- the tree hangs at the node
+-- the tree hangs at the node: the lists, read from the node down, give this tree and its boxes
 abbrev pub Hangs : (ℕ → Box) → List ℕ → List ℕ → List Float → Tree → ℕ → Type 0
 Hangs boxAt order links boxes (leaf part) = LeafAt order links boxes part (joined boxAt part)
 Hangs boxAt order links boxes (branch l r) =
     BranchAt links boxes (boxOver boxAt (branch l r)) (Hangs boxAt order links boxes l) (Hangs boxAt order links boxes r)
 
 -- ---- of every node alike
+-- a leaf's range is not empty and lies within the order list
 pub record LeafRange (order links : List ℕ) (node : ℕ) : Type 0 where
   pub is-leaf : kindAt links node ≡ 1
   pub nonempty : leftAt links node < rightAt links node
   pub within : rightAt links node ≤ length order
 
+-- a branch's children stand before it, so that a walk ends
 pub record ChildrenBefore (links : List ℕ) (node : ℕ) : Type 0 where
   pub is-branch : kindAt links node ≡ 2
   pub left-before : leftAt links node < node
   pub right-before : rightAt links node < node
 
--- each of the nodes is there, and is a leaf with a range in the order list or a branch whose children stand before it; each entry of the order list is below n
+-- Every node is there, and is a leaf with a range in the order list or a branch whose children stand before it.
+-- Every entry of the order list is below n, so that it is a triangle's number.
 pub record Sound (n : ℕ) (order links : List ℕ) (boxes : List Float) (nodes : ℕ) : Type 0 where
   pub links-there : 3 * nodes ≤ length links
   pub boxes-there : 6 * nodes ≤ length boxes

@@ -1,4 +1,4 @@
--- The leaves of a tree, left to right, and how they are read off the lists. Definitions only.
+-- The leaves of a tree, left to right, how they are read off the lists, and what the public calls answer about them.
 use mathlib.Core.Bool.{Bool, true, false}
 use mathlib.Core.List.{List, [], _∷_, _++_, map}
 use Prim.Native.Nat.{ℕ, zero, suc, _+_, _-_, _*_, _≤_}
@@ -30,7 +30,7 @@ unfoldable pub leavesFrom : (ℕ → Box) → ℕ → ℕ → Tree → List Leaf
 leavesFrom boxAt node entry (leaf part) = record { node = node; first = entry; last = entry + length part; box = joined boxAt part } ∷ []
 leavesFrom boxAt node entry (branch l r) = leavesFrom boxAt node entry l ++ leavesFrom boxAt (node + nodeCount l) (entry + length (numbers l)) r
 
--- the part of the order list that a leaf has
+-- the slice of the order list that a leaf has
 abbrev pub partOf : List ℕ → Leaf → List ℕ
 partOf order l = Tables.part order (l .first) (l .last - l .first)
 
@@ -38,7 +38,7 @@ abbrev pub oneIf : Bool → ℕ
 oneIf true = 1
 oneIf false = 0
 
--- how many of the parts a number stands in
+-- how many of the slices hold a number: of a tree each triangle is in exactly one
 unfoldable pub partsWith : ℕ → List (List ℕ) → ℕ
 partsWith k [] = 0
 partsWith k (part ∷ parts) = oneIf (occurs k part) + partsWith k parts
@@ -53,19 +53,21 @@ unfoldable pub leafNodes : List ℕ → ℕ → ℕ → List ℕ
 leafNodes links node zero = []
 leafNodes links node (suc count) = withLeaf (eqb (kindAt links node) 1) node (leafNodes links (suc node) count)
 
+-- the leaf that is read at a node
 abbrev pub leafAt : List ℕ → List Float → ℕ → Leaf
 leafAt links boxes node = record { node = node; first = leftAt links node; last = rightAt links node; box = nodeBox boxes node }
 
+-- how many leaves are read
 unfoldable pub leafCount : List ℕ → ℕ → ℕ
 leafCount links nodes = length (leafNodes links 0 nodes)
 
--- the leaf that was asked for, or nothing where there are not so many, or the refusal
+-- the k-th leaf, or nothing where there are k or fewer, or the refusal
 pub data LeafFound : Type 0 where
   nothing : LeafFound
   found : Leaf → LeafFound
   notSought : (number place : ℕ) → LeafFound
 
--- counted from 0
+-- the k-th of a list of leaves, counted from 0
 unfoldable pub kth : List Leaf → ℕ → LeafFound
 kth [] k = nothing
 kth (l ∷ ls) zero = found l
@@ -75,7 +77,7 @@ kth (l ∷ ls) (suc k) = kth ls k
 unfoldable pub leafFrom : List ℕ → List Float → (nodes from k : ℕ) → LeafFound
 leafFrom links boxes nodes from k = kth (map (leafAt links boxes) (leafNodes links from (nodes - from))) k
 
--- the links and boxes of so many nodes are there
+-- what reading the leaves needs: the links and boxes of every node are there
 pub record NodesThere (links : List ℕ) (boxes : List Float) (nodes : ℕ) : Type 0 where
   pub links-there : 3 * nodes ≤ length links
   pub boxes-there : 6 * nodes ≤ length boxes
@@ -88,7 +90,7 @@ soughtIf (refused number place) l = notSought number place
 unfoldable pub leafAnswer : (triangles : List Float) (order links : List ℕ) (boxes : List Float) (nodes k : ℕ) → LeafFound
 leafAnswer triangles order links boxes nodes k = soughtIf (checkRefusal triangles order links boxes nodes) (leafFrom links boxes nodes 0 k)
 
--- a triangle of a leaf, or nothing where it has not so many, or the refusal
+-- the i-th triangle of a leaf, or none where it has i or fewer, or the refusal
 pub data EntryFound : Type 0 where
   noEntry : EntryFound
   triangle : ℕ → EntryFound
@@ -98,7 +100,7 @@ abbrev pub entryIf : Bool → ℕ → EntryFound
 entryIf true t = triangle t
 entryIf false t = noEntry
 
--- what stands at a place of a leaf's part
+-- what stands at a place of a leaf's slice
 unfoldable pub entryAt : List ℕ → ℕ → EntryFound
 entryAt part i = entryIf (ltb i (length part)) (getD part i 0)
 
@@ -110,6 +112,7 @@ entryIn order (notSought number place) i = notAsked number place
 unfoldable pub entryAnswer : (triangles : List Float) (order links : List ℕ) (boxes : List Float) (nodes k i : ℕ) → EntryFound
 entryAnswer triangles order links boxes nodes k i = entryIn order (leafAnswer triangles order links boxes nodes k) i
 
+-- the number of leaves, or the refusal
 pub data LeavesCounted : Type 0 where
   counted : ℕ → LeavesCounted
   notCounted : (number place : ℕ) → LeavesCounted

@@ -1,4 +1,5 @@
--- What it is for the order list to be a permutation of 0 to n - 1, and the test of it. Definitions only.
+-- What it is for the order list to be a permutation of 0 to n - 1, and the test of it.
+-- The tree check accepts permutations alone, so every triangle is under exactly one leaf.
 use mathlib.Core.Path.{_≡_}
 use mathlib.Core.Bool.{Bool, true, false, not, _&&_, _||_}
 use mathlib.Core.List.{List, [], _∷_, _++_, List·Permᴰ}
@@ -6,7 +7,7 @@ use Prim.Native.Nat.{ℕ, zero, suc, _≤_, _<_}
 use lib.Dec.{ltb, eqb}
 use lib.ListN.{length, getD}
 
--- 0, 1, .. n - 1
+-- the range 0, 1, .. n - 1
 unfoldable pub upTo : ℕ → List ℕ
 upTo zero = []
 upTo (suc n) = upTo n ++ (n ∷ [])
@@ -14,7 +15,7 @@ upTo (suc n) = upTo n ++ (n ∷ [])
 abbrev pub Permutes : ℕ → List ℕ → Type 0
 Permutes n order = List·Permᴰ order (upTo n)
 
--- each entry is below n
+-- each entry is below n: reading its triangle stays within the list
 abbrev pub EntriesBelow : ℕ → List ℕ → Type 0
 EntriesBelow n order = (i : ℕ) → i < length order → getD order i 0 < n
 
@@ -31,7 +32,7 @@ unfoldable pub allBelow : ℕ → List ℕ → Bool
 allBelow n [] = true
 allBelow n (x ∷ xs) = ltb x n && allBelow n xs
 
--- n numbers, each below n, none of them twice
+-- n numbers, each below n, none of them twice: a loop with one mark a number decides it
 unfoldable pub permutes : ℕ → List ℕ → Bool
 permutes n order = eqb (length order) n && allBelow n order && distinct order
 

@@ -1,4 +1,4 @@
--- Trees over triangle numbers, their boxes, and the left-right-self listing of their nodes. Definitions only.
+-- Trees over triangle numbers, their boxes, and the listing of their nodes in post-order: left subtree, right subtree, node.
 use mathlib.Core.List.{List, [], _∷_, _++_}
 use Prim.Native.Nat.{ℕ, _+_, _*_, _<_, max}
 use lib.ListN.{length, getD}
@@ -6,6 +6,7 @@ use lib.Ieee.{Float, nan}
 use Rattle.spec_shapes.specs.Points.{Point}
 use Rattle.spec_shapes.specs.Boxes.{Box, union}
 
+-- a binary tree; a leaf has the numbers of its triangles
 pub data Tree : Type 0 where
   leaf : List ℕ → Tree
   branch : Tree → Tree → Tree
@@ -19,7 +20,7 @@ unfoldable pub nodeCount : Tree → ℕ
 nodeCount (leaf part) = 1
 nodeCount (branch l r) = nodeCount l + nodeCount r + 1
 
--- a lone leaf has one
+-- the levels from the root down; a lone leaf has one
 unfoldable pub levels : Tree → ℕ
 levels (leaf part) = 1
 levels (branch l r) = max (levels l) (levels r) + 1
@@ -35,7 +36,7 @@ unfoldable pub joinedTo : (ℕ → Box) → Box → List ℕ → Box
 joinedTo boxAt b [] = b
 joinedTo boxAt b (k ∷ ks) = joinedTo boxAt (union b (boxAt k)) ks
 
--- the first triangle's box joined with those of the rest; no leaf is empty, so the first line is never asked for
+-- the first triangle's box joined with those of the rest; no leaf is empty, so the first clause is never needed
 unfoldable pub joined : (ℕ → Box) → List ℕ → Box
 joined boxAt [] = boxAt 0
 joined boxAt (k ∷ ks) = joinedTo boxAt (boxAt k) ks
@@ -50,7 +51,7 @@ unfoldable pub rootFrom : ℕ → Tree → ℕ
 rootFrom node (leaf part) = node
 rootFrom node (branch l r) = node + nodeCount l + nodeCount r
 
--- three numbers a node: 1, where its triangles begin in the order list, and where they end, the end not included; or 2, and the roots of its two subtrees.
+-- Three numbers a node: 1, the order entry at which its triangles begin, and the one before which they end; or 2, and its two children.
 -- The listing begins with this node, and its triangles in the order list with this entry.
 unfoldable pub linksFrom : ℕ → ℕ → Tree → List ℕ
 linksFrom node entry (leaf part) = 1 ∷ entry ∷ (entry + length part) ∷ []
