@@ -1,4 +1,4 @@
--- What lists that passed the tests of a query give the searches, and what the loop over the points writes. Assumes nothing.
+-- What lists that passed the tests of a query give the searches, and what the loop over the points writes.
 use mathlib.Core.Path.{_≡_, refl, sym, ap, _∙_}
 use mathlib.Core.Bool.{true}
 use mathlib.Core.List.{List}
@@ -29,9 +29,11 @@ module _ (triangles : List Float) (order links : List ℕ) (boxes : List Float) 
   listed : (t : Tree) × Listing (boxAt triangles) (triangleCount triangles) order links boxes nodes t
   listed = accepted-listed (boxAt triangles) (triangleCount triangles) order links boxes nodes (s .tree-accepted)
 
+  -- an accepted tree has a root, so a search can begin at the last node
   pub root-there : 1 ≤ nodes
   root-there = listing-some (boxAt triangles) (triangleCount triangles) order links boxes nodes (listed .0) (listed .1)
 
+  -- the root of an accepted tree has what a walk needs, with nothing measured yet
   pub root-safe : NodeSafe triangles order links boxes (deepest - 1) (nodes - 1) 0
   root-safe =
       let l = listed .1 in
@@ -47,6 +49,7 @@ module _ (triangles : List Float) (order links : List ℕ) (boxes : List Float) 
 
 -- ---- the tests that passed
 module _ (triangles : List Float) (order links : List ℕ) (boxes : List Float) (nodes : ℕ) (points : List Float) (distance : Float) (room : ℕ) where
+  -- lists that pass the tests have what the searches need, and the lent list has room for all answers
   pub query-passed : queryRefusal triangles order links boxes nodes points distance room ≡ passes → Askable triangles order links boxes nodes points × (6 * pointCount points ≤ room)
   unfolding queryRefusal treeRefusal
   query-passed h =
@@ -61,10 +64,12 @@ module _ (triangles : List Float) (order links : List ℕ) (boxes : List Float) 
 
 -- ---- the lent list afterwards
 module _ (f : Format) (answer : Point → Answer) (points : List Float) (old : List ℕ) where
+  -- on a refusal the lent list stays as it was
   pub as-it-was : (v : Verdict) → refuses v ≡ true → old ≡ afterQuery f answer points v old
   unfolding afterQuery
   as-it-was v h = refusal-leaves v (over 0 (answerWords f answer points) old) old h
 
+  -- without a refusal the lent list has the answers at its front
   pub is-answered : (v : Verdict) (new : List ℕ) → v ≡ passes → new ≡ over 0 (answerWords f answer points) old → new ≡ afterQuery f answer points v old
   unfolding afterQuery
   is-answered v new e h = rw e h
@@ -79,13 +84,16 @@ module _ (f : Format) (answer : Point → Answer) (points : List Float) (old : L
   abbrev pub Answered : (n : ℕ) (out : List ℕ) (k : ℕ) → Type 0
   Answered n out k = Run (λ j. sixWords f (answer (pointAt points (3 * j)))) 0 n old out k
 
+  -- start: no answer is written
   pub answered-start : (n : ℕ) → Answered n old 0
   answered-start n = run-start (λ j. sixWords f (answer (pointAt points (3 * j)))) 6 0 n old
 
+  -- turn: the next point's answer is written behind the others
   pub answered-more : (n : ℕ) (out new : List ℕ) (k : ℕ) (a : Answer) → 6 * n ≤ length old → k < n → Answered n out k → a ≡ answer (pointAt points (3 * k)) → new ≡ over (6 * k) (sixWords f a) out → Answered n new (k + 1)
   answered-more n out new k a room l r e h =
       run-front (λ j. sixWords f (answer (pointAt points (3 * j)))) 6 n old out new k (λ j. six-long (answer (pointAt points (3 * j)))) room l r (h ∙ ap (λ (b : Answer). over (6 * k) (sixWords f b) out) e)
 
+  -- end: every point is answered, and what is behind the answers is as it was
   pub answered-end : (n : ℕ) (out : List ℕ) (k : ℕ) → n ≡ pointCount points → n ≤ k → Answered n out k → out ≡ over 0 (answerWords f answer points) old
   unfolding answerWords
   answered-end n out k e l r = run-end (λ j. sixWords f (answer (pointAt points (3 * j)))) 0 n old out k l r ∙ ap (λ (m : ℕ). over 0 (many (λ j. sixWords f (answer (pointAt points (3 * j)))) m) old) e

@@ -1,4 +1,5 @@
--- What is kept as a plain hit is compared as the answer that it stands for: an infinite squared distance is above nothing, and whatever is below something is below it. Assumes nothing.
+-- What is kept as a plain hit is compared as the answer that it stands for.
+-- No squared distance is above an infinite one, and one that is below anything is below it.
 use mathlib.Core.Path.{_≡_, refl, sym, ap}
 use mathlib.Core.Bool.{Bool, true, false, not, true≢false, _&&_, _||_}
 use lib.Ieee.{Float, nan, inf, fin, lt, eq}
@@ -70,10 +71,12 @@ first-true : (a b : Bool) → (a && b) ≡ true → a ≡ true
 first-true true b h = refl
 first-true false b h = absurd (true≢false (sym h))
 
+-- a hit at an infinite squared distance stands for nothing
 pub stands-nothing : (h : Hit) → eq (h .squared) (inf false) ≡ true → nothing ≡ kept h
 unfolding kept
 stands-nothing h e = rw e
 
+-- a hit at any other squared distance stands for itself
 pub stands-found : (h : Hit) → eq (h .squared) (inf false) ≡ false → found h ≡ kept h
 unfolding kept
 stands-found h e = rw e
@@ -82,29 +85,34 @@ found-kept : (h : Hit) (x : Float) → lt (h .squared) x ≡ true → kept h ≡
 unfolding kept
 found-kept h x l = simp (below-is-finite (h .squared) x l)
 
+-- a box is skipped by a kept hit exactly where it is skipped by the answer: no test for nothing is needed
 pub passed-kept : (limit d : Float) (k : Hit) → (not (counts limit d) || lt (k .squared) d) ≡ isPassed limit d (kept k)
 unfolding isPassed kept
 passed-kept limit d k = ap (λ (b : Bool). not (counts limit d) || b) (sym (above-if (eq (k .squared) (inf false)) d k refl))
 
--- two tests, as what they test
+-- the flag of two tests that were computed is that of the tests in the definition
 pub both-said : (a b x y flag : Bool) → a ≡ x → b ≡ y → (a && b) ≡ flag → (x && y) ≡ flag
 both-said a b x y flag p q h = rw (← p, ← q) h
 
--- ---- what is kept once h is offered, or met
+-- ---- what is kept once h is measured, by either query
 module _ (h k new : Hit) where
+  -- sure query: a hit that counts and is nearer takes the place of what was kept
   pub offer-taken : (limit : Float) → (counts limit (h .squared) && nearer h k) ≡ true → new ≡ h → kept new ≡ offered limit h (kept k)
   unfolding offered counts
   offer-taken limit t e = rw (both limit h k, t, e) (found-kept h limit (first-true _ _ t))
 
+  -- source query: a strictly smaller hit takes the place of what was kept
   pub met-smaller : lt (h .squared) (k .squared) ≡ true → new ≡ h → kept new ≡ strictly h (kept k)
   unfolding strictly kept
   met-smaller t e = rw (smallest-if (eq (k .squared) (inf false)) k refl, t, e) (found-kept h (k .squared) t)
 
 module _ (h k : Hit) where
+  -- sure query: a hit that does not count or is not nearer leaves what was kept
   pub offer-left : (limit : Float) → (counts limit (h .squared) && nearer h k) ≡ false → kept k ≡ offered limit h (kept k)
   unfolding offered
   offer-left limit t = rw (both limit h k, t)
 
+  -- source query: a hit that is not strictly smaller leaves what was kept
   pub met-no-smaller : lt (h .squared) (k .squared) ≡ false → kept k ≡ strictly h (kept k)
   unfolding strictly kept
   met-no-smaller t = rw (smallest-if (eq (k .squared) (inf false)) k refl, t)

@@ -1,4 +1,5 @@
--- What a scan's answer is: it counts, nothing that counts is smaller, nothing equal has a lower number, and it is nothing exactly when no triangle counts. Assumes nothing.
+-- What a scan's answer is: it counts, nothing that counts is smaller, and nothing equal has a lower number.
+-- It is nothing exactly when no triangle counts.
 use mathlib.Core.Path.{_≡_, refl, sym, ap, subst, _∙_}
 use mathlib.Core.Bool.{Bool, true, false, not, _&&_, _||_}
 use mathlib.Core.Logic.{_⊎_, inl, inr, ⊎-elim}
@@ -129,18 +130,20 @@ module _ (hit : ℕ → Hit) (named : (t : ℕ) → hit t .triangle ≡ t) (limi
           rw (offered-not (hit n) (found h) false true c (better-is-smaller n h (m .one-of-them) ∙ l) refl) (not-smaller n h m (passed c) (failed l)))
           (either (lt (hit n .squared) (h .squared)))
 
-  pub kept-nearest : (n : ℕ) → Nearest hit limit n (keptBy (λ t k. offered limit (hit t) k) (upTo n) nothing)
+  -- the fold over a range keeps the nearest of its triangles
+  kept-nearest : (n : ℕ) → Nearest hit limit n (keptBy (λ t k. offered limit (hit t) k) (upTo n) nothing)
   unfolding upTo keptBy
   kept-nearest zero = λ t l. absurd (omega arith)
   kept-nearest (suc n) = rw (kept-append (λ t k. offered limit (hit t) k) (upTo n) (n ∷ []) nothing) (taken n _ (kept-nearest n))
 
 -- ---- the scan
 module _ (f : Format) (triangles : List Float) (p : Point) (limit : Float) where
+  -- what the sure query promises of its answer: the nearest triangle that counts, the lowest number among equals
   pub scan-nearest : Nearest (hit f triangles p) limit (triangleCount triangles) (scan f triangles p limit)
   unfolding scan tookSure hit
   scan-nearest = kept-nearest (hit f triangles p) (λ t. refl) limit (triangleCount triangles)
 
-  -- it is nothing exactly when no triangle counts
+  -- where no triangle counts the answer is nothing; that it is nothing only there is the law above
   pub scan-nothing : NoneCounts (hit f triangles p) limit (triangleCount triangles) → scan f triangles p limit ≡ nothing
   scan-nothing none = go (scan f triangles p limit) scan-nearest
     where

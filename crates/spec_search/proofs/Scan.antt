@@ -1,5 +1,6 @@
--- Any walk of a tree keeps what the scan of the tree's triangles keeps, over any search whose triangles may be measured in any order and which passes over a node only where nothing under it
--- would be kept. No float is named here: the laws are a section's parameters. Assumes nothing.
+-- Any walk of a tree keeps what the scan of the tree's triangles keeps, over any search with two properties:
+-- triangles may be measured in any order, and a node is skipped only where nothing under it would be kept.
+-- No float is named here: the properties are a section's parameters.
 use mathlib.Core.Path.{_≡_, refl, sym, ap, subst, _∙_}
 use mathlib.Core.Bool.{Bool, true, false}
 use mathlib.Core.List.{List, [], _∷_, _++_, List·Memᴰ, List·Memᴰ·head, List·Memᴰ·tail, List·Permᴰ, List·Permᴰ·nil, List·Permᴰ·cons, List·Permᴰ·swap, List·Permᴰ·trans}
@@ -11,11 +12,13 @@ use Rattle.spec_tree.specs.Hangs.{leafPart}
 use Rattle.spec_tree.proofs.Trees.{levels-least}
 use Rattle.spec_search.specs.Walk.{Search, Sought, isLeaf, tookOne, tookAll, inTurn, lookedAt, visited, nodeWalk, keptBy}
 
-pub kept-all : {S : Type 0} (took : ℕ → S → S) (ts : List ℕ) (s : Sought S) → (tookAll took ts s) .best ≡ keptBy took ts (s .best)
+-- measuring a list keeps what the fold over it keeps
+kept-all : {S : Type 0} (took : ℕ → S → S) (ts : List ℕ) (s : Sought S) → (tookAll took ts s) .best ≡ keptBy took ts (s .best)
 unfolding tookAll keptBy
 kept-all took [] s = refl
 kept-all took (t ∷ ts) s = kept-all took ts (tookOne took t s)
 
+-- the fold over two lists goes on from what the first one kept, as a walk goes from subtree to subtree
 pub kept-append : {S : Type 0} (took : ℕ → S → S) (xs ys : List ℕ) (s : S) → keptBy took (xs ++ ys) s ≡ keptBy took ys (keptBy took xs s)
 unfolding keptBy
 kept-append took [] ys s = refl
@@ -24,7 +27,7 @@ kept-append took (x ∷ xs) ys s = kept-append took xs ys (took x s)
 -- The order of measuring does not matter. `Good` is what holds of all that is ever kept, as that its distance is a number.
 module _ {S : Type 0} (took : ℕ → S → S) (Good : S → Type 0) (stays : (t : ℕ) (s : S) → Good s → Good (took t s))
     (swaps : (t u : ℕ) (s : S) → Good s → took t (took u s) ≡ took u (took t s)) where
-  pub good-kept : (ts : List ℕ) (s : S) → Good s → Good (keptBy took ts s)
+  good-kept : (ts : List ℕ) (s : S) → Good s → Good (keptBy took ts s)
   unfolding keptBy
   good-kept [] s g = g
   good-kept (t ∷ ts) s g = good-kept ts (took t s) (stays t s g)
@@ -39,7 +42,7 @@ module _ {S : Type 0} (took : ℕ → S → S) (Good : S → Type 0) (stays : (t
   lists-swap [] ys s g = refl
   lists-swap (x ∷ xs) ys s g = ap (keptBy took xs) (past x ys s g) ∙ lists-swap xs ys (took x s) (stays x s g)
 
-  -- a list and any reordering of it
+  -- the fold over a reordered list keeps the same: the tree's order of triangles does not matter
   pub kept-permuted : {xs ys : List ℕ} → List·Permᴰ xs ys → (s : S) → Good s → keptBy took xs s ≡ keptBy took ys s
   unfolding keptBy
   kept-permuted List·Permᴰ·nil s g = refl
@@ -61,7 +64,7 @@ module _ {S : Type 0} (took : ℕ → S → S) (Good : S → Type 0) (stays : (t
     still [] s h = refl
     still (t ∷ ts) s h = ap (keptBy took ts) (h t (List·Memᴰ·head refl)) ∙ still ts s (λ u m. h u (List·Memᴰ·tail m))
 
-    -- passed over, nothing under the node would be kept; else the node is looked at
+    -- skipped, nothing under the node would be kept; else the node is looked at
     at-node : (over : Bool) (t : Tree) (pair : ℕ → ℕ → Sought S → Sought S) (n : ℕ) (s : Sought S)
         → (over ≡ true → (k : ℕ) → List·Memᴰ k (numbers t) → took k (s .best) ≡ s .best)
         → (lookedAt how order links (isLeaf links n) pair n s) .best ≡ keptBy took (numbers t) (s .best)
@@ -84,7 +87,7 @@ module _ {S : Type 0} (took : ℕ → S → S) (Good : S → Type 0) (stays : (t
     in-turn false walk xs ys l r s g h k =
         k (walk l s) (subst Good (sym (h s g)) (good-kept xs (s .best) g)) ∙ ap (keptBy took ys) (h s g) ∙ sym (kept-append took xs ys (s .best))
 
-    -- what the walk keeps is what the scan of the tree's triangles keeps
+    -- whatever it skips and whichever child goes first, a walk keeps what the scan of the tree's triangles keeps
     pub walk-scans : (t : Tree) (d n : ℕ) (s : Sought S) → At t n → levels t ≤ suc d → Good (s .best) → (nodeWalk how order links d n s) .best ≡ keptBy took (numbers t) (s .best)
     unfolding nodeWalk numbers levels
     walk-scans (leaf part) zero n s x deep g =

@@ -1,6 +1,6 @@
--- Keeping the smallest squared distance that counts, the lower number among equals, obeys the laws of `Scan`: what is kept has a number for its distance, triangles may be measured in any
--- order, and a box is passed over only where nothing in it would be kept. What is kept only comes nearer, so a box that is passed over stays
--- so. Assumes nothing.
+-- Keeping the smallest squared distance that counts, the lower number among equals, has the properties that `Scan` needs:
+-- what is kept has a number for its distance, the order of measuring does not matter, and a box is skipped only where
+-- nothing in it would be kept. What is kept only comes nearer, so a box that is skipped stays so.
 use mathlib.Core.Path.{_≡_, refl, sym, ap, subst, _∙_}
 use mathlib.Core.Bool.{Bool, true, false, not, _&&_, _||_, true≢false, false≢true}
 use mathlib.Core.Logic.{_⊎_, inl, inr, ⊎-elim}
@@ -23,12 +23,13 @@ Good (found h) = Number (h .squared)
 both-ways : {A : Type 0} (b : Bool) → b ≡ true → b ≡ false → A
 both-ways b p q = absurd (true≢false (sym p ∙ q))
 
--- ---- what counts is a number, and so does a number that is no farther
+-- ---- what counts is a number, and a number that is no farther than one that counts, counts
+-- what counts is a number: a NaN is never kept
 pub counts-number : (limit x : Float) → counts limit x ≡ true → Number x
 unfolding counts
 counts-number limit x h = less-number x limit h
 
-pub counts-nearer : (limit x y : Float) → Number y → lt x y ≡ false → counts limit x ≡ true → counts limit y ≡ true
+counts-nearer : (limit x y : Float) → Number y → lt x y ≡ false → counts limit x ≡ true → counts limit y ≡ true
 unfolding counts
 counts-nearer limit x y n far h = ⊎-elim (λ c. both-ways (lt x y) c far) (λ c. c) (less-between x y limit n h)
 
@@ -120,7 +121,7 @@ module _ (limit : Float) (hit : ℕ → Hit) (named : (t : ℕ) → hit t .trian
   unfolding offered
   is-better h k c e = simp (c, e)
 
-  -- what is passed over once is passed over whatever is offered: what is kept only comes nearer
+  -- a box that is skipped stays so, whatever is measured: what is kept only comes nearer
   pub still-passed : (d : Float) (t : ℕ) (k : Answer) → isPassed limit d k ≡ true → isPassed limit d (took t k) ≡ true
   unfolding isPassed
   still-passed d t k over =
@@ -153,6 +154,7 @@ module _ (limit : Float) (hit : ℕ → Hit) (named : (t : ℕ) → hit t .trian
       nearer-kept : (j : Answer) → counts limit (hit t .squared) ≡ true → better (hit t) j ≡ true → Over j → Over (found (hit t))
       nearer-kept j c b o = by-count (counts limit d) j c b o
 
+  -- what is kept has a number for its distance, whatever is measured, so it can be compared
   pub stays : (t : ℕ) (k : Answer) → Good k → Good (took t k)
   stays t k g =
       ⊎-elim
@@ -163,7 +165,7 @@ module _ (limit : Float) (hit : ℕ → Hit) (named : (t : ℕ) → hit t .trian
       (λ c. subst Good (sym (not-counted (hit t) k c)) g)
       (either (counts limit (hit t .squared)))
 
-  -- h better what is kept and j does not: j does not beat h either
+  -- h is better than what is kept and j is not: j is not better than h either
   better-over : (h j : Hit) (k : Answer) → Number (h .squared) → Number (j .squared) → Good k → better h k ≡ true → better j k ≡ false → better j (found h) ≡ false
   better-over h j nothing hn jn g a b = both-ways true refl b
   better-over h j (found k) hn jn g a b =
@@ -195,6 +197,7 @@ module _ (limit : Float) (hit : ℕ → Hit) (named : (t : ℕ) → hit t .trian
           ∙ sym (is-better j k d b) ∙ sym (ap (offered limit j) (not-better h k a))
       go (inr a) (inr b) = ap (offered limit h) (not-better j k b) ∙ not-better h k a ∙ sym (not-better j k b) ∙ sym (ap (offered limit j) (not-better h k a))
 
+  -- two triangles may be measured in either order: among equals the lower number decides, not the earlier turn
   pub swaps : (t u : ℕ) (k : Answer) → Good k → took t (took u k) ≡ took u (took t k)
   swaps t u k g = go (ℕ-discrete t u) (either (counts limit (hit t .squared))) (either (counts limit (hit u .squared)))
     where
@@ -204,7 +207,7 @@ module _ (limit : Float) (hit : ℕ → Hit) (named : (t : ℕ) → hit t .trian
       go (no e) (inl c) (inr d) = ap (took t) (not-counted (hit u) k d) ∙ sym (not-counted (hit u) (took t k) d)
       go (no e) (inr c) d = not-counted (hit t) (took u k) c ∙ sym (ap (took u) (not-counted (hit t) k c))
 
-  -- a node at the squared distance b is passed over, and t is no nearer than that
+  -- skipping is safe: a triangle that is no nearer than a box that is skipped would not be kept
   pub skips : (b : Float) (t : ℕ) (k : Answer) → Number b → Good k → lt (hit t .squared) b ≡ false → isPassed limit b k ≡ true → took t k ≡ k
   unfolding isPassed
   skips b t k bn g far p =

@@ -1,4 +1,5 @@
--- One step of a walk, over plain lists: what each call asks, and what its answer makes of the node's or the pair's. The proofs of the cycles of calls only apply these. Assumes nothing.
+-- One step of a walk, over plain lists: what each call needs, and what its answer makes of the node's or the pair's.
+-- The proofs of the recursive calls only apply these.
 use mathlib.Core.Path.{_≡_, refl, sym, ap, _∙_}
 use mathlib.Core.Bool.{Bool, true, false}
 use mathlib.Core.List.{List}
@@ -24,13 +25,13 @@ use Rattle.spec_search.specs.Safe.{NodeSafe, PairSafe, LinksAre}
 use Rattle.spec_search.proofs.Smallest.{still-passed}
 use Rattle.spec_search.proofs.Walked.{walk-passed, walk-leaf, walk-branch, root-leaf, root-branch, pair-right, pair-left, walk-keeps, counted-most}
 
--- a part of a list of triangle numbers is one
+-- a slice of the order list has entries below n too, so measuring its triangles stays within the list
 pub part-below : (n : ℕ) (order : List ℕ) (first last : ℕ) → first ≤ last → last ≤ length order → EntriesBelow n order → EntriesBelow n (part order first (last - first))
 part-below n order first last h k l i b =
     let inside : i < last - first = omega (arith, part-length order first (last - first) (omega arith)) in
     rw (getD-take, getD-drop) (l (first + i) (omega arith))
 
--- the node of a tree that hangs there is there
+-- where a tree hangs, the node is there, so reading its links and box stays within the lists
 pub hangs-there : (triangles : List Float) (order links : List ℕ) (boxes : List Float) (t : Tree) (node : ℕ) → Hangs (boxAt triangles) order links boxes t node → There links boxes node
 hangs-there triangles order links boxes (leaf ks) node h = h .there
 hangs-there triangles order links boxes (branch l r) node h = h .there
@@ -42,7 +43,7 @@ module _ (triangles : List Float) (order links : List ℕ) (boxes : List Float) 
   leaf-no : (kind ≡ 1 → ⊥) → isLeaf links node ≡ false
   leaf-no e = ne-eqb _ _ (λ (q : kindAt links node ≡ 1). e (here .kind-is ∙ q))
 
-  -- what the measuring of a leaf asks
+  -- what measuring a leaf needs
   abbrev pub LeafAsks : Type 0
   LeafAsks = EntriesBelow (triangleCount triangles) order × (((l ≤ r) × (r ≤ length order)) × (m + (r - l) < 2 ^ 64))
 
@@ -74,27 +75,34 @@ module _ (triangles : List Float) (order links : List ℕ) (boxes : List Float) 
       )
 
   module _ (safe : NodeSafe triangles order links boxes d node m) where
+    -- a leaf has what measuring its triangles needs
     pub leaf-asks : kind ≡ 1 → LeafAsks
     leaf-asks = leaf-asks-of (safe .tree) (safe .hangs) (safe .room) (safe .listed)
 
+    -- a branch has what the walk of its two children needs
     pub pair-asks : (kind ≡ 1 → ⊥) → PairSafe triangles order links boxes (d - 1) l r m
     pair-asks e = pair-asks-of (safe .tree) (safe .hangs) (safe .deep) (safe .room) (safe .listed) e .1
 
+    -- at a branch a level remains, so taking one away does not underflow
     pub levels-left : (kind ≡ 1 → ⊥) → 0 < d
     levels-left e = pair-asks-of (safe .tree) (safe .hangs) (safe .deep) (safe .room) (safe .listed) e .0
 
     module _ {S : Type 0} (how : Search S) (s next : Sought S) where
+      -- at a leaf that is not skipped, measuring its slice is the walk of the node
       pub leaf-answers : how .passed node (s .best) ≡ false → kind ≡ 1 → next ≡ tookAll (how .took) (part order l (r - l)) s → next ≡ nodeWalk how order links d node s
       leaf-answers looked e a = a ∙ rw (here .left-is, here .right-is) (sym (walk-leaf how order links d node s looked (leaf-yes e)))
 
+      -- at a branch that is not skipped, the walk of its children is the walk of the node
       pub pair-answers : how .passed node (s .best) ≡ false → (kind ≡ 1 → ⊥) → next ≡ pairWalk how order links (d - 1) l r s → next ≡ nodeWalk how order links d node s
       pair-answers looked e a =
           let more : 0 < d = levels-left e in
           a ∙ rw (here .left-is, here .right-is) (sym (walk-branch how order links d node s looked (leaf-no e) (λ (z : d ≡ 0). omega arith)))
 
+      -- at a root, which is always looked at: of a leaf, measuring its slice is the walk
       pub root-leaf-answers : kind ≡ 1 → next ≡ tookAll (how .took) (part order l (r - l)) s → next ≡ rootWalk how order links d node s
       root-leaf-answers e a = a ∙ rw (here .left-is, here .right-is) (sym (root-leaf how order links d node s (leaf-yes e)))
 
+      -- at a root, which is always looked at: of a branch, the walk of its children is the walk
       pub root-pair-answers : (kind ≡ 1 → ⊥) → next ≡ pairWalk how order links (d - 1) l r s → next ≡ rootWalk how order links d node s
       root-pair-answers e a =
           let more : 0 < d = levels-left e in
@@ -102,13 +110,16 @@ module _ (triangles : List Float) (order links : List ℕ) (boxes : List Float) 
 
 -- ---- two children
 module _ (triangles : List Float) (order links : List ℕ) (boxes : List Float) (d l r m : ℕ) (safe : PairSafe triangles order links boxes d l r m) where
+  -- the left child, walked first, has what its walk needs
   pub left-asks : NodeSafe triangles order links boxes d l m
   left-asks = record { tree = safe .left-tree; hangs = safe .left-hangs; deep = safe .left-deep; room = omega (arith, safe .room); listed = safe .listed }
 
+  -- the right child, walked first, has what its walk needs
   pub right-asks : NodeSafe triangles order links boxes d r m
   right-asks = record { tree = safe .right-tree; hangs = safe .right-hangs; deep = safe .right-deep; room = omega (arith, safe .room); listed = safe .listed }
 
   module _ {S : Type 0} (how : Search S) (s first : Sought S) (counted : s .measured ≡ m) where
+    -- the left child, walked second, has what its walk needs: the count of the first leaves it room
     pub then-left-asks : first ≡ nodeWalk how order links d r s → NodeSafe triangles order links boxes d l (first .measured)
     then-left-asks e = record {
       tree = safe .left-tree;
@@ -118,6 +129,7 @@ module _ (triangles : List Float) (order links : List ℕ) (boxes : List Float) 
       listed = safe .listed;
     }
 
+    -- the right child, walked second, has what its walk needs: the count of the first leaves it room
     pub then-right-asks : first ≡ nodeWalk how order links d l s → NodeSafe triangles order links boxes d r (first .measured)
     then-right-asks e = record {
       tree = safe .right-tree;
@@ -128,13 +140,15 @@ module _ (triangles : List Float) (order links : List ℕ) (boxes : List Float) 
     }
 
 module _ {S : Type 0} (how : Search S) (order links : List ℕ) (d l r : ℕ) (s first next : Sought S) where
+  -- right child first: its walk and then that of the left one are the walk of the pair
   pub right-answers : how .rightFirst l r ≡ true → first ≡ nodeWalk how order links d r s → next ≡ nodeWalk how order links d l first → next ≡ pairWalk how order links d l r s
   right-answers e a b = b ∙ ap (nodeWalk how order links d l) a ∙ sym (pair-right how order links d l r s e)
 
+  -- left child first: its walk and then that of the right one are the walk of the pair
   pub left-answers : how .rightFirst l r ≡ false → first ≡ nodeWalk how order links d l s → next ≡ nodeWalk how order links d r first → next ≡ pairWalk how order links d l r s
   left-answers e a b = b ∙ ap (nodeWalk how order links d r) a ∙ sym (pair-left how order links d l r s e)
 
--- ---- a pair whose farther child is passed over before the nearer one is walked: where what is passed over stays so, nothing is left
+-- ---- a pair whose farther child is skipped before the nearer one is walked: where what is skipped stays so, nothing remains
 -- to do after the nearer one
 module _ {S : Type 0} (how : Search S) (stays : (node t : ℕ) (k : S) → how .passed node k ≡ true → how .passed node (how .took t k) ≡ true)
     (order links : List ℕ) (d l r : ℕ) (s next : Sought S) where
@@ -143,25 +157,29 @@ module _ {S : Type 0} (how : Search S) (stays : (node t : ℕ) (k : S) → how .
   passed-after near far h =
       sym (walk-passed how order links d far _ (walk-keeps how order links (λ (k : S). how .passed far k ≡ true) (stays far) d near s h))
 
+  -- the left child is skipped beforehand: the walk of the right one alone is the walk of the pair
   pub right-alone : how .rightFirst l r ≡ true → how .passed l (s .best) ≡ true
       → next ≡ nodeWalk how order links d r s → next ≡ pairWalk how order links d l r s
   right-alone e h a = a ∙ passed-after r l h ∙ sym (pair-right how order links d l r s e)
 
+  -- the right child is skipped beforehand: the walk of the left one alone is the walk of the pair
   pub left-alone : how .rightFirst l r ≡ false → how .passed r (s .best) ≡ true
       → next ≡ nodeWalk how order links d l s → next ≡ pairWalk how order links d l r s
   left-alone e h a = a ∙ passed-after l r h ∙ sym (pair-left how order links d l r s e)
 
 -- ---- what the tests of the sure walk say, of distances that were measured
 module _ (f : Format) (boxes : List Float) (p : Point) where
+  -- whether a node is skipped, decided by its box's distance that was computed before
   pub passed-here : (limit squared : Float) (node : ℕ) (k : Answer) (b flag : Bool) → squared ≡ nodeSquared f boxes p node → b ≡ isPassed limit squared k → b ≡ flag → passedSure f boxes p limit node k ≡ flag
   unfolding passedSure
   passed-here limit squared node k b flag s e h = ap (λ (d : Float). isPassed limit d k) (sym s) ∙ sym e ∙ h
 
+  -- which child goes first, decided by the boxes' distances that were computed before
   pub right-first-here : (l r : ℕ) (toLeft toRight : Float) (flag : Bool) → toLeft ≡ nodeSquared f boxes p l → toRight ≡ nodeSquared f boxes p r → lt toRight toLeft ≡ flag → rightNearer f boxes p l r ≡ flag
   unfolding rightNearer
   right-first-here l r toLeft toRight flag s t h = rw (← s, ← t) h
 
--- The sure search is one in which what is passed over stays so.
+-- the sure search is one in which what is skipped stays so
 pub sure-stays : (f : Format) (triangles boxes : List Float) (p : Point) (limit : Float) (node t : ℕ) (k : Answer)
     → passedSure f boxes p limit node k ≡ true → passedSure f boxes p limit node (tookSure f triangles p limit t k) ≡ true
 unfolding passedSure tookSure hit

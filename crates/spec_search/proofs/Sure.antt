@@ -1,4 +1,5 @@
--- Demand 3: for every triangle list, point and tree that pass, and whatever the limit, the walk of the tree answers what the scan of all triangles answers. Assumes nothing.
+-- For all triangles, points and trees that pass, and any limit: the walk of the tree answers what the scan of all triangles answers.
+-- This is demand 3 of the scope.
 use mathlib.Core.Path.{_≡_, refl, sym, ap, subst, _∙_}
 use mathlib.Core.Bool.{true, false}
 use mathlib.Core.List.{List, List·Memᴰ, Memᴰ·append-left, Memᴰ·append-right}
@@ -92,8 +93,8 @@ module _ (f : Format) (triangles : List Float) (good : GoodTriangles triangles) 
         (held-squared-number (boxOver (boxAt triangles) t) (holds .proper) p P f) g
         (no-nearer k (m .below k mem) (boxOver (boxAt triangles) t) (holds .proper) (holds .each k mem)) (rw box at h)
 
-    -- the walk of a tree that is met at a node
-    pub walk-answers : (t : Tree) (d node : ℕ) (s : Sought Answer) → Met t node → levels t ≤ suc d → Good (s .best)
+    -- the walk of a tree that is met at a node keeps what the scan of the tree's triangles keeps
+    walk-answers : (t : Tree) (d node : ℕ) (s : Sought Answer) → Met t node → levels t ≤ suc d → Good (s .best)
         → (nodeWalk (sureSearch f triangles boxes p limit) order links d node s) .best ≡ keptBy (tookSure f triangles p limit) (numbers t) (s .best)
     walk-answers = walk-scans (tookSure f triangles p limit) Good good-stays takes-swap (passedSure f boxes p limit) (rightNearer f boxes p) order links Met met-leaf met-branch met-skips
 
@@ -105,7 +106,7 @@ module _ (f : Format) (triangles : List Float) (good : GoodTriangles triangles) 
         below = λ k m. permutes-below n order (s .permuted) k (subst (λ (l : List ℕ). List·Memᴰ k l) (sym (s .order-is)) m);
       }
 
-      -- the walk of an accepted tree answers what the scan of all triangles answers
+      -- what the sure query promises: the walk of an accepted tree answers what the scan of all triangles answers
       pub walk-is-scan : accepted (boxAt triangles) n order links boxes nodes ≡ true → (sureWalk f triangles order links boxes nodes p limit) .best ≡ scan f triangles p limit
       unfolding sureWalk scan
       walk-is-scan passed =

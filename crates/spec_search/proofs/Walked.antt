@@ -1,5 +1,5 @@
 -- The walk's equations, one for each way through a node and a pair; what a walk keeps true; and how many triangles it measures at most:
--- those of the tree that hangs at the node. Assumes nothing.
+-- those of the tree that hangs at the node.
 use mathlib.Core.Path.{_≡_, refl, _∙_}
 use mathlib.Core.Bool.{Bool, true, false}
 use mathlib.Core.List.{List, [], _∷_}
@@ -17,42 +17,49 @@ use Rattle.spec_tree.proofs.Trees.{levels-least}
 use Rattle.spec_search.specs.Walk.{Search, Sought, isLeaf, tookOne, tookAll, inTurn, lookedAt, visited, nodeWalk, pairWalk, rootWalk}
 
 module _ {S : Type 0} (how : Search S) (order links : List ℕ) where
+  -- a node that is skipped leaves what is kept, and the count
   pub walk-passed : (d node : ℕ) (s : Sought S) → how .passed node (s .best) ≡ true → nodeWalk how order links d node s ≡ s
   unfolding nodeWalk
   walk-passed zero node s e = simp e
   walk-passed (suc d) node s e = simp e
 
+  -- a leaf that is not skipped is measured whole
   pub walk-leaf : (d node : ℕ) (s : Sought S) → how .passed node (s .best) ≡ false → isLeaf links node ≡ true → nodeWalk how order links d node s ≡ tookAll (how .took) (leafPart order links node) s
   unfolding nodeWalk
   walk-leaf zero node s e k = simp (e, k)
   walk-leaf (suc d) node s e k = simp (e, k)
 
+  -- a branch that is not skipped is the walk of its children, one level fewer remaining
   pub walk-branch : (d node : ℕ) (s : Sought S) → how .passed node (s .best) ≡ false → isLeaf links node ≡ false → (d ≡ 0 → ⊥)
       → nodeWalk how order links d node s ≡ pairWalk how order links (d - 1) (leftAt links node) (rightAt links node) s
   unfolding nodeWalk pairWalk
   walk-branch zero node s e k z = absurd (z refl)
   walk-branch (suc d) node s e k z = simp (e, k, sub-one)
 
+  -- a root that is a leaf is measured whole
   pub root-leaf : (d node : ℕ) (s : Sought S) → isLeaf links node ≡ true → rootWalk how order links d node s ≡ tookAll (how .took) (leafPart order links node) s
   unfolding rootWalk
   root-leaf zero node s k = simp k
   root-leaf (suc d) node s k = simp k
 
+  -- a root that is a branch is the walk of its children, one level fewer remaining
   pub root-branch : (d node : ℕ) (s : Sought S) → isLeaf links node ≡ false → (d ≡ 0 → ⊥) → rootWalk how order links d node s ≡ pairWalk how order links (d - 1) (leftAt links node) (rightAt links node) s
   unfolding rootWalk
   root-branch zero node s k z = absurd (z refl)
   root-branch (suc d) node s k z = simp (k, sub-one)
 
-  -- a node that is not passed over is looked at as a root is
+  -- a node that is not skipped is looked at as a root is
   pub walk-looked : (d node : ℕ) (s : Sought S) → how .passed node (s .best) ≡ false → rootWalk how order links d node s ≡ nodeWalk how order links d node s
   unfolding nodeWalk rootWalk pairWalk
   walk-looked zero node s e = simp e
   walk-looked (suc d) node s e = simp e
 
+  -- right child first: the left one goes on from what the right one kept
   pub pair-right : (d l r : ℕ) (s : Sought S) → how .rightFirst l r ≡ true → pairWalk how order links d l r s ≡ nodeWalk how order links d l (nodeWalk how order links d r s)
   unfolding pairWalk
   pair-right d l r s e = simp e
 
+  -- left child first: the right one goes on from what the left one kept
   pub pair-left : (d l r : ℕ) (s : Sought S) → how .rightFirst l r ≡ false → pairWalk how order links d l r s ≡ nodeWalk how order links d r (nodeWalk how order links d l s)
   unfolding pairWalk
   pair-left d l r s e = simp e
@@ -94,17 +101,17 @@ module _ {S : Type 0} (how : Search S) (order links : List ℕ) (Holds : S → T
 
 -- ---- the kind of the node at which a tree hangs
 module _ (boxAt : ℕ → Box) (order links : List ℕ) (boxes : List Float) (node : ℕ) where
-  pub leaf-kind : (part : List ℕ) → Hangs boxAt order links boxes (leaf part) node → isLeaf links node ≡ true
+  leaf-kind : (part : List ℕ) → Hangs boxAt order links boxes (leaf part) node → isLeaf links node ≡ true
   leaf-kind part h = eq-eqb _ _ (h .kind-is)
 
-  pub branch-kind : (l r : Tree) → Hangs boxAt order links boxes (branch l r) node → isLeaf links node ≡ false
+  branch-kind : (l r : Tree) → Hangs boxAt order links boxes (branch l r) node → isLeaf links node ≡ false
   branch-kind l r h = ne-eqb _ _ (λ (e : kindAt links node ≡ 1). not-both (h .kind-is) e)
     where
       not-both : kindAt links node ≡ 2 → kindAt links node ≡ 1 → ⊥
       not-both p q = omega arith
 
 -- ---- how many triangles are measured
-pub counted-all : {S : Type 0} (took : ℕ → S → S) (ts : List ℕ) (s : Sought S) → (tookAll took ts s) .measured ≡ s .measured + length ts
+counted-all : {S : Type 0} (took : ℕ → S → S) (ts : List ℕ) (s : Sought S) → (tookAll took ts s) .measured ≡ s .measured + length ts
 unfolding tookAll
 counted-all took [] s = omega arith
 counted-all took (t ∷ ts) s = counted-all took ts (tookOne took t s) ∙ omega arith
@@ -125,7 +132,7 @@ module _ {S : Type 0} (how : Search S) (boxAt : ℕ → Box) (order links : List
       → (lookedAt how order links (isLeaf links node) pair node s) .measured ≤ s .measured + length part
   looked-leaf part pair node s h = rw (leaf-kind boxAt order links boxes node part h, ← h .part-is) (omega (arith, counted-all (how .took) (leafPart order links node) s))
 
-  -- a walk measures at most the triangles of the tree that hangs at its node
+  -- a walk measures at most the triangles of the tree that hangs at its node, so the count does not overflow
   pub counted-most : (t : Tree) (d node : ℕ) (s : Sought S) → Hangs boxAt order links boxes t node → levels t ≤ suc d → (nodeWalk how order links d node s) .measured ≤ s .measured + length (numbers t)
   unfolding nodeWalk numbers levels
   counted-most (leaf part) zero node s h deep = visited-most (how .passed node (s .best)) _ node (length part) s (looked-leaf part _ node s h)

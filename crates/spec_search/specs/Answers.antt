@@ -1,4 +1,4 @@
--- A query's answer: nothing, or a found surface point with its triangle number and squared distance. Definitions only.
+-- A query's answer: nothing, or a found surface point with its triangle number and squared distance; and its six numbers in a lent list.
 use mathlib.Core.List.{List, [], _∷_}
 use Prim.Native.Nat.{ℕ}
 use lib.Ieee.{Float, Format, toBits}

@@ -1,4 +1,4 @@
--- The two public queries over lists of points: what they refuse, and what they write, six numbers a point. Definitions only.
+-- The two public queries over lists of points: what they refuse, and what they write, six numbers a point.
 use mathlib.Core.Path.{_≡_}
 use mathlib.Core.Bool.{true}
 use mathlib.Core.List.{List, [], _∷_}
@@ -15,7 +15,7 @@ use Rattle.spec_search.specs.Answers.{Answer, sixWords}
 use Rattle.spec_search.specs.Sure.{limitOf, scan}
 use Rattle.spec_search.specs.Source.{sourceWalk}
 
--- 1 to 4, 6, 7, 8, 9; the room is counted in answers
+-- 1 to 4, 6, 7, 8, 9, the first that applies; `room` is the lent list's length, and an answer takes six
 unfoldable pub queryRefusal : (triangles : List Float) (order links : List ℕ) (boxes : List Float) (nodes : ℕ) (points : List Float) (distance : Float) (room : ℕ) → Verdict
 queryRefusal triangles order links boxes nodes points distance room =
     firstRefusal
@@ -26,7 +26,7 @@ queryRefusal triangles order links boxes nodes points distance room =
     ∷ distanceRefusal distance
     ∷ [])
 
--- the answers, one point after another
+-- the answers to all points, concatenated
 unfoldable pub answerWords : Format → (Point → Answer) → List Float → List ℕ
 answerWords f answer points = many (λ k. sixWords f (answer (pointAt points (3 * k)))) (pointCount points)
 
@@ -51,11 +51,13 @@ abbrev pub answerBy : Format → Query → (triangles : List Float) (order links
 answerBy f sure triangles order links boxes nodes distance = sureAnswer f triangles distance
 answerBy f source triangles order links boxes nodes distance = sourceAnswer f triangles order links boxes nodes distance
 
--- ---- what the inner searches ask
+-- ---- what the inner searches need
+-- triangles and a tree that passed their tests: a search tests nothing itself
 pub record Searchable (triangles : List Float) (order links : List ℕ) (boxes : List Float) (nodes : ℕ) : Type 0 where
   pub triangles-good : GoodTriangles triangles
   pub tree-accepted : accepted (boxAt triangles) (triangleCount triangles) order links boxes nodes ≡ true
 
+-- points that passed theirs, too
 pub record Askable (triangles : List Float) (order links : List ℕ) (boxes : List Float) (nodes : ℕ) (points : List Float) : Type 0 where
   pub searchable : Searchable triangles order links boxes nodes
   pub points-good : GoodPoints points

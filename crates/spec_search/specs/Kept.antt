@@ -1,4 +1,5 @@
--- What a search keeps as a plain hit: at an infinite squared distance it stands for nothing. Definitions only.
+-- What a search keeps as a plain hit: at an infinite squared distance it stands for nothing.
+-- The code keeps such a hit and no tag; these definitions say which answer it means.
 use mathlib.Core.Bool.{Bool, true, false, _&&_, _||_}
 use mathlib.Core.List.{List}
 use Prim.Native.Nat.{ℕ}
@@ -13,6 +14,7 @@ abbrev pub keptIf : Bool → Hit → Answer
 keptIf true h = nothing
 keptIf false h = found h
 
+-- the answer that a kept hit stands for
 unfoldable pub kept : Hit → Answer
 kept h = keptIf (eq (h .squared) (inf false)) h
 

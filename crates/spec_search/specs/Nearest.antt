@@ -1,4 +1,4 @@
--- What the answer of a scan is, in words of order. Definitions only.
+-- What the answer of a scan is, in words of order: the nearest triangle that counts, the lowest number among equals.
 use mathlib.Core.Path.{_≡_}
 use mathlib.Core.Bool.{not}
 use Prim.Native.Nat.{ℕ, _≤_, _<_}
@@ -16,9 +16,11 @@ module _ (hit : ℕ → Hit) (limit : Float) (n : ℕ) where
     pub smallest : (t : ℕ) → t < n → T (counts limit (hit t .squared)) → T (le (h .squared) (hit t .squared))
     pub lowest : (t : ℕ) → t < n → T (eq (hit t .squared) (h .squared)) → h .triangle ≤ t
 
+  -- no triangle counts
   abbrev pub NoneCounts : Type 0
   NoneCounts = (t : ℕ) → t < n → T (not (counts limit (hit t .squared)))
 
+  -- what an answer promises
   abbrev pub Nearest : Answer → Type 0
   Nearest nothing = NoneCounts
   Nearest (found h) = IsNearest h

@@ -1,4 +1,4 @@
--- What a walk asks of the lists, so that it stays within them and ends. Definitions only.
+-- What a walk needs of the lists, so that it stays within them and ends.
 use mathlib.Core.Path.{_≡_}
 use mathlib.Core.List.{List}
 use Prim.Native.Nat.{ℕ, suc, _+_, _^_, _≤_, _<_}
@@ -9,7 +9,7 @@ use Rattle.spec_tree.specs.Trees.{Tree, numbers, levels, kindAt, leftAt, rightA
 use Rattle.spec_tree.specs.Order.{EntriesBelow}
 use Rattle.spec_tree.specs.Hangs.{Hangs}
 
--- A tree hangs at the node that is no deeper than the levels left, its triangles are in the list, and they can all be counted.
+-- A tree hangs at the node, no deeper than the levels that remain; its triangles are in the list, and their count does not overflow.
 pub record NodeSafe (triangles : List Float) (order links : List ℕ) (boxes : List Float) (d node measured : ℕ) : Type 0 where
   pub tree : Tree
   pub hangs : Hangs (boxAt triangles) order links boxes tree node

@@ -1,5 +1,5 @@
--- The source query: the Rust's tests and order of visits, the right child first; the smallest by strict comparison; the root is always looked at, so an answer may lie beyond the limit.
--- Definitions only.
+-- The source query: the Rust's tests and its order of visits, the right child first; the smallest by strict comparison.
+-- The root is always looked at, so an answer may lie beyond the limit.
 use mathlib.Core.Bool.{Bool, true, false, not, cond, _||_}
 use mathlib.Core.List.{List}
 use Prim.Native.Nat.{ℕ, _-_}
@@ -25,13 +25,14 @@ sourceHit f triangles p t =
     let q = closestPoint f (triangleAt triangles t) p in
     record { point = q; squared = squaredDistance f q p; triangle = t }
 
+-- the strictly smaller one is kept: among equals, the one that was measured first
 unfoldable pub strictly : Hit → Answer → Answer
 strictly h k = cond (lt (h .squared) (smallest k)) (found h) k
 
 unfoldable pub tookSource : Format → List Float → Point → ℕ → Answer → Answer
 tookSource f triangles p t k = strictly (sourceHit f triangles p t) k
 
--- a child enters if its box holds the point or its squared distance is below the limit squared
+-- a child is entered if its box holds the point or its squared distance is below the limit squared
 unfoldable pub enters : Format → List Float → Point → Float → ℕ → Bool
 enters f boxes p limit node = containsPoint (nodeBox boxes node) p || lt (boxSquared f (nodeBox boxes node) p) limit
 

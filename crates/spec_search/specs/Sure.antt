@@ -1,4 +1,4 @@
--- The sure query: what counts, which answer is better, when a box is passed over; and the scan of all triangles, which is what the query means. Definitions only.
+-- The sure query: what counts, which answer is better, when a box is skipped; and the scan of all triangles, which is what the query means.
 use mathlib.Core.Bool.{Bool, true, false, not, cond, _&&_, _||_}
 use mathlib.Core.List.{List}
 use Prim.Native.Nat.{ℕ, _-_}
@@ -31,12 +31,12 @@ better h (found k) = lt (h .squared) (k .squared) || (eq (h .squared) (k .square
 unfoldable pub offered : Float → Hit → Answer → Answer
 offered limit h k = cond (counts limit (h .squared) && better h k) (found h) k
 
--- d is above what is kept
+-- d is strictly above what is kept: a box that is level with it may hold an equal with a lower number
 abbrev pub above : Float → Answer → Bool
 above d nothing = false
 above d (found k) = lt (k .squared) d
 
--- a box at this squared distance is passed over: it does not count, or is above the best so far
+-- a box at this squared distance is skipped: it does not count, or is above the best so far
 unfoldable pub isPassed : Float → Float → Answer → Bool
 isPassed limit d k = not (counts limit d) || above d k
 
@@ -48,7 +48,7 @@ module _ (f : Format) (triangles : List Float) (p : Point) where
   unfoldable pub tookSure : Float → ℕ → Answer → Answer
   tookSure limit t k = offered limit (hit t) k
 
-  -- the best of all triangles, one after another
+  -- the best of all triangles, in the order of their numbers
   unfoldable pub scan : Float → Answer
   scan limit = keptBy (tookSure limit) (upTo (triangleCount triangles)) nothing
 
@@ -59,7 +59,7 @@ nodeSquared f boxes p node = heldSquared f (nodeBox boxes node) p
 unfoldable pub passedSure : Format → List Float → Point → Float → ℕ → Answer → Bool
 passedSure f boxes p limit node k = isPassed limit (nodeSquared f boxes p node) k
 
--- nearer box first, left among equals
+-- the nearer box first, the left one among equals: the farther one is then skipped more often
 unfoldable pub rightNearer : Format → List Float → Point → ℕ → ℕ → Bool
 rightNearer f boxes p l r = lt (nodeSquared f boxes p r) (nodeSquared f boxes p l)
 

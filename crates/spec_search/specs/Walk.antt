@@ -1,4 +1,4 @@
--- The walk of a tree, over any search: what is kept, when a node is passed over, which child goes first, and what a triangle does to what is kept. Definitions only.
+-- The walk of a tree, over any search: what is kept, when a node is skipped, which child goes first, what a triangle does to what is kept.
 use mathlib.Core.Bool.{Bool, true, false}
 use mathlib.Core.List.{List, [], _∷_}
 use Prim.Native.Nat.{ℕ, zero, suc, _+_}
@@ -8,7 +8,7 @@ use Rattle.spec_tree.specs.Hangs.{leafPart}
 
 -- a search that keeps an S
 pub record Search (S : Type 0) : Type 0 where
-  -- this node is passed over, at what is kept so far
+  -- this node is skipped, at what is kept so far
   pub passed : ℕ → S → Bool
   -- of a left and a right child, the right one goes first
   pub rightFirst : ℕ → ℕ → Bool
@@ -42,26 +42,26 @@ module _ {S : Type 0} (how : Search S) (order links : List ℕ) where
   lookedAt true pair node s = tookAll (how .took) (leafPart order links node) s
   lookedAt false pair node s = pair (leftAt links node) (rightAt links node) s
 
-  -- a node, by whether it is passed over
+  -- a node, by whether it is skipped
   abbrev pub visited : Bool → (ℕ → ℕ → Sought S → Sought S) → ℕ → Sought S → Sought S
   visited true pair node s = s
   visited false pair node s = lookedAt (isLeaf links node) pair node s
 
-  -- The walk of a node, with d levels of branches left to open: below them nothing is looked at.
+  -- The walk of a node, with d levels of branches remaining to be opened: below them nothing is looked at, so that it ends on any links.
   unfoldable pub nodeWalk : ℕ → ℕ → Sought S → Sought S
   nodeWalk zero node s = visited (how .passed node (s .best)) (λ l r s′. s′) node s
   nodeWalk (suc d) node s = visited (how .passed node (s .best)) (λ l r s′. inTurn (how .rightFirst l r) (nodeWalk d) l r s′) node s
 
-  -- The walk of two children, each with d levels left.
+  -- The walk of two children, each with d levels remaining.
   unfoldable pub pairWalk : ℕ → ℕ → ℕ → Sought S → Sought S
   pairWalk d l r s = inTurn (how .rightFirst l r) (nodeWalk d) l r s
 
-  -- The walk from a root that is always looked at.
+  -- The walk from a root that is always looked at, as the source query does.
   unfoldable pub rootWalk : ℕ → ℕ → Sought S → Sought S
   rootWalk zero node s = lookedAt (isLeaf links node) (λ l r s′. s′) node s
   rootWalk (suc d) node s = lookedAt (isLeaf links node) (pairWalk d) node s
 
--- what is kept once each triangle of the list is measured, in this order
+-- the fold of a search over a list: what is kept once each triangle is measured, in this order
 unfoldable pub keptBy : {S : Type 0} → (ℕ → S → S) → List ℕ → S → S
 keptBy took [] s = s
 keptBy took (t ∷ ts) s = keptBy took ts (took t s)
