@@ -1,4 +1,4 @@
--- Elements one by one, parts one behind the other, and pieces of what is left: how lists that were written piece by piece are read again. Assumes nothing.
+-- Elements one by one, slices one behind the other, and pieces of what remains: how lists that were written piece by piece are read again.
 use mathlib.Core.Path.{_≡_, refl, sym, ap, _∙_, subst}
 use mathlib.Core.Logic.{⊎-elim}
 use mathlib.Core.List.{List, [], _∷_, _++_}
@@ -10,37 +10,41 @@ use lib.Seq.{length-take-le, take-append-le, drop-append-le, drop-drop, take-add
 use Rattle.spec_tables.specs.Tables.{over, many, part, Left}
 use Rattle.spec_tables.proofs.Tables.{length-many, many-same, many-parts, part-many, left-back}
 
--- the piece at i of n pieces of w elements ends within them
+-- each of n pieces of equal size ends within them, so reading it stays within the list
 pub piece-within : (w n i : ℕ) → i < n → w * i + w ≤ w * n
 piece-within w n i l = rw mul-suc at (mul-le-mul-left w l)
 
 module _ {A : Type 0} where
-  -- ---- parts
+  -- ---- slices
+  -- a slice within the list has the length it was given
   pub length-part : (s : List A) (at size : ℕ) → at + size ≤ length s → length (part s at size) ≡ size
   length-part s at size h = length-take-le size _ (simp length-drop (omega arith))
 
+  -- an element of a slice is the list's at that distance from the slice's start
   pub getD-part : (d : A) (s : List A) (at size i : ℕ) → i < size → getD (part s at size) i d ≡ getD s (at + i) d
   getD-part d s at size i l = getD-take size (drop at s) i d l ∙ getD-drop at s i d
 
-  -- two parts, one behind the other
+  -- two slices, one behind the other, are one slice
   pub part-then : (s : List A) (at a b : ℕ) → part s at a ++ part s (at + a) b ≡ part s at (a + b)
   part-then s at a b = ap (λ (l : List A). take a (drop at s) ++ take b l) (sym (drop-drop a at s)) ∙ sym (take-add a b (drop at s))
 
-  -- many parts of w elements, one behind the other
+  -- slices of equal size, one behind the other from a place on, are one slice: entries that are read one by one are read whole
   pub many-parts-at : (w : ℕ) (s : List A) (at n : ℕ) → many (λ i. part s (at + w * i) w) n ≡ part s at (w * n)
   many-parts-at w s at n =
       many-same (λ i. part s (at + w * i) w) (λ i. part (drop at s) (w * i) w) n (λ i l. ap (take w) (sym (drop-drop (w * i) at s)))
       ∙ many-parts w (drop at s) n
 
-  -- what stands at the front after a write there
+  -- what was written at the front is read there
   pub take-over : (n : ℕ) (new old : List A) → length new ≡ n → take n (over 0 new old) ≡ new
   unfolding over
   take-over n new old h = take-at new (drop (0 + length new) old) n h
 
   -- ---- elements one by one
+  -- n single elements make a list of length n
   pub length-singles : (g : ℕ → A) (n : ℕ) → length (many (λ i. g i ∷ []) n) ≡ n
   length-singles g n = length-many (λ i. g i ∷ []) 1 n (λ i. refl) ∙ one-mul n
 
+  -- a list that is read element by element is its slice: what a copying loop has written
   pub many-getD : (d : A) (xs : List A) (from n : ℕ) → from + n ≤ length xs → many (λ i. getD xs (from + i) d ∷ []) n ≡ part xs from n
   unfolding many
   many-getD d xs from zero h = refl
@@ -48,6 +52,7 @@ module _ {A : Type 0} where
       let l : n < length (drop from xs) = simp length-drop (omega arith) in
       rw (many-getD d xs from n (omega arith), take-suc (drop from xs) n d l, getD-drop)
 
+  -- of elements that were written one by one, each is read at its place
   pub getD-many : (d : A) (g : ℕ → A) (n i : ℕ) → i < n → getD (many (λ j. g j ∷ []) n) i d ≡ g i
   unfolding many
   getD-many d g zero i h = absurd (never i h)
@@ -61,8 +66,8 @@ module _ {A : Type 0} where
       (λ (l : i < n). List·getD-append (many (λ j. g j ∷ []) n) (g n ∷ []) d i (omega arith) ∙ getD-many d g n i l)
       (eq-or-lt-of-le (le-of-suc-le-suc h))
 
-  -- ---- what is left from a place on
-  -- the piece at i of many that are left
+  -- ---- what remains from a place on
+  -- of pieces of equal size that remain, each is read at its place: how an entry of a table is found
   pub left-many : (f : ℕ → List A) (w n : ℕ) (s : List A) (at : ℕ) (rest : List A) → ((j : ℕ) → length (f j) ≡ w) → Left s at (many f n ++ rest) → (i : ℕ) → i < n
       → part s (at + w * i) w ≡ f i
   left-many f w n s at rest sized h i l =
@@ -73,11 +78,11 @@ module _ {A : Type 0} where
       ap (take w) (sym (drop-drop (w * i) at s) ∙ ap (drop (w * i)) (h .left) ∙ drop-append-le (w * i) (many f n) rest a)
       ∙ take-append-le w (drop (w * i) (many f n)) rest b ∙ part-many f w n i sized l
 
-  -- behind a front of n elements the rest is left
+  -- behind a front of n elements the rest remains: where reading goes on
   pub left-on : (n : ℕ) (s : List A) (at : ℕ) (a rest : List A) → length a ≡ n → Left s at (a ++ rest) → Left s (at + n) rest
   left-on n s at a rest e h = subst (λ (k : ℕ). Left s (at + k) rest) e (left-back s at a rest h)
 
-  -- what stands at a place is left there, with all that is behind it
+  -- what stands at a place remains there, with all that is behind it: where reading starts
   pub left-part : (s : List A) (at : ℕ) (a : List A) → at + length a ≤ length s → part s at (length a) ≡ a → Left s at (a ++ drop (at + length a) s)
   left-part s at a h e = record {
     within = omega arith;

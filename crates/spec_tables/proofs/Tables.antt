@@ -1,4 +1,5 @@
--- The laws of `over`, `many`, `part`, `Left` and `Put`: adjacent writes are one write, pieces are found again where they were put. Assumes nothing.
+-- The laws of overwriting, of concatenation, of slices, of what remains and of what was put:
+-- adjacent writes are one write, and pieces are found again where they were put.
 use mathlib.Core.Path.{_≡_, refl, sym, ap, _∙_, subst}
 use mathlib.Core.Logic.{⊎-elim}
 use mathlib.Core.List.{List, [], _∷_, _++_, append-assoc}
@@ -11,24 +12,25 @@ use lib.Seq.{sets, sets-eq, length-take-le, take-append-le, drop-append-le, take
 use Rattle.spec_tables.specs.Tables.{over, many, part, Left, Put}
 
 module _ {A : Type 0} where
-  -- stores one after the other are one write
+  -- stores one after the other are one overwrite, so no store is named above the functions that store
   pub sets-over : (at : ℕ) (new old : List A) → at + length new ≤ length old → sets old at new ≡ over at new old
   unfolding over
   sets-over at new old h = sets-eq new old at h ∙ append-assoc (take at old) new (drop (at + length new) old)
 
+  -- overwriting within a list keeps its length
   pub length-over : (at : ℕ) (new old : List A) → at + length new ≤ length old → length (over at new old) ≡ length old
   unfolding over
   length-over at new old h =
       let room : at ≤ length old = omega arith in
       simp (length-append, length-take-le at old room, length-drop) (omega arith)
 
-  -- writing nothing changes nothing
+  -- writing nothing changes nothing: where a loop starts
   pub over-none : (at : ℕ) (old : List A) → over at [] old ≡ old
   unfolding over
   over-none at old = rw add-zero (take-append-drop at old)
 
-  -- a write right behind another is one write of both
-  pub over-over : (at : ℕ) (a b old : List A) → at + length a + length b ≤ length old → over (at + length a) b (over at a old) ≡ over at (a ++ b) old
+  -- a write right behind another is one write of both: how all that a loop writes becomes one overwrite
+  over-over : (at : ℕ) (a b old : List A) → at + length a + length b ≤ length old → over (at + length a) b (over at a old) ≡ over at (a ++ b) old
   unfolding over
   over-over at a b old h =
       let room : at ≤ length old = omega arith in
@@ -42,18 +44,19 @@ module _ {A : Type 0} where
       ∙ ap (λ (n : ℕ). drop n old) (add-assoc at (length a) (length b) ∙ ap (λ (n : ℕ). at + n) (sym (length-append a b)))) in
       rw (d, ← append-assoc p a rest, take-at (p ++ a) rest (at + length a) e) (append-assoc p a (b ++ drop (at + length (a ++ b)) old) ∙ ap (λ (l : List A). p ++ l) (sym (append-assoc a b (drop (at + length (a ++ b)) old))))
 
+  -- how long pieces of equal size are together: the room that writing them needs
   pub length-many : (f : ℕ → List A) (w n : ℕ) → ((i : ℕ) → length (f i) ≡ w) → length (many f n) ≡ w * n
   unfolding many
   length-many f w zero h = omega arith
   length-many f w (suc n) h = simp (length-append, length-many f w n h, h n, mul-suc)
 
-  -- pieces that are the same make the same list
+  -- pieces that are equal one by one make the same list
   pub many-same : (f g : ℕ → List A) (n : ℕ) → ((i : ℕ) → i < n → f i ≡ g i) → many f n ≡ many g n
   unfolding many
   many-same f g zero h = refl
   many-same f g (suc n) h = rw (many-same f g n (λ i k. h i (omega arith)), h n (omega arith))
 
-  -- one turn more of a loop that writes pieces of w elements one behind the other
+  -- turn of a loop that writes pieces of equal size one behind the other
   pub many-more : (f : ℕ → List A) (w at i : ℕ) (old : List A) → ((j : ℕ) → length (f j) ≡ w) → at + w * i + w ≤ length old
       → over (at + w * i) (f i) (over at (many f i) old) ≡ over at (many f (suc i)) old
   unfolding many
@@ -63,13 +66,13 @@ module _ {A : Type 0} where
       ap (λ (n : ℕ). over (at + n) (f i) (over at (many f i) old)) (sym long)
       ∙ over-over at (many f i) (f i) old (omega arith)
 
-  -- the parts of a list, one behind the other, are its front
+  -- the slices of a list, one behind the other, are its front
   pub many-parts : (w : ℕ) (l : List A) (n : ℕ) → many (λ i. part l (w * i) w) n ≡ take (w * n) l
   unfolding many
   many-parts w l zero = let e : w * 0 ≡ 0 = omega arith in rw e
   many-parts w l (suc n) = rw (many-parts w l n, mul-suc, take-add)
 
-  -- the piece at i of many, in the middle of a list
+  -- each of pieces of equal size is found at its place
   pub part-many : (f : ℕ → List A) (w n i : ℕ) → ((j : ℕ) → length (f j) ≡ w) → i < n → part (many f n) (w * i) w ≡ f i
   unfolding many
   part-many f w zero i h k = absurd (no k)
@@ -88,21 +91,23 @@ module _ {A : Type 0} where
       rw (drop-append-le (w * i) (many f n) (f n) a, take-append-le w (drop (w * i) (many f n)) (f n) b) (part-many f w n i h l))
       (eq-or-lt-of-le (le-of-suc-le-suc k))
 
-  -- ---- what is left from a place on
+  -- ---- what remains from a place on
 
+  -- before anything is read, the whole list remains
   pub left-whole : (s : List A) → Left s 0 s
   left-whole s = record { within = omega arith; left = refl }
 
+  -- the place and what remains make up the length of the list
   pub left-within : (s : List A) (at : ℕ) (rest : List A) → Left s at rest → at + length rest ≡ length s
   left-within s at rest h =
       let e : length s - at ≡ length rest = sym (length-drop at s) ∙ ap length (h .left) in
       omega (arith, h .within)
 
-  -- the front of what is left stands there
+  -- the front of what remains stands at the place
   pub left-front : (s : List A) (at : ℕ) (a b : List A) → Left s at (a ++ b) → part s at (length a) ≡ a
   left-front s at a b h = ap (take (length a)) (h .left) ∙ take-append-seam a b
 
-  -- and behind it the rest is left
+  -- behind the front of what remains the rest remains: where reading goes on
   pub left-back : (s : List A) (at : ℕ) (a b : List A) → Left s at (a ++ b) → Left s (at + length a) b
   left-back s at a b h =
       let long : length (a ++ b) ≡ length a + length b = length-append a b in
@@ -111,7 +116,7 @@ module _ {A : Type 0} where
         left = sym (drop-drop (length a) at s) ∙ ap (drop (length a)) (h .left) ∙ drop-append-seam a b;
       }
 
-  -- one write, and then another right behind it
+  -- one write, and then another right behind it, are one overwrite
   pub then-over : (at place : ℕ) (a b old mid out : List A) → mid ≡ over at a old → out ≡ over place b mid → place ≡ at + length a → place + length b ≤ length old
       → out ≡ over at (a ++ b) old
   then-over at place a b old mid out p q e room =
@@ -119,18 +124,19 @@ module _ {A : Type 0} where
 
   -- ---- one behind the other
 
+  -- what is put leaves the length of the list
   pub put-long : {at next : ℕ} {new old out : List A} → Put at new old out next → length out ≡ length old
   put-long {at} {next} {new} {old} p = ap length (p .written) ∙ length-over at new old (omega (arith, p .behind, p .within))
 
-  -- what was put, by another name
+  -- what was put, said of an equal list
   pub put-same : {at next : ℕ} {new other old out : List A} → new ≡ other → Put at new old out next → Put at other old out next
   put-same {at} {next} {new} {other} {old} {out} e p = subst (λ (l : List A). Put at l old out next) e p
 
-  -- nothing was written yet
+  -- nothing was put yet
   pub put-none : (at : ℕ) (old : List A) → at ≤ length old → Put at [] old old at
   put-none at old h = record { written = sym (over-none at old); behind = omega arith; within = h }
 
-  -- two that stand one behind the other are one
+  -- two writes, one behind the other, are one: how a record is put field by field
   pub put-then : {at i j : ℕ} {a b old mid out : List A} → Put at a old mid i → Put i b mid out j → Put at (a ++ b) old out j
   put-then {at} {i} {j} {a} {b} {old} {mid} {out} p q =
       let same : length mid ≡ length old = put-long p in
@@ -140,7 +146,7 @@ module _ {A : Type 0} where
         within = omega (arith, q .within);
       }
 
-  -- one piece more, of a loop that puts pieces one behind the other
+  -- turn of a loop that puts pieces one behind the other
   pub put-more : {at next end : ℕ} {old mid out : List A} (f : ℕ → List A) (i : ℕ) → Put at (many f i) old mid next → Put next (f i) mid out end → Put at (many f (i + 1)) old out end
   unfolding many
   put-more f i p q = rw add-one (put-then p q)
@@ -149,7 +155,7 @@ module _ {A : Type 0} where
   pub put-store : (at : ℕ) (v : A) (old : List A) → at < length old → Put at (v ∷ []) old (set old at v) (at + 1)
   put-store at v old h = record { written = sets-over at (v ∷ []) old (omega arith); behind = refl; within = omega arith }
 
-  -- a store right in front of what was written last
+  -- a store right in front of what was written last, as digits are written: the lowest first, from the end
   pub set-before : (p : ℕ) (d : A) (tail old : List A) → p + 1 + length tail ≤ length old → set (over (p + 1) tail old) p d ≡ over p (d ∷ tail) old
   unfolding over
   set-before p d tail old h =
@@ -166,7 +172,7 @@ module _ {A : Type 0} where
       ∙ ap (λ (l : List A). take p old ++ d ∷ l) (drop-at front rest (suc p) long)
       ∙ ap (λ (k : ℕ). take p old ++ d ∷ (tail ++ drop k old)) more)
 
-  -- six stores one after the other are one write
+  -- six stores one after the other are one overwrite
   pub six-over : (at : ℕ) (a b c d e f : A) (old : List A) → at + 6 ≤ length old
       → set (set (set (set (set (set old at a) (at + 1) b) (at + 2) c) (at + 3) d) (at + 4) e) (at + 5) f ≡ over at (a ∷ b ∷ c ∷ d ∷ e ∷ f ∷ []) old
   six-over at a b c d e f old h =

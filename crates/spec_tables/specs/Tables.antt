@@ -1,23 +1,23 @@
--- Lists made piece by piece, and lists written into lent ones. Definitions only.
+-- Lists made piece by piece, and lists written into lent ones: the words in which contracts say what a loop has written.
 use Prim.Native.Nat.{ℕ, zero, suc, _+_, _≤_}
 use mathlib.Core.Path.{_≡_}
 use mathlib.Core.List.{List, [], _++_}
 use lib.ListN.{length, take, drop}
 
--- the table old with new written from place at on; all else as it was
+-- old, overwritten with new from place at on; all else as it was
 unfoldable pub over {ℓ} : {A : Type ℓ} → ℕ → List A → List A → List A
 over at new old = take at old ++ (new ++ drop (at + length new) old)
 
--- f 0, f 1 and so on, n pieces one behind the other: what a loop of n turns appends
+-- the concatenation of f 0, f 1 and so on, n pieces: what a loop of n turns appends
 unfoldable pub many {ℓ} : {A : Type ℓ} → (ℕ → List A) → ℕ → List A
 many f zero = []
 many f (suc n) = many f n ++ f n
 
--- the size elements from at on
+-- the slice of `size` elements from at on
 abbrev pub part {ℓ} : {A : Type ℓ} → List A → ℕ → ℕ → List A
 part s at size = take size (drop at s)
 
--- rest is all that is left of s from at on
+-- rest is all that remains of s from at on
 pub record Left {A : Type 0} (s : List A) (at : ℕ) (rest : List A) : Type 0 where
   pub within : at ≤ length s
   pub left : drop at s ≡ rest
