@@ -1,4 +1,4 @@
--- Lists of numbers and of floats as bytes: what was written is read back, and what was read is written back. Assumes nothing.
+-- Lists of numbers and of floats as bytes: what was written is read back, and what was read is written back.
 use mathlib.Core.Path.{_≡_, refl, sym, ap, _∙_, subst}
 use mathlib.Core.List.{List, [], _∷_, _++_}
 use Prim.Native.Nat.{ℕ, _+_, _*_, _^_, _≤_, _<_}
@@ -14,14 +14,16 @@ use Rattle.spec_records.specs.Little.{little, ofLittle, littleAt, Bytes}
 use Rattle.spec_records.specs.Entries.{floatSize, numberBytes, floatBytes, numbersIn, floatsIn, FitBytes, FitFormat, NoNan}
 use Rattle.spec_records.proofs.Little.{length-little, little-back, number-back, number-below}
 
--- an element of a part that is known one by one
+-- an element of a slice that is known one by one
 element : {A : Type 0} (d : A) (xs : List A) (from n : ℕ) (g : ℕ → A) → part xs from n ≡ many (λ j. g j ∷ []) n → (i : ℕ) → i < n → getD xs (from + i) d ≡ g i
 element {A} d xs from n g e i l = sym (getD-part d xs from n i l) ∙ ap (λ (l : List A). getD l i d) e ∙ getD-many d g n i l
 
 -- ---- numbers
+-- how many bytes numbers take: the room that writing them needs
 pub length-numbers : (w : ℕ) (xs : List ℕ) (from n : ℕ) → length (numberBytes w xs from n) ≡ w * n
 length-numbers w xs from n = length-many _ w n (λ i. length-little w _)
 
+-- numbers that fit their bytes are read as they were written
 pub numbers-read : (w : ℕ) (xs : List ℕ) (from n : ℕ) (s : List ℕ) (at : ℕ) (rest : List ℕ) → FitBytes w xs from n → from + n ≤ length xs
     → Left s at (numberBytes w xs from n ++ rest) → numbersIn w s at n ≡ part xs from n
 unfolding littleAt
@@ -31,6 +33,7 @@ numbers-read w xs from n s at rest ok room h =
     ∙ ap (λ (k : ℕ). k ∷ []) (little-back w (getD xs (from + i) 0) (ok i l)))
     ∙ many-getD 0 xs from n room
 
+-- numbers that were read from bytes are written as the same bytes
 pub numbers-written : (w : ℕ) (xs : List ℕ) (from : ℕ) (s : List ℕ) (at n : ℕ) → Bytes s → at + w * n ≤ length s → part xs from n ≡ numbersIn w s at n
     → numberBytes w xs from n ≡ part s at (w * n)
 numbers-written w xs from s at n ok room e =
@@ -41,6 +44,7 @@ numbers-written w xs from s at n ok room e =
     ∙ many-parts-at w s at n
 
 -- ---- floats
+-- how many bytes floats take: the room that writing them needs
 pub length-floats : (f : Format) (xs : List Float) (from n : ℕ) → length (floatBytes f xs from n) ≡ floatSize f * n
 length-floats f xs from n = length-many _ (floatSize f) n (λ i. length-little (floatSize f) _)
 
@@ -49,7 +53,7 @@ patterns : (f : Format) → 2 * top f ≡ 256 ^ floatSize f
 patterns binary32 = refl
 patterns binary64 = refl
 
--- a NaN too
+-- floats of the format are read as they were written, a NaN as a NaN
 pub floats-read : (f : Format) (xs : List Float) (from n : ℕ) (s : List ℕ) (at : ℕ) (rest : List ℕ) → FitFormat f xs from n → from + n ≤ length xs
     → Left s at (floatBytes f xs from n ++ rest) → floatsIn f s at n ≡ part xs from n
 unfolding littleAt
@@ -63,7 +67,7 @@ floats-read f xs from n s at rest ok room h =
     ∙ ap (λ (y : Float). y ∷ []) (ofBits-toBits f x (ok i l)))
     ∙ many-getD nan xs from n room
 
--- a NaN has many patterns and is written as one of them
+-- floats that were read from bytes are written as the same bytes; not NaNs, since a NaN has many patterns and is written as one
 pub floats-written : (f : Format) (xs : List Float) (from : ℕ) (s : List ℕ) (at n : ℕ) → Bytes s → at + floatSize f * n ≤ length s → NoNan xs (from + n)
     → part xs from n ≡ floatsIn f s at n → floatBytes f xs from n ≡ part s at (floatSize f * n)
 floats-written f xs from s at n ok room numbers e =

@@ -1,4 +1,4 @@
--- Lists of whole numbers and of floats as bytes, over the size of an entry: how they are written, and how they are read. Definitions only.
+-- Lists of whole numbers and of floats as bytes, over the size of an entry: how they are written, and how they are read.
 use Prim.Native.Nat.{ℕ, _+_, _*_, _^_, _<_}
 use mathlib.Core.List.{List, [], _∷_}
 use lib.ListN.{getD}
@@ -17,6 +17,7 @@ floatSize binary64 = 8
 abbrev pub numberBytes : ℕ → List ℕ → ℕ → ℕ → List ℕ
 numberBytes w xs from n = many (λ i. little w (getD xs (from + i) 0)) n
 
+-- the same of floats, each as its bit pattern
 abbrev pub floatBytes : Format → List Float → ℕ → ℕ → List ℕ
 floatBytes f xs from n = many (λ i. little (floatSize f) (toBits f (getD xs (from + i) nan))) n
 
@@ -24,6 +25,7 @@ floatBytes f xs from n = many (λ i. little (floatSize f) (toBits f (getD xs (fr
 abbrev pub numbersIn : ℕ → List ℕ → ℕ → ℕ → List ℕ
 numbersIn w s start n = many (λ i. littleAt w s (start + w * i) ∷ []) n
 
+-- the same of floats
 abbrev pub floatsIn : Format → List ℕ → ℕ → ℕ → List Float
 floatsIn f s start n = many (λ i. ofBits f (littleAt (floatSize f) s (start + floatSize f * i)) ∷ []) n
 

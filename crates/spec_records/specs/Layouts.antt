@@ -1,4 +1,4 @@
--- Which records an image has and which the input of `gauge`, and where their bodies stand. Definitions only.
+-- Which records an image has and which the input of `gauge`, and where their bodies stand.
 -- All goes by a `Shape`: another version of the image is another shape.
 use Prim.Native.Nat.{ℕ, _+_, _*_, _/_}
 use mathlib.Core.List.{List, [], _∷_}
@@ -10,7 +10,7 @@ use Rattle.spec_records.specs.Little.{littleAt}
 use Rattle.spec_records.specs.Entries.{floatSize}
 use Rattle.spec_records.specs.Records.{Span, Wants, done, one, exactly, whole}
 
--- a version: the bytes of an order entry and of a node's left and right, and the floats
+-- a version of the image: how many bytes an order entry and a node's left and right take, and the format of its floats
 pub record Shape : Type 0 where
   pub version : ℕ
   pub entry : ℕ

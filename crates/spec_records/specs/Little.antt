@@ -1,4 +1,4 @@
--- Little-endian numbers of any width, in bytes. Definitions only.
+-- Little-endian numbers of any width, in bytes.
 use Prim.Native.Nat.{ℕ, zero, suc, _+_, _*_, _/_, _%_, _<_}
 use mathlib.Core.List.{List, [], _∷_}
 use lib.ListN.{getD}

@@ -1,4 +1,4 @@
--- The layout of a sequence of records: a u32 body length, a u16 kind, the body. Definitions only.
+-- The layout of a sequence of records: a u32 body length, a u16 kind, the body.
 -- `Wants` says which records are wanted; what is wanted next may depend on the bodies before, as on a count or a version.
 use Prim.Native.Nat.{ℕ, _+_, _%_}
 use mathlib.Core.List.{List, [], _∷_, _++_}
@@ -8,7 +8,7 @@ use lib.Dec.{leb, eqb}
 use Rattle.spec_tables.specs.Tables.{part}
 use Rattle.spec_records.specs.Little.{little, littleAt}
 
--- a part of the input
+-- a slice of the input
 pub record Span : Type 0 where
   pub start : ℕ
   pub size : ℕ
@@ -42,9 +42,11 @@ bodyAt s at = part s (at + 6) (sizeAt s at)
 unfoldable pub isRecord : ℕ → List ℕ → ℕ → Bool
 isRecord kind s at = leb (at + 6 + sizeAt s at) (length s) && eqb (littleAt 2 s (at + 4)) kind
 
+-- a record of the kind is there, and its body passes the test
 unfoldable pub isRight : ℕ → (List ℕ → Bool) → List ℕ → ℕ → Bool
 isRight kind test s at = isRecord kind s at && test (bodyAt s at)
 
+-- the six bytes in front of a body
 unfoldable pub header : ℕ → ℕ → List ℕ
 header size kind = little 4 size ++ little 2 kind
 
@@ -57,6 +59,7 @@ abbrev pub behind : Span → Layout → Layout
 behind b (wrong at) = wrong at
 behind b (bodies bs) = bodies (b ∷ bs)
 
+-- the records from a place on, up to the end of the input: extra bytes are wrong too
 unfoldable pub laidOut : Wants → List ℕ → ℕ → Layout
 laidOut done s at = cond (eqb at (length s)) (bodies []) (wrong at)
 laidOut (one kind test next) s at =
