@@ -164,7 +164,7 @@ one-more false true true a = refl
 one-more false true false a = refl
 one-more false false d a = refl
 
--- one entry more at the end keeps the list distinct where it did not occur before: a turn of the loop with marks
+-- a list with one entry more is distinct where it was and the entry is new: a turn of the loop with marks
 pub distinct-more : (xs : List ℕ) (y : ℕ) → distinct (xs ++ (y ∷ [])) ≡ (distinct xs && not (occurs y xs))
 unfolding distinct occurs
 distinct-more [] y = refl

@@ -82,12 +82,12 @@ module _ (links : List ℕ) (boxes : List Float) (nodes : ℕ) where
   seek-ends node left h = let none : nodes - node ≡ 0 = omega arith in rw none
 
   module _ (node : ℕ) (h : node < nodes) where
-    -- at a leaf, with none remaining to be skipped, the search ends: it is this one
+    -- at a leaf, with a remaining count of 0, the search ends: it is this one
     pub seek-here : (left : ℕ) → kindAt links node ≡ 1 → left ≡ 0 → leafFrom links boxes nodes node left ≡ found (leafAt links boxes node)
     unfolding leafFrom kth
     seek-here left p none = ap (leafFrom links boxes nodes node) none ∙ rw (on-leaf links nodes node h p)
 
-    -- at a leaf, with some remaining to be skipped, the search goes on for one fewer
+    -- at a leaf, with a remaining count above 0, the search goes on with one less
     pub seek-past : (left : ℕ) → kindAt links node ≡ 1 → (left ≡ 0 → ⊥) → leafFrom links boxes nodes (node + 1) (left - 1) ≡ leafFrom links boxes nodes node left
     unfolding leafFrom kth
     seek-past left p some = let more : left ≡ suc (left - 1) = omega arith in sym (ap (leafFrom links boxes nodes node) more ∙ rw (on-leaf links nodes node h p))

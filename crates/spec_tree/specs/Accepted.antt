@@ -74,7 +74,7 @@ module _ (boxAt : ℕ → Box) (order links : List ℕ) (boxes : List Float) whe
   byKind false false below node last = wrong
 
   -- The subtree whose root is this node and whose triangles end before `last`.
-  -- The first argument bounds its levels, so that the recursion ends on links that run in a circle.
+  -- The first argument is the number of levels that remain: a deeper tree is wrong, and the recursion ends on any links.
   unfoldable pub finding : ℕ → ℕ → ℕ → Finding
   finding zero node last = wrong
   finding (suc left) node last = byKind (eqb (kindAt links node) 1) (eqb (kindAt links node) 2) (finding left) node last
