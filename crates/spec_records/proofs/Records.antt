@@ -94,7 +94,8 @@ unfolding laidOut
 laid-extra s at more = rw (ne-eqb at (length s) more)
 
 -- ---- the records read so far
-allBehind : List Span → Layout → Layout
+-- the bodies read so far, in front of how the rest is laid out; a wrong rest stays wrong
+pub allBehind : List Span → Layout → Layout
 allBehind [] l = l
 allBehind (b ∷ bs) l = behind b (allBehind bs l)
 
