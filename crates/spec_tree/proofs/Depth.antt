@@ -10,15 +10,18 @@ use lib.Dec.{eqb}
 use lib.ListN.{length}
 use lib.Ieee.{Float}
 use Rattle.spec_lists.specs.Limits.{deepest}
+use Rattle.spec_lists.specs.Reading.{boxAt, triangleCount}
+use Rattle.spec_lists.specs.Refusals.{passes, refused}
 use Rattle.spec_shapes.specs.Boxes.{Box}
 use Rattle.spec_tree.specs.Trees.{Tree, leaf, branch, levels, kindAt, leftAt, rightAt}
 use Rattle.spec_tree.specs.Accepted.{Listing}
 use Rattle.spec_tree.specs.Hangs.{Hangs, LeafRange, ChildrenBefore, Sound}
-use Rattle.spec_tree.specs.Depth.{depthBy, depthAt, depthOf, Descends}
+use Rattle.spec_tree.specs.Depth.{depthBy, depthAt, depthOf, Descends, deep, notDeep, depthAnswer}
+use Rattle.spec_tree.specs.Refusals.{checkRefusal}
 use Rattle.spec_tree.proofs.Hangs.{listing-hangs}
 
-module _ (boxAt : ℕ → Box) (order links : List ℕ) (boxes : List Float) where
-  hangs-depth : (t : Tree) (most node : ℕ) → levels t ≤ most → Hangs boxAt order links boxes t node → depthAt links most node ≡ levels t
+module _ (over : ℕ → Box) (order links : List ℕ) (boxes : List Float) where
+  hangs-depth : (t : Tree) (most node : ℕ) → levels t ≤ most → Hangs over order links boxes t node → depthAt links most node ≡ levels t
   unfolding depthAt levels
   hangs-depth (leaf part) zero node w h = absurd (omega arith)
   hangs-depth (leaf part) (suc most) node w h = rw (h .kind-is)
@@ -29,9 +32,9 @@ module _ (boxAt : ℕ → Box) (order links : List ℕ) (boxes : List Float) whe
       rw (h .kind-is) (rw (left, right))
 
 -- the depth that is read off the links of a listing is the number of levels of its tree
-pub listing-depth : (boxAt : ℕ → Box) (n : ℕ) (order links : List ℕ) (boxes : List Float) (nodes : ℕ) (t : Tree) → Listing boxAt n order links boxes nodes t → depthOf links nodes ≡ levels t
-listing-depth boxAt n order links boxes nodes t s =
-    hangs-depth boxAt order links boxes t deepest (nodes - 1) (s .shallow) (listing-hangs boxAt n order links boxes nodes t s)
+pub listing-depth : (over : ℕ → Box) (n : ℕ) (order links : List ℕ) (boxes : List Float) (nodes : ℕ) (t : Tree) → Listing over n order links boxes nodes t → depthOf links nodes ≡ levels t
+listing-depth over n order links boxes nodes t s =
+    hangs-depth over order links boxes t deepest (nodes - 1) (s .shallow) (listing-hangs over n order links boxes nodes t s)
 
 -- ---- a look down from a node
 module _ (links : List ℕ) where
@@ -88,3 +91,23 @@ sound-descends n order links boxes nodes node s h =
     branch-of : (k : ℕ) → kindAt links k ≡ 2 → LeafRange order links k ⊎ ChildrenBefore links k → ChildrenBefore links k
     branch-of k p (inl l) = absurd (omega (arith, l .is-leaf))
     branch-of k p (inr b) = b
+
+-- ---- the call
+module _ (triangles : List Float) (order links : List ℕ) (boxes : List Float) (nodes : ℕ) where
+  -- a refusal of the check is the call's answer
+  pub depth-refused : (number place : ℕ) → checkRefusal triangles order links boxes nodes ≡ refused number place
+      → notDeep number place ≡ depthAnswer triangles order links boxes nodes
+  unfolding depthAnswer
+  depth-refused number place p = rw p
+
+  -- where the check passes, the depth that is read off the links is
+  pub depth-read : (d : ℕ) → checkRefusal triangles order links boxes nodes ≡ passes → d ≡ depthOf links nodes
+      → deep d ≡ depthAnswer triangles order links boxes nodes
+  unfolding depthAnswer
+  depth-read d p q = rw p (ap deep q)
+
+  -- and that is the number of levels of the tree whose listing the lists are
+  pub depth-is-levels : (t : Tree) → checkRefusal triangles order links boxes nodes ≡ passes
+      → Listing (boxAt triangles) (triangleCount triangles) order links boxes nodes t → depthAnswer triangles order links boxes nodes ≡ deep (levels t)
+  unfolding depthAnswer
+  depth-is-levels t p s = rw p (ap deep (listing-depth (boxAt triangles) (triangleCount triangles) order links boxes nodes t s))

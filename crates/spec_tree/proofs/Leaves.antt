@@ -24,7 +24,7 @@ use Rattle.spec_tree.specs.Refusals.{treeRefusal, checkRefusal}
 use Rattle.spec_tree.specs.Leaves.{leaves, Leaf, leavesFrom, partOf, oneIf, partsWith, leafNodes, leafAt, leafCount, LeafFound, nothing, found, notSought, kth, leafFrom, NodesThere, leafAnswer, EntryFound, noEntry, notAsked, entryAt, entryAnswer, counted, notCounted, countedIf, countAnswer}
 use Rattle.spec_tree.proofs.Standing.{Stands, stands-first, stands-second, stands-part}
 use Rattle.spec_tree.proofs.Nodes.{NodeLinks, links-read, box-read}
-use Rattle.spec_tree.proofs.Trees.{root-last}
+use Rattle.spec_tree.proofs.Trees.{root-last, count-least}
 use Rattle.spec_tree.proofs.Listed.{Listed, Halves, halves}
 use Rattle.spec_tree.proofs.Order.{occurs-append, permuted-occurs, permutes-test, permutes-length}
 use Rattle.spec_tree.proofs.Accepted.{accepted-listed, listing-stands}
@@ -274,8 +274,13 @@ module _ (triangles : List Float) (order links : List ℕ) (boxes : List Float) 
   passed-listed : (t : Tree) × Listing (boxAt triangles) (triangleCount triangles) order links boxes nodes t
   passed-listed = accepted-listed (boxAt triangles) (triangleCount triangles) order links boxes nodes passed-accepted
 
-  passed-sound : Sound (triangleCount triangles) order links boxes nodes
+  -- their nodes are sound, so that a look down the links meets only nodes that are there
+  pub passed-sound : Sound (triangleCount triangles) order links boxes nodes
   passed-sound = listing-sound (boxAt triangles) (triangleCount triangles) order links boxes nodes (passed-listed .0) (passed-listed .1)
+
+  -- lists that pass have a root
+  pub passed-some : 0 < nodes
+  passed-some = omega (arith, passed-listed .1 .nodes-are, count-least (passed-listed .0))
 
   -- lists that pass have what reading the leaves needs
   pub passed-there : NodesThere links boxes nodes

@@ -1,9 +1,12 @@
 -- No two answers of the tree's functions stand for the same one of the definitions.
 use mathlib.Core.Path.{_≡_, refl, sym, ap, _∙_}
+use Rattle.spec_tree.specs.Depth as Depth
 use Rattle.spec_tree.specs.Leaves as Leaves
+use Rattle.tree.specs.declared.calls.DepthFound.{DepthFound}
+use Rattle.tree.specs.declared.calls.DepthFound.the-variants as Deep
 use Rattle.tree.specs.declared.leaf_reader.EntryFound.{EntryFound}
 use Rattle.tree.specs.declared.leaf_reader.EntryFound.the-variants as Entry
-use Rattle.tree.specs.Values.{asEntryFound, asLeafFound, asLeavesCounted}
+use Rattle.tree.specs.Values.{asEntryFound, asLeafFound, asLeavesCounted, asDepthFound}
 use Rattle.shapes.proofs.Unique.{backBox}
 use Rattle.tree.specs.declared.leaves.LeafFound.{LeafFound}
 use Rattle.tree.specs.declared.leaves.LeafFound.the-variants as Found
@@ -48,3 +51,15 @@ count-is (Counted.Refused number place) = refl
 
 pub count-unique : (a b : LeavesCounted) → asLeavesCounted a ≡ asLeavesCounted b → a ≡ b
 count-unique a b e = sym (count-is a) ∙ ap backCount e ∙ count-is b
+
+-- ---- a depth
+abbrev backDepth : Depth.DepthFound → DepthFound
+backDepth (Depth.deep n) = Deep.Depth n
+backDepth (Depth.notDeep number place) = Deep.Refused number place
+
+depth-is : (a : DepthFound) → backDepth (asDepthFound a) ≡ a
+depth-is (Deep.Depth n) = refl
+depth-is (Deep.Refused number place) = refl
+
+pub depth-unique : (a b : DepthFound) → asDepthFound a ≡ asDepthFound b → a ≡ b
+depth-unique a b e = sym (depth-is a) ∙ ap backDepth e ∙ depth-is b

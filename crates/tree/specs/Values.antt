@@ -4,6 +4,9 @@ use Rattle.tree.specs.declared.leaf_reader.EntryFound.{EntryFound}
 use Rattle.tree.specs.declared.leaf_reader.EntryFound.the-variants as Entry
 use Rattle.shapes.specs.Values.{asBox}
 use Rattle.spec_tree.specs.Accepted as Accepted
+use Rattle.spec_tree.specs.Depth as Depth
+use Rattle.tree.specs.declared.calls.DepthFound.{DepthFound}
+use Rattle.tree.specs.declared.calls.DepthFound.the-variants as Deep
 use Rattle.tree.specs.declared.check.Finding.{Finding}
 use Rattle.tree.specs.declared.check.Finding.the-variants.{Wrong, Spans}
 use Rattle.tree.specs.declared.leaves.LeafFound.{LeafFound}
@@ -28,3 +31,7 @@ asLeafFound (Found.Refused number place) = Leaves.notSought number place
 abbrev pub asLeavesCounted : LeavesCounted → Leaves.LeavesCounted
 asLeavesCounted (Counted.Leaves n) = Leaves.counted n
 asLeavesCounted (Counted.Refused number place) = Leaves.notCounted number place
+
+abbrev pub asDepthFound : DepthFound → Depth.DepthFound
+asDepthFound (Deep.Depth n) = Depth.deep n
+asDepthFound (Deep.Refused number place) = Depth.notDeep number place

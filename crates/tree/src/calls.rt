@@ -1,11 +1,14 @@
-// The tree check as a refusal, and as a call over any lists at all.
+// The tree check as a refusal, and the calls over any lists at all: the check, and the depth of the tree that it accepts.
 ghost use mathlib.Core.Path.{_≡_};
 ghost use Prim.Native.Nat.{_≤_};
 ghost use Rattle.lists.specs.Values as Verdicts;
 ghost use Rattle.spec_lists.specs.Limits as Limits;
 ghost use Rattle.spec_lists.specs.Reading as Reading;
+ghost use Rattle.spec_tree.specs.Depth as Depth;
 ghost use Rattle.spec_tree.specs.Refusals as Refusals;
+ghost use Rattle.tree.specs.Values as Values;
 use crate::check::is_accepted;
+use crate::depth::depth_of;
 use lists::tests::triangles_refusal;
 use lists::verdict::Verdict;
 use lists::verdict::refused_if;
@@ -39,4 +42,26 @@ pub fn check(
         return bad_triangles;
     }
     tree_refusal(triangles, order, links, boxes, nodes)
+}
+
+pub enum DepthFound {
+    Depth(usize),
+    Refused { number: usize, place: usize },
+}
+
+// The number of the tree's levels, a lone leaf having one: 1 to 4 and 7 refuse.
+pub fn depth(
+    triangles: &[f32],
+    order: &[u32],
+    links: &[u32],
+    boxes: &[f32],
+    nodes: usize,
+) -> DepthFound
+    ensures { λ r. ⌜ Values.asDepthFound r ≡ Depth.depthAnswer (now (triangles .entry)) (now (order .entry)) (now (links .entry)) (now (boxes .entry)) nodes ⌝ }
+{
+    let verdict = check(triangles, order, links, boxes, nodes);
+    match verdict {
+        Verdict::Refused { number, place } => DepthFound::Refused { number, place },
+        Verdict::Passed => DepthFound::Depth(depth_of(links, nodes)),
+    }
 }

@@ -30,7 +30,7 @@ fn depth_at(links: &[u32], most: usize, node: usize) -> usize
 }
 
 // Of a tree that the check accepted.
-pub fn depth(links: &[u32], nodes: usize) -> usize
+pub fn depth_of(links: &[u32], nodes: usize) -> usize
     requires some { ⌜ 0 < nodes ⌝ }
     requires descends { ⌜ Depth.Descends (now links) (nodes - 1) ⌝ }
     ensures { λ r. ⌜ r ≡ Depth.depthOf (now (links .entry)) nodes ⌝ }
