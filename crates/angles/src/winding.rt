@@ -63,15 +63,9 @@ fn write_windings(triangles: &[f32], points: &[f32], out: &mut [f32])
 fn winding_refusal(triangles: &[f32], points: &[f32], room: usize) -> Verdict
     ensures { λ r. ⌜ Values.asVerdict r ≡ Windings.windingRefusal (now (triangles .entry)) (now (points .entry)) room ⌝ }
 {
-    let bad_triangles = triangles_refusal(triangles);
-    if bad_triangles.refuses() {
-        return bad_triangles;
-    }
-    let no_room = room_refusal(room, point_count(points));
-    if no_room.refuses() {
-        return no_room;
-    }
-    points_refusal(points)
+    triangles_refusal(triangles)
+        .or(room_refusal(room, point_count(points)))
+        .or(points_refusal(points))
 }
 
 // The winding number of the triangles about each of the points: one f32 a point, from the front of

@@ -20,23 +20,13 @@ pub fn build_refusal(
 ) -> Verdict
     ensures { λ r. ⌜ Lists.asVerdict r ≡ buildRefusal (now (triangles .entry)) (Lists.asSettings settings) order links boxes ⌝ }
 {
-    let bad_triangles = triangles_refusal(triangles);
-    if bad_triangles.refuses() {
-        return bad_triangles;
-    }
-    let bad_settings = settings_refusal(settings);
-    if bad_settings.refuses() {
-        return bad_settings;
+    let early = triangles_refusal(triangles).or(settings_refusal(settings));
+    if early.refuses() {
+        return early;
     }
     let count = triangle_count(triangles);
-    let short_order = room_refusal(order, count);
-    if short_order.refuses() {
-        return short_order;
-    }
     let most_nodes = 2 * count - 1;
-    let short_links = room_refusal(links, 3 * most_nodes);
-    if short_links.refuses() {
-        return short_links;
-    }
-    room_refusal(boxes, 6 * most_nodes)
+    room_refusal(order, count)
+        .or(room_refusal(links, 3 * most_nodes))
+        .or(room_refusal(boxes, 6 * most_nodes))
 }

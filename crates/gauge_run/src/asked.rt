@@ -18,17 +18,8 @@ pub fn asked_refusal(
 ) -> Verdict
     ensures { λ r. ⌜ asVerdict r ≡ askedRefusal (record { settings = asSettings settings; triangles = now (triangles .entry); points = now (points .entry); distance = distance }) ⌝ }
 {
-    let bad_triangles = triangles_refusal(triangles);
-    if bad_triangles.refuses() {
-        return bad_triangles;
-    }
-    let bad_settings = settings_refusal(settings);
-    if bad_settings.refuses() {
-        return bad_settings;
-    }
-    let bad_points = points_refusal(points);
-    if bad_points.refuses() {
-        return bad_points;
-    }
-    distance_refusal(distance)
+    triangles_refusal(triangles)
+        .or(settings_refusal(settings))
+        .or(points_refusal(points))
+        .or(distance_refusal(distance))
 }

@@ -35,15 +35,9 @@ fn late_refusal(
     requires { ⌜ triangleCount (now triangles) ≤ mostTriangles ⌝ }
     ensures { λ r. ⌜ asVerdict r ≡ lateRefusal (now (triangles .entry)) (now (order .entry)) (now (links .entry)) (now (boxes .entry)) nodes (now (points .entry)) distance ⌝ }
 {
-    let bad_tree = tree_refusal(triangles, order, links, boxes, nodes);
-    if bad_tree.refuses() {
-        return bad_tree;
-    }
-    let bad_points = point_bytes_refusal(points);
-    if bad_points.refuses() {
-        return bad_points;
-    }
-    distance_refusal(distance)
+    tree_refusal(triangles, order, links, boxes, nodes)
+        .or(point_bytes_refusal(points))
+        .or(distance_refusal(distance))
 }
 
 // The answers at all points, from the front of the bytes.

@@ -16,11 +16,7 @@ use lists::verdict::room_refusal;
 pub fn count_refusal(count: usize) -> Verdict
     ensures { λ r. ⌜ asVerdict r ≡ countRefusal count ⌝ }
 {
-    let none = refused_if(count == 0, 2, 0);
-    if none.refuses() {
-        return none;
-    }
-    refused_if(limits::MOST_TRIANGLES < count, 3, 0)
+    refused_if(count == 0, 2, 0).or(refused_if(limits::MOST_TRIANGLES < count, 3, 0))
 }
 
 // The first of the tests 2 to 6 that refuses. The rooms are in bytes: 24 an answer, 12 a point.
@@ -32,15 +28,9 @@ pub fn early_refusal(
 ) -> Verdict
     ensures { λ r. ⌜ asVerdict r ≡ earlyRefusal (now (triangles .entry)) (asSettings settings) (answers / 24) (points / 12) ⌝ }
 {
-    let bad_triangles = triangles_refusal(triangles);
-    if bad_triangles.refuses() {
-        return bad_triangles;
-    }
-    let bad_settings = settings_refusal(settings);
-    if bad_settings.refuses() {
-        return bad_settings;
-    }
-    room_refusal(answers / 24, points / 12)
+    triangles_refusal(triangles)
+        .or(settings_refusal(settings))
+        .or(room_refusal(answers / 24, points / 12))
 }
 
 // 7, by the count alone.

@@ -19,15 +19,9 @@ use lists::verdict::room_refusal;
 fn wound_refusal(triangles: &[f32], points: &[u8], room: usize) -> Verdict
     ensures { λ r. ⌜ asVerdict r ≡ woundRefusal (now (triangles .entry)) (now (points .entry)) room ⌝ }
 {
-    let bad_triangles = triangles_refusal(triangles);
-    if bad_triangles.refuses() {
-        return bad_triangles;
-    }
-    let no_room = room_refusal(room / 4, points.len() / 12);
-    if no_room.refuses() {
-        return no_room;
-    }
-    point_bytes_refusal(points)
+    triangles_refusal(triangles)
+        .or(room_refusal(room / 4, points.len() / 12))
+        .or(point_bytes_refusal(points))
 }
 
 // The winding number about each point, from the front of the bytes. The table of arc tangents is laid

@@ -45,11 +45,8 @@ pub fn point_bytes_refusal(bytes: &[u8]) -> Verdict
     ensures { λ r. ⌜ asVerdict r ≡ pointBytesRefusal (now (bytes .entry)) ⌝ }
 {
     let ragged = refused_if(bytes.len() % 12 != 0, 8, bytes.len());
-    if ragged.refuses() {
-        return ragged;
-    }
     let at = first_bad_in(bytes);
-    refused_if(at < bytes.len() / 4, 8, at)
+    ragged.or(refused_if(at < bytes.len() / 4, 8, at))
 }
 
 // Point number k.

@@ -18,11 +18,7 @@ const MOST_BYTES: usize = 36 * MOST_TRIANGLES;
 pub fn length_refusal(bytes: &[u8]) -> Verdict
     ensures { λ r. ⌜ asVerdict r ≡ lengthRefusal (now (bytes .entry)) ⌝ }
 {
-    let ragged = refused_if(bytes.len() % 36 != 0, 1, 0);
-    if ragged.refuses() {
-        return ragged;
-    }
-    refused_if(MOST_BYTES < bytes.len(), 3, 0)
+    refused_if(bytes.len() % 36 != 0, 1, 0).or(refused_if(MOST_BYTES < bytes.len(), 3, 0))
 }
 
 // Its numbers, to the front of a list that has room for them.

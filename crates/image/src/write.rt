@@ -33,19 +33,17 @@ fn write_refusal(
     requires { ⌜ given < 2 ^ 63 ⌝ }
     ensures { λ r. ⌜ asVerdict r ≡ writeRefusal version1 (imageOf settings (now (triangles .entry)) (now (order .entry)) (now (links .entry)) (now (boxes .entry)) nodes) given ⌝ }
 {
-    let bad_triangles = triangles_refusal(triangles);
-    if bad_triangles.refuses() {
-        return bad_triangles;
+    let early = triangles_refusal(triangles).or(settings_refusal(settings));
+    if early.refuses() {
+        return early;
     }
-    let bad_settings = settings_refusal(settings);
-    if bad_settings.refuses() {
-        return bad_settings;
-    }
-    let no_room = image_room_refusal(given, triangle_count(triangles), nodes);
-    if no_room.refuses() {
-        return no_room;
-    }
-    tree_refusal(triangles, order, links, boxes, nodes)
+    image_room_refusal(given, triangle_count(triangles), nodes).or(tree_refusal(
+        triangles,
+        order,
+        links,
+        boxes,
+        nodes,
+    ))
 }
 
 // The image of a tree in lent lists, from the front of `out`; what stands behind it in `out` stays as it

@@ -20,10 +20,7 @@ pub fn points_refusal(points: &[f32]) -> Verdict
     ensures { λ r. ⌜ Values.asVerdict r ≡ Refusals.pointsRefusal (now (points .entry)) ⌝ }
 {
     let ragged = refused_if(points.len() % 3 != 0, 8, points.len());
-    if ragged.refuses() {
-        return ragged;
-    }
-    coordinate_refusal(8, points)
+    ragged.or(coordinate_refusal(8, points))
 }
 
 // 9: the distance is out of range or no number.
@@ -64,17 +61,11 @@ fn too_many_refusal(triangles: &[f32]) -> Verdict
 pub fn triangles_refusal(triangles: &[f32]) -> Verdict
     ensures { λ r. ⌜ Values.asVerdict r ≡ Refusals.trianglesRefusal (now (triangles .entry)) ⌝ }
 {
-    let ragged = ragged_refusal(triangles);
-    if ragged.refuses() {
-        return ragged;
-    }
-    let none = none_refusal(triangles);
-    if none.refuses() {
-        return none;
-    }
-    let too_many = too_many_refusal(triangles);
-    if too_many.refuses() {
-        return too_many;
+    let bad_count = ragged_refusal(triangles)
+        .or(none_refusal(triangles))
+        .or(too_many_refusal(triangles));
+    if bad_count.refuses() {
+        return bad_count;
     }
     coordinate_refusal(4, triangles)
 }

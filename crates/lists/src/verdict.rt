@@ -1,5 +1,6 @@
 // What a test answers: it passed, or it refuses with its number and a place.
 ghost use mathlib.Core.Path.{_≡_};
+ghost use mathlib.Core.List.{[], _∷_};
 ghost use Rattle.spec_lists.specs.Refusals as Refusals;
 ghost use Rattle.lists.specs.Values as Values;
 
@@ -16,6 +17,16 @@ impl Verdict {
             Verdict::Passed => false,
             Verdict::Refused { .. } => true,
         }
+    }
+
+    // The first of the two that refuses: a row of tests is `a.or(b).or(c)`.
+    pub fn or(self, next: Verdict) -> Verdict
+        ensures { λ r. ⌜ Values.asVerdict r ≡ Refusals.firstRefusal (Values.asVerdict self ∷ Values.asVerdict next ∷ []) ⌝ }
+    {
+        if self.refuses() {
+            return self;
+        }
+        next
     }
 }
 

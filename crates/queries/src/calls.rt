@@ -33,23 +33,13 @@ fn query_refusal(
 ) -> Verdict
     ensures { λ r. ⌜ Verdicts.asVerdict r ≡ Calls.queryRefusal (now (triangles .entry)) (now (order .entry)) (now (links .entry)) (now (boxes .entry)) nodes (now (points .entry)) distance room ⌝ }
 {
-    let bad_triangles = triangles_refusal(triangles);
-    if bad_triangles.refuses() {
-        return bad_triangles;
+    let early = triangles_refusal(triangles).or(room_refusal(room / 6, point_count(points)));
+    if early.refuses() {
+        return early;
     }
-    let no_room = room_refusal(room / 6, point_count(points));
-    if no_room.refuses() {
-        return no_room;
-    }
-    let bad_tree = tree_refusal(triangles, order, links, boxes, nodes);
-    if bad_tree.refuses() {
-        return bad_tree;
-    }
-    let bad_points = points_refusal(points);
-    if bad_points.refuses() {
-        return bad_points;
-    }
-    distance_refusal(distance)
+    tree_refusal(triangles, order, links, boxes, nodes)
+        .or(points_refusal(points))
+        .or(distance_refusal(distance))
 }
 
 // The answers at all points, from the front of the list.

@@ -2,7 +2,7 @@
 -- one row.
 use mathlib.Core.Path.{_≡_, refl, sym, ap, _∙_}
 use mathlib.Core.Bool.{Bool, true, false, not}
-use mathlib.Core.List.{List, [], _∷_, _++_}
+use mathlib.Core.List.{List, [], _∷_}
 use Prim.Native.Nat.{ℕ, _*_, _/_, _%_, _≤_, _<_}
 use native.Mathlib.Omega.{arith}
 use borrow.Author.Tests.{eqb-false, ltb-false, eq-eqb}
@@ -22,7 +22,7 @@ use Rattle.spec_lists.specs.Limits.{mostTriangles}
 use Rattle.spec_lists.specs.Reading.{boxAt, triangleCount}
 use Rattle.spec_lists.specs.Refusals.{Verdict, passes, refused, refuses, refusedIf, firstRefusal, raggedRefusal, noneRefusal, tooManyRefusal, coordinateRefusal, trianglesRefusal, Settings, settingsRefusal, roomRefusal, distanceRefusal, isDistance, firstBad}
 use Rattle.spec_lists.specs.Passed.{GoodTriangles, GoodPoints}
-use Rattle.spec_lists.proofs.Verdicts.{stops, goes-on, ends, all-pass, not-refused, so, did-pass}
+use Rattle.spec_lists.proofs.Verdicts.{stops, ends, all-pass, not-refused, so, did-pass, row-stops, row-goes-on}
 use Rattle.spec_lists.proofs.Passed.{triangles-passed, room-passed}
 use Rattle.spec_tree.specs.Accepted.{accepted}
 use Rattle.spec_tree.specs.Refusals.{treeRefusal}
@@ -33,20 +33,6 @@ use Rattle.spec_host.specs.PointBytes.{pointBytesRefusal}
 use Rattle.spec_host.specs.Requests.{layoutRefusal, contents, treeIn, checkedRefusal, askedRefusal, woundRefusal, checkVerdict, queryVerdict}
 use Rattle.spec_host.specs.Loading.{countRefusal, earlyRefusal, lateRefusal, lateIn, Ready}
 use Rattle.spec_host.proofs.PointBytes.{point-bytes-passed}
-
--- ---- a row of tests that is made in two halves
-row-then : (xs ys : List Verdict) → firstRefusal (xs ++ ys) ≡ firstRefusal (firstRefusal xs ∷ firstRefusal ys ∷ [])
-unfolding firstRefusal
-row-then [] ys = ends (firstRefusal ys) (firstRefusal ys) refl
-row-then (passes ∷ xs) ys = row-then xs ys
-row-then (refused number place ∷ xs) ys = refl
-
-module _ (v : Verdict) (xs ys : List Verdict) (b : Bool) (is : v ≡ firstRefusal xs) (told : b ≡ refuses v) where
-  row-stops : b ≡ true → v ≡ firstRefusal (xs ++ ys)
-  row-stops t = stops v (firstRefusal xs) (firstRefusal ys ∷ []) b is told t ∙ sym (row-then xs ys)
-
-  row-goes-on : b ≡ false → (rest : Verdict) → rest ≡ firstRefusal ys → rest ≡ firstRefusal (xs ++ ys)
-  row-goes-on f rest e = goes-on v (firstRefusal xs) (firstRefusal ys ∷ []) b rest is told f (ends rest (firstRefusal ys) e) ∙ sym (row-then xs ys)
 
 -- ---- the layout
 -- a wrong layout is refused with 10 at its place, before any other test
@@ -88,7 +74,7 @@ module _ (xs : List Float) (t : ℕ) (nine : length xs ≡ 9 * t) where
   unfolding countRefusal trianglesRefusal raggedRefusal noneRefusal tooManyRefusal firstRefusal
   count-stops v b rest e r h =
       let whole : eqb (length xs % 9) 0 ≡ true = eq-eqb (length xs % 9) 0 (rw nine (omega arith)) in
-      let early : v ≡ trianglesRefusal xs = rw (whole, count-counts) (row-stops v (refusedIf (eqb t 0) 2 0 ∷ refusedIf (ltb mostTriangles t) 3 0 ∷ []) (coordinateRefusal 4 xs ∷ []) b e r h) in
+      let early : v ≡ trianglesRefusal xs = rw (whole, count-counts) (row-stops (refusedIf (eqb t 0) 2 0 ∷ refusedIf (ltb mostTriangles t) 3 0 ∷ []) (coordinateRefusal 4 xs ∷ []) v b e r h) in
       stops v (trianglesRefusal xs) rest b early r h
 
 count-passed : (t : ℕ) → countRefusal t ≡ passes → (1 ≤ t) × (t ≤ mostTriangles)
@@ -181,12 +167,12 @@ module _ (x : Image) (points : List ℕ) (distance : Float) (room : ℕ) (v : Ve
   -- a refusal before the tree is loaded is the call's refusal
   pub early-stops : b ≡ true → v ≡ askedRefusal x points distance room
   unfolding earlyRefusal askedRefusal
-  early-stops t = row-stops v _ (treeIn x ∷ pointBytesRefusal points ∷ distanceRefusal distance ∷ []) b is told t
+  early-stops t = row-stops _ (treeIn x ∷ pointBytesRefusal points ∷ distanceRefusal distance ∷ []) v b is told t
 
   -- where the tests before it passed, those after the tree is loaded decide
   pub late-decides : b ≡ false → (rest : Verdict) → rest ≡ lateIn x points distance → rest ≡ askedRefusal x points distance room
   unfolding earlyRefusal lateRefusal askedRefusal
-  late-decides f rest e = row-goes-on v _ (treeIn x ∷ pointBytesRefusal points ∷ distanceRefusal distance ∷ []) b is told f rest e
+  late-decides f rest e = row-goes-on _ (treeIn x ∷ pointBytesRefusal points ∷ distanceRefusal distance ∷ []) v b rest is told f e
 
   -- where the tests before it passed, a refusal of the tree is the call's refusal
   pub tree-stops : b ≡ false → refused 7 0 ≡ treeIn x → refused 7 0 ≡ askedRefusal x points distance room

@@ -1,8 +1,8 @@
 -- A row of tests passes exactly where each of them passes, and one test exactly where its condition fails.
 -- A test that refuses reports its own number and place.
-use mathlib.Core.Path.{_≡_, refl, sym, _∙_}
+use mathlib.Core.Path.{_≡_, refl, sym, ap, _∙_}
 use mathlib.Core.Bool.{Bool, true, false, not, true≢false}
-use mathlib.Core.List.{List, [], _∷_}
+use mathlib.Core.List.{List, [], _∷_, _++_}
 use Prim.Native.Nat.{ℕ}
 use native.Mathlib.Omega.{arith}
 use Rattle.spec_numbers.proofs.Tests.{passed, failed}
@@ -50,6 +50,46 @@ unfolding firstRefusal
 ends passes test e = rw (← e)
 ends (refused n p) test e = rw (← e)
 
+-- a test that was made and does not refuse passes
+pub did-pass : (v test : Verdict) (b : Bool) → v ≡ test → b ≡ refuses v → b ≡ false → test ≡ passes
+did-pass v test b e r f = sym e ∙ go v (sym r ∙ f)
+  where
+    go : (v : Verdict) → refuses v ≡ false → v ≡ passes
+    go passes h = refl
+    go (refused number place) h = absurd (true≢false h)
+
+-- ---- a row of tests that is written `a.or(b).or(c)`: each step adds one test behind the row
+first-of-two : (tests : List Verdict) (test : Verdict) → firstRefusal (firstRefusal tests ∷ test ∷ []) ≡ firstRefusal (tests ++ test ∷ [])
+unfolding firstRefusal
+first-of-two [] test = refl
+first-of-two (passes ∷ tests) test = first-of-two tests test
+first-of-two (refused n p ∷ tests) test = refl
+
+-- what answers for a row, and then for one test more, answers for the longer row
+pub or-test : (tests : List Verdict) (v w test r : Verdict) → v ≡ firstRefusal tests → w ≡ test
+    → r ≡ firstRefusal (v ∷ w ∷ []) → r ≡ firstRefusal (tests ++ test ∷ [])
+or-test tests v w test r row one e = rw (row, one) at e ∙ first-of-two tests test
+
+-- where the row in front refuses, it answers for the whole row
+pub row-stops : (tests rest : List Verdict) (v : Verdict) (b : Bool) → v ≡ firstRefusal tests → b ≡ refuses v → b ≡ true
+    → v ≡ firstRefusal (tests ++ rest)
+unfolding firstRefusal
+row-stops [] rest v b e r t = absurd (passed (sym (ap refuses e) ∙ sym r ∙ t))
+row-stops (passes ∷ tests) rest v b e r t = row-stops tests rest v b e r t
+row-stops (refused n p ∷ tests) rest v b e r t = e
+
+-- where it passes, the rest of the row answers
+pub row-goes-on : (tests rest : List Verdict) (v : Verdict) (b : Bool) (last : Verdict) → v ≡ firstRefusal tests → b ≡ refuses v → b ≡ false
+    → last ≡ firstRefusal rest → last ≡ firstRefusal (tests ++ rest)
+unfolding firstRefusal
+row-goes-on [] rest v b last e r f k = k
+row-goes-on (passes ∷ tests) rest v b last e r f k = row-goes-on tests rest v b last e r f k
+row-goes-on (refused n p ∷ tests) rest v b last e r f k = absurd (failed (sym (ap refuses e) ∙ sym r ∙ f))
+
+-- and each of its tests passes
+pub row-passed : (tests : List Verdict) (v : Verdict) (b : Bool) → v ≡ firstRefusal tests → b ≡ refuses v → b ≡ false → AllPass tests
+row-passed tests v b e r f = all-pass tests (did-pass v (firstRefusal tests) b e r f)
+
 -- ---- one test
 -- where a test passed, its condition does not hold
 pub not-refused : (b : Bool) (n p : ℕ) → refusedIf b n p ≡ passes → b ≡ false
@@ -65,14 +105,6 @@ so false n p e = absurd (never-both n p e)
 pub refused-by : (b : Bool) (n p m q : ℕ) → refusedIf b n p ≡ refused m q → (b ≡ true) × ((m ≡ n) × (q ≡ p))
 refused-by true n p m q e = (refl, (cc, cc))
 refused-by false n p m q e = absurd (never-both m q (sym e))
-
--- a test that was made and does not refuse passes
-pub did-pass : (v test : Verdict) (b : Bool) → v ≡ test → b ≡ refuses v → b ≡ false → test ≡ passes
-did-pass v test b e r f = sym e ∙ go v (sym r ∙ f)
-  where
-    go : (v : Verdict) → refuses v ≡ false → v ≡ passes
-    go passes h = refl
-    go (refused number place) h = absurd (true≢false h)
 
 -- ---- a lent list afterwards
 -- a call that is refused leaves what was lent to it as it was

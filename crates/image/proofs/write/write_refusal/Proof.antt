@@ -1,6 +1,5 @@
--- `image::write_refusal` meets its contract: the four tests in turn.
--- Assumes nothing.
-use Rattle.spec_lists.proofs.Verdicts.{stops, goes-on, ends, did-pass}
+-- `image::write_refusal` meets its contract: two tests, then, over triangles that passed, two more.
+use Rattle.spec_lists.proofs.Verdicts.{ends, or-test, row-stops, row-goes-on, row-passed}
 use Rattle.spec_lists.proofs.Passed.{triangles-passed}
 use Rattle.spec_image.specs.Writing.{writeRefusal}
 use borrow.Author.Needs.{needs}
@@ -10,64 +9,68 @@ use Rattle.image.proofs.write.write_refusal.Tie as tie
 triangles-refusal-requires : tie.Need-triangles-refusal-requires
 triangles-refusal-requires c κs = search needs
 
+settings-refusal-requires : tie.Need-settings-refusal-requires
+settings-refusal-requires c κs = search needs
+
+or-requires : tie.Need-or-requires
+or-requires c κs = search needs
+
 refuses-requires : tie.Need-refuses-requires
 refuses-requires c κs = search needs
 
 returns : tie.Need-returns
 unfolding writeRefusal
-returns c = stops _ _ _ _ (c .before .before .triangles-refusal .ensures) (c .before .refuses .ensures) (c .if1 .taken)
-
-settings-refusal-requires : tie.Need-settings-refusal-requires
-settings-refusal-requires c κs = search needs
-
-refuses-requires-2 : tie.Need-refuses-requires-2
-refuses-requires-2 c κs = search needs
-
-returns-2 : tie.Need-returns-2
-unfolding writeRefusal
-returns-2 c =
-    goes-on _ _ _ _ _ (c .before .before .before .before .before .triangles-refusal .ensures) (c .before .before .before .before .refuses .ensures) (c .before .before .before .if1 .left)
-    (stops _ _ _ _ (c .before .before .settings-refusal .ensures) (c .before .refuses2 .ensures) (c .if2 .taken))
+returns c =
+    let early = c .before .before in
+    row-stops _ _ _ _
+    (or-test _ _ _ _ _ (ends _ _ (early .before .before .triangles-refusal .ensures)) (early .before .settings-refusal .ensures) (early .or .ensures))
+    (c .before .refuses .ensures) (c .if1 .taken)
 
 triangle-count-requires : tie.Need-triangle-count-requires
 triangle-count-requires c κs = search needs
 
 image-room-refusal-requires : tie.Need-image-room-refusal-requires
-image-room-refusal-requires c κs = (c .before .before .before .before .before .before .before .before .before .before .before .pre, rw (c .triangle-count .ensures) (triangles-passed _ (did-pass _ _ _ (c .before .before .before .before .before .before .triangles-refusal .ensures) (c .before .before .before .before .before .refuses .ensures) (c .before .before .before .before .if1 .left)) .few))
-
-refuses-requires-3 : tie.Need-refuses-requires-3
-refuses-requires-3 c κs = search needs
-
-returns-3 : tie.Need-returns-3
-unfolding writeRefusal
-returns-3 c =
-    goes-on _ _ _ _ _ (c .before .before .before .before .before .before .before .before .before .triangles-refusal .ensures) (c .before .before .before .before .before .before .before .before .refuses .ensures) (c .before .before .before .before .before .before .before .if1 .left)
-    (goes-on _ _ _ _ _ (c .before .before .before .before .before .before .settings-refusal .ensures) (c .before .before .before .before .before .refuses2 .ensures) (c .before .before .before .before .if2 .left)
-    (stops _ _ _ _ (rw (c .before .before .before .triangle-count .ensures) at (c .before .before .image-room-refusal .ensures)) (c .before .refuses3 .ensures) (c .if3 .taken)))
+image-room-refusal-requires c κs =
+    let tested = c .before in
+    let early = tested .before .before in
+    let good = triangles-passed _ (row-passed _ _ _
+    (or-test _ _ _ _ _ (ends _ _ (early .before .before .triangles-refusal .ensures)) (early .before .settings-refusal .ensures) (early .or .ensures))
+    (tested .before .refuses .ensures) (tested .if1 .left) .0) in
+    (early .before .before .before .pre, rw (c .triangle-count .ensures) (good .few))
 
 tree-refusal-requires : tie.Need-tree-refusal-requires
-tree-refusal-requires c κs = triangles-passed _ (did-pass _ _ _ (c .before .before .before .before .before .before .before .before .before .triangles-refusal .ensures) (c .before .before .before .before .before .before .before .before .refuses .ensures) (c .before .before .before .before .before .before .before .if1 .left)) .few
+tree-refusal-requires c κs =
+    let tested = c .before .before in
+    let early = tested .before .before in
+    triangles-passed _ (row-passed _ _ _
+    (or-test _ _ _ _ _ (ends _ _ (early .before .before .triangles-refusal .ensures)) (early .before .settings-refusal .ensures) (early .or .ensures))
+    (tested .before .refuses .ensures) (tested .if1 .left) .0) .few
 
-returns-4 : tie.Need-returns-4
+or-requires-2 : tie.Need-or-requires-2
+or-requires-2 c κs = search needs
+
+returns-2 : tie.Need-returns-2
 unfolding writeRefusal
-returns-4 c =
-    goes-on _ _ _ _ _ (c .before .before .before .before .before .before .before .before .before .before .triangles-refusal .ensures) (c .before .before .before .before .before .before .before .before .before .refuses .ensures) (c .before .before .before .before .before .before .before .before .if1 .left)
-    (goes-on _ _ _ _ _ (c .before .before .before .before .before .before .before .settings-refusal .ensures) (c .before .before .before .before .before .before .refuses2 .ensures) (c .before .before .before .before .before .if2 .left)
-    (goes-on _ _ _ _ _ (rw (c .before .before .before .before .triangle-count .ensures) at (c .before .before .before .image-room-refusal .ensures)) (c .before .before .refuses3 .ensures) (c .before .if3 .left) (ends _ _ (c .tree-refusal .ensures))))
+returns-2 c =
+    let counted = c .before .before .before in
+    let tested = counted .before in
+    let early = tested .before .before in
+    row-goes-on _ _ _ _ _
+    (or-test _ _ _ _ _ (ends _ _ (early .before .before .triangles-refusal .ensures)) (early .before .settings-refusal .ensures) (early .or .ensures))
+    (tested .before .refuses .ensures) (tested .if1 .left)
+    (or-test _ _ _ _ _ (ends _ _ (rw (counted .triangle-count .ensures) at (c .before .before .image-room-refusal .ensures))) (c .before .tree-refusal .ensures) (c .or2 .ensures))
 
 pub write-refusal-spec : {M : Type 1} → statement M
 write-refusal-spec =
     tie.close
     (tie.spec
     triangles-refusal-requires
+    settings-refusal-requires
+    or-requires
     refuses-requires
     returns
-    settings-refusal-requires
-    refuses-requires-2
-    returns-2
     triangle-count-requires
     image-room-refusal-requires
-    refuses-requires-3
-    returns-3
     tree-refusal-requires
-    returns-4)
+    or-requires-2
+    returns-2)
