@@ -10,7 +10,7 @@ ghost use Rattle.spec_host.specs.PointBytes.{answerBytes, afterBytes};
 ghost use Rattle.spec_host.specs.Requests.{contents, askedRefusal, queryVerdict, answerIn};
 ghost use Rattle.spec_host.specs.Loading.{lateIn, Loaded, Ready};
 ghost use Rattle.queries.specs.Values.{asQuery};
-use crate::queries::ask_lists;
+use crate::point_queries::ask_lists;
 use crate::tests::count_refusal;
 use crate::tests::early_refusal;
 use crate::tests::nodes_refusal;

@@ -1,7 +1,7 @@
 // An image asked by a C host at the bytes of points: loaded, tested, answered. Each contract is an equation with a definition of `spec_host`.
 pub mod ask;
 pub mod calls;
-pub mod queries;
+pub mod point_queries;
 pub mod tests;
 pub mod wind;
-pub mod windings;
+pub mod point_windings;

@@ -7,7 +7,7 @@ ghost use Rattle.lists.specs.Values.{asVerdict};
 ghost use Rattle.spec_host.specs.PointBytes.{windingBytes, afterBytes};
 ghost use Rattle.spec_host.specs.Requests.{contents, woundRefusal, windingVerdict};
 use crate::tests::count_refusal;
-use crate::windings::wind_lists;
+use crate::point_windings::wind_lists;
 use lists::limits::MOST_TRIANGLES;
 use lists::verdict::Verdict;
 use records::entries::read_f32s;

@@ -13,7 +13,7 @@ use Rattle.grow.proofs.grow.grow.Kinds as grow-kinds
 use Rattle.grow.proofs.grow.+grow.Lts-grow as grow-lts
 use Rattle.grow.proofs.nodes.put_branch.Reads as put-branch-reads
 use Rattle.grow.proofs.nodes.put_leaf.Reads as put-leaf-reads
-use Rattle.grow.proofs.try_part.Reads as try-part-reads
+use Rattle.grow.proofs.tries.try_part.Reads as try-part-reads
 use Rattle.grow.proofs.grow.+grow.{statement}
 use Rattle.grow.proofs.grow.+grow.Tie.{close}
 

@@ -10,8 +10,8 @@ use Rattle.spec_host.specs.Build.{numbersOf}
 use Rattle.spec_host.proofs.Build.{numbers-long}
 use Rattle.spec_host.proofs.PointBytes.{Answered, answered-start, answered-more, answered-end}
 use Rattle.queries.specs.Values.{asQuery}
-use Rattle.host_ask.proofs.queries.put_answers.Statement.{statement}
-use Rattle.host_ask.proofs.queries.put_answers.Tie as tie
+use Rattle.host_ask.proofs.point_queries.put_answers.Statement.{statement}
+use Rattle.host_ask.proofs.point_queries.put_answers.Tie as tie
 
 abbrev Inv-loop : tie.InvT-loop
 Inv-loop query triangles order links boxes nodes points distance answers₀ count k₀ answers k = Answered (answerBy binary32 (asQuery query) triangles order links boxes nodes distance) points answers₀ count answers k

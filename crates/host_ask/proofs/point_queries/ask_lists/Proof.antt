@@ -5,8 +5,8 @@ use Rattle.spec_lists.proofs.Verdicts.{did-pass}
 use Rattle.spec_host.proofs.PointBytes.{as-it-was, as-written}
 use Rattle.spec_host.proofs.Requests.{late-passed}
 use borrow.Author.Needs.{needs}
-use Rattle.host_ask.proofs.queries.ask_lists.Statement.{statement}
-use Rattle.host_ask.proofs.queries.ask_lists.Tie as tie
+use Rattle.host_ask.proofs.point_queries.ask_lists.Statement.{statement}
+use Rattle.host_ask.proofs.point_queries.ask_lists.Tie as tie
 
 late-refusal-requires : tie.Need-late-refusal-requires
 late-refusal-requires c κs = c .before .before .before .before .before .before .pre .triangles-good .few

@@ -7,8 +7,8 @@ use lib.Ieee.{binary32, toBits}
 use Rattle.spec_angles.specs.Windings.{windingAbout, windingAt}
 use Rattle.spec_host.proofs.PointBytes.{Wound, wound-start, wound-more, wound-end}
 use borrow.Author.Needs.{needs}
-use Rattle.host_ask.proofs.windings.put_windings.Statement.{statement}
-use Rattle.host_ask.proofs.windings.put_windings.Tie as tie
+use Rattle.host_ask.proofs.point_windings.put_windings.Statement.{statement}
+use Rattle.host_ask.proofs.point_windings.put_windings.Tie as tie
 
 abbrev Inv-loop : tie.InvT-loop
 Inv-loop triangles points out₀ count table k₀ out k = Wound triangles points out₀ count out k

@@ -6,8 +6,8 @@ use Rattle.spec_lists.proofs.Verdicts.{did-pass}
 use Rattle.spec_host.proofs.PointBytes.{as-it-was, as-written}
 use Rattle.spec_host.proofs.Requests.{wound-passed}
 use borrow.Author.Needs.{needs}
-use Rattle.host_ask.proofs.windings.wind_lists.Statement.{statement}
-use Rattle.host_ask.proofs.windings.wind_lists.Tie as tie
+use Rattle.host_ask.proofs.point_windings.wind_lists.Statement.{statement}
+use Rattle.host_ask.proofs.point_windings.wind_lists.Tie as tie
 
 wound-refusal-requires : tie.Need-wound-refusal-requires
 wound-refusal-requires c κs = search needs

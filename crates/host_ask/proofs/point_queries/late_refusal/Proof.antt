@@ -2,8 +2,8 @@
 use Rattle.spec_lists.proofs.Verdicts.{ends, or-test}
 use Rattle.spec_host.specs.Loading.{lateRefusal}
 use borrow.Author.Needs.{needs}
-use Rattle.host_ask.proofs.queries.late_refusal.Statement.{statement}
-use Rattle.host_ask.proofs.queries.late_refusal.Tie as tie
+use Rattle.host_ask.proofs.point_queries.late_refusal.Statement.{statement}
+use Rattle.host_ask.proofs.point_queries.late_refusal.Tie as tie
 
 tree-refusal-requires : tie.Need-tree-refusal-requires
 tree-refusal-requires c κs = search needs

@@ -2,8 +2,8 @@
 use Rattle.spec_lists.proofs.Verdicts.{ends, or-test}
 use Rattle.spec_host.specs.Requests.{woundRefusal}
 use borrow.Author.Needs.{needs}
-use Rattle.host_ask.proofs.windings.wound_refusal.Statement.{statement}
-use Rattle.host_ask.proofs.windings.wound_refusal.Tie as tie
+use Rattle.host_ask.proofs.point_windings.wound_refusal.Statement.{statement}
+use Rattle.host_ask.proofs.point_windings.wound_refusal.Tie as tie
 
 triangles-refusal-requires : tie.Need-triangles-refusal-requires
 triangles-refusal-requires c κs = search needs
