@@ -2,6 +2,6 @@
 pub mod ask;
 pub mod calls;
 pub mod point_queries;
+pub mod point_windings;
 pub mod tests;
 pub mod wind;
-pub mod point_windings;
