@@ -235,6 +235,7 @@ impl Requests {
         let boxes: Vec<u32> = seen.nodes.iter().flat_map(|n| n.bbox).map(f32::to_bits).collect();
         let same = ours.nodes == seen.nodes.len()
             && ours.depth == seen.depth
+            && ours.depth_read(&a.given) == seen.depth
             && ours.order[..n] == seen.order
             && ours.links[..3 * ours.nodes] == links
             && ours.boxes[..6 * ours.nodes].iter().map(|x| x.to_bits()).eq(boxes)
@@ -418,7 +419,7 @@ fn scans(count: u64) -> u64 {
             grown(&list, &mut r)
         };
         deepest = deepest.max(tree.depth);
-        accepted.note(tree.accepted(&a.given), || a.name.clone());
+        accepted.note(tree.accepted(&a.given) && tree.depth_read(&a.given) == tree.depth, || a.name.clone());
         // Half of the distances are at, just above or just below where a point's nearest stands.
         let mut d = a.distance;
         if r.one_in(2) {

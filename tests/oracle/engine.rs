@@ -4,6 +4,7 @@ extern "C" {
     fn timing_build(t: *const f32, tn: usize, strategy: usize, leaf: usize, depth: usize, o: *mut u32, on: usize, l: *mut u32, ln: usize, b: *mut f32, bn: usize) -> usize;
     fn timing_depth(t: *const f32, tn: usize, strategy: usize, leaf: usize, depth: usize, o: *mut u32, on: usize, l: *mut u32, ln: usize, b: *mut f32, bn: usize) -> usize;
     fn timing_check(t: *const f32, tn: usize, o: *const u32, on: usize, l: *const u32, ln: usize, b: *const f32, bn: usize, nodes: usize) -> u32;
+    fn timing_depth_read(t: *const f32, tn: usize, o: *const u32, on: usize, l: *const u32, ln: usize, b: *const f32, bn: usize, nodes: usize) -> usize;
     fn timing_sure(t: *const f32, tn: usize, o: *const u32, on: usize, l: *const u32, ln: usize, b: *const f32, bn: usize, nodes: usize, p: *const f32, pn: usize, d: f32, a: *mut u32, an: usize) -> u32;
     fn timing_source(t: *const f32, tn: usize, o: *const u32, on: usize, l: *const u32, ln: usize, b: *const f32, bn: usize, nodes: usize, p: *const f32, pn: usize, d: f32, a: *mut u32, an: usize) -> u32;
     fn timing_winding(t: *const f32, tn: usize, p: *const f32, pn: usize, w: *mut f32, wn: usize) -> u32;
@@ -50,6 +51,12 @@ impl Tree {
     pub fn accepted(&self, t: &[f32]) -> bool {
         let (n, l, b) = (t.len() / 9, &self.links, &self.boxes);
         unsafe { timing_check(t.as_ptr(), t.len(), self.order.as_ptr(), n, l.as_ptr(), l.len(), b.as_ptr(), b.len(), self.nodes) == 1 }
+    }
+
+    /// The depth as the public call reads it off the lists.
+    pub fn depth_read(&self, t: &[f32]) -> usize {
+        let (n, l, b) = (t.len() / 9, &self.links, &self.boxes);
+        unsafe { timing_depth_read(t.as_ptr(), t.len(), self.order.as_ptr(), n, l.as_ptr(), l.len(), b.as_ptr(), b.len(), self.nodes) }
     }
 
     /// Six words a point, or nothing where the call refuses or writes past its answers.

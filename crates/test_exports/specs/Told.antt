@@ -9,6 +9,7 @@ use lib.Ieee.{Float, Format, nan}
 use Rattle.spec_lists.specs.Reading.{boxAt, triangleAt, triangleCount, pointAt}
 use Rattle.spec_lists.specs.Refusals.{Verdict, passes, refused, refuses, trianglesRefusal, Settings}
 use Rattle.spec_tree.specs.Accepted.{accepted}
+use Rattle.spec_tree.specs.Depth.{DepthFound, deep, notDeep}
 use Rattle.spec_build.specs.Build.{Built, made, notMade, BuildIs}
 use Rattle.spec_search.specs.Sure.{limitOf, sureWalk}
 use Rattle.spec_angles.specs.Winding.{solidAngle}
@@ -17,6 +18,11 @@ use Rattle.spec_angles.specs.Winding.{solidAngle}
 abbrev pub onePassed : Verdict → ℕ
 onePassed passes = 1
 onePassed (refused number place) = 0
+
+-- 0 where the lists are refused
+abbrev pub depthRead : DepthFound → ℕ
+depthRead (deep depth) = depth
+depthRead (notDeep number place) = 0
 
 -- 0 for a refusal
 abbrev pub nodesTold : Built → ℕ

@@ -5,7 +5,9 @@ ghost use lib.Ieee.{binary32};
 ghost use Rattle.lists.specs.Values as Lists;
 ghost use Rattle.shapes.specs.Values as Shapes;
 ghost use Rattle.build.specs.Values as Builds;
+ghost use Rattle.spec_tree.specs.Depth as Depth;
 ghost use Rattle.spec_tree.specs.Refusals as Trees;
+ghost use Rattle.tree.specs.Values as Found;
 ghost use Rattle.spec_angles.specs.Windings as Windings;
 ghost use Rattle.spec_search.specs.Sure as Sure;
 ghost use Rattle.spec_search.specs.Calls as Calls;
@@ -16,6 +18,7 @@ use lists::reading::triangle_at;
 use lists::tests::triangles_refusal;
 use lists::verdict::Verdict;
 use shapes::vec3::Vec3;
+use tree::calls::DepthFound;
 use tree::check::is_accepted;
 use walks::answer::Asked;
 use walks::sure::search;
@@ -26,6 +29,15 @@ fn one_passed(verdict: Verdict) -> u32
     match verdict {
         Verdict::Passed => 1,
         Verdict::Refused { .. } => 0,
+    }
+}
+
+fn depth_read(found: DepthFound) -> usize
+    ensures { λ r. ⌜ r ≡ Told.depthRead (Found.asDepthFound found) ⌝ }
+{
+    match found {
+        DepthFound::Depth(levels) => levels,
+        DepthFound::Refused { .. } => 0,
     }
 }
 
@@ -164,6 +176,21 @@ pub extern "C" fn timing_check(
 {
     let verdict = tree::calls::check(triangles, order, links, boxes, nodes);
     one_passed(verdict)
+}
+
+// The depth that is read off the lists, 0 where they are refused.
+#[no_mangle]
+pub extern "C" fn timing_depth_read(
+    triangles: &[f32],
+    order: &[u32],
+    links: &[u32],
+    boxes: &[f32],
+    nodes: usize,
+) -> usize
+    ensures { λ r. ⌜ r ≡ Told.depthRead (Depth.depthAnswer (now (triangles .entry)) (now (order .entry)) (now (links .entry)) (now (boxes .entry)) nodes) ⌝ }
+{
+    let found = tree::calls::depth(triangles, order, links, boxes, nodes);
+    depth_read(found)
 }
 
 fn measured_at(

@@ -27,7 +27,7 @@ unfolding buildRefusal
 returns c =
     let early = c .before .before in
     row-stops _ _ _ _ (or-test _ _ _ _ _ (ends _ _ (early .before .before .triangles-refusal .ensures)) (early .before .settings-refusal .ensures) (early .or .ensures))
-        (c .before .refuses .ensures) (c .if1 .taken)
+    (c .before .refuses .ensures) (c .if1 .taken)
 
 triangle-count-requires : tie.Need-triangle-count-requires
 triangle-count-requires c κs = search needs
@@ -88,13 +88,13 @@ returns-2 c =
     let early = tested .before .before in
     let a = early .before .before .before .args in
     row-goes-on _ _ _ _ _ (or-test _ _ _ _ _ (ends _ _ (early .before .before .triangles-refusal .ensures)) (early .before .settings-refusal .ensures) (early .or .ensures))
-        (tested .before .refuses .ensures) (tested .if1 .left)
-        (or-test _ _ _ _ _ (or-test _ _ _ _ _
-            (ends _ _ (first .room-refusal .ensures ∙ ap (roomRefusal (a .order)) (counted .triangle-count .ensures)))
-            (c .before .before .before .room-refusal2 .ensures ∙ ap (λ (n : ℕ). roomRefusal (a .links) (3 * mostNodes n)) (counted .triangle-count .ensures))
-            (c .before .before .or2 .ensures))
-            (c .before .room-refusal3 .ensures ∙ ap (λ (n : ℕ). roomRefusal (a .boxes) (6 * mostNodes n)) (counted .triangle-count .ensures))
-            (c .or3 .ensures))
+    (tested .before .refuses .ensures) (tested .if1 .left)
+    (or-test _ _ _ _ _ (or-test _ _ _ _ _
+    (ends _ _ (first .room-refusal .ensures ∙ ap (roomRefusal (a .order)) (counted .triangle-count .ensures)))
+    (c .before .before .before .room-refusal2 .ensures ∙ ap (λ (n : ℕ). roomRefusal (a .links) (3 * mostNodes n)) (counted .triangle-count .ensures))
+    (c .before .before .or2 .ensures))
+    (c .before .room-refusal3 .ensures ∙ ap (λ (n : ℕ). roomRefusal (a .boxes) (6 * mostNodes n)) (counted .triangle-count .ensures))
+    (c .or3 .ensures))
 
 pub build-refusal-spec : {M : Type 1} → statement M
 build-refusal-spec =
