@@ -36,17 +36,17 @@ fn measure(
     triangles: &[f32],
     t: u32,
     asked: &[f32; 4],
-    held: bool,
+    sure: bool,
     best: &mut [f32; 4],
     number: &mut u32,
 )
     requires { ⌜ 9 * t + 9 ≤ length (now triangles) ⌝ }
-    ensures { λ _. ⌜ Kept.kept (Values.hitOf (now (best .exit)) (now (number .exit))) ≡ Kept.tookBy held binary32 (now (triangles .entry)) (Values.pointOf (now (asked .entry))) (Values.fourthOf (now (asked .entry))) t (Kept.kept (Values.hitOf (now (best .entry)) (now (number .entry)))) ⌝ }
+    ensures { λ _. ⌜ Kept.kept (Values.hitOf (now (best .exit)) (now (number .exit))) ≡ Kept.tookBy sure binary32 (now (triangles .entry)) (Values.pointOf (now (asked .entry))) (Values.fourthOf (now (asked .entry))) t (Kept.kept (Values.hitOf (now (best .entry)) (now (number .entry)))) ⌝ }
 {
     let p = point_of(asked);
     let triangle = triangle_at(triangles, wide(t));
     let computed = triangle.closest_point(p);
-    if held {
+    if sure {
         offer(
             asked[3],
             hit_at(triangle.held(computed), p, t),
@@ -63,18 +63,18 @@ fn measure_part(
     triangles: &[f32],
     part: &[u32],
     asked: &[f32; 4],
-    held: bool,
+    sure: bool,
     measured: usize,
     best: &mut [f32; 4],
     number: &mut u32,
 ) -> usize
     requires { ⌜ Order.EntriesBelow (Reading.triangleCount (now triangles)) (now part) ⌝ }
     requires { ⌜ measured + length (now part) < 2 ^ 64 ⌝ }
-    ensures { λ r. ⌜ Values.soughtOf (now (best .exit)) (now (number .exit)) r ≡ Walk.tookAll (Kept.tookBy held binary32 (now (triangles .entry)) (Values.pointOf (now (asked .entry))) (Values.fourthOf (now (asked .entry)))) (now (part .entry)) (Values.soughtOf (now (best .entry)) (now (number .entry)) measured) ⌝ }
+    ensures { λ r. ⌜ Values.soughtOf (now (best .exit)) (now (number .exit)) r ≡ Walk.tookAll (Kept.tookBy sure binary32 (now (triangles .entry)) (Values.pointOf (now (asked .entry))) (Values.fourthOf (now (asked .entry)))) (now (part .entry)) (Values.soughtOf (now (best .entry)) (now (number .entry)) measured) ⌝ }
 {
     let mut i = 0;
     while i < part.len() {
-        measure(triangles, part[i], asked, held, best, number);
+        measure(triangles, part[i], asked, sure, best, number);
         i += 1;
     }
     measured + i
@@ -87,7 +87,7 @@ pub fn measure_leaf(
     first: usize,
     last: usize,
     asked: &[f32; 4],
-    held: bool,
+    sure: bool,
     measured: usize,
     best: &mut [f32; 4],
     number: &mut u32,
@@ -95,13 +95,13 @@ pub fn measure_leaf(
     requires { ⌜ Order.EntriesBelow (Reading.triangleCount (now triangles)) (now order) ⌝ }
     requires { ⌜ (first ≤ last) × (last ≤ length (now order)) ⌝ }
     requires { ⌜ measured + (last - first) < 2 ^ 64 ⌝ }
-    ensures { λ r. ⌜ Values.soughtOf (now (best .exit)) (now (number .exit)) r ≡ Walk.tookAll (Kept.tookBy held binary32 (now (triangles .entry)) (Values.pointOf (now (asked .entry))) (Values.fourthOf (now (asked .entry)))) (Tables.part (now (order .entry)) first (last - first)) (Values.soughtOf (now (best .entry)) (now (number .entry)) measured) ⌝ }
+    ensures { λ r. ⌜ Values.soughtOf (now (best .exit)) (now (number .exit)) r ≡ Walk.tookAll (Kept.tookBy sure binary32 (now (triangles .entry)) (Values.pointOf (now (asked .entry))) (Values.fourthOf (now (asked .entry)))) (Tables.part (now (order .entry)) first (last - first)) (Values.soughtOf (now (best .entry)) (now (number .entry)) measured) ⌝ }
 {
     measure_part(
         triangles,
         &order[first..last],
         asked,
-        held,
+        sure,
         measured,
         best,
         number,

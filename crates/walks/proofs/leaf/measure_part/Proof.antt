@@ -20,17 +20,17 @@ one-more-counted : (n i : ℕ) → n + (i + 1) ≡ n + i + 1
 one-more-counted n i = omega arith
 
 abbrev Inv-loop : tie.InvT-loop
-Inv-loop triangles part asked held measured best₀ number₀ i₀ best number i =
+Inv-loop triangles part asked sure measured best₀ number₀ i₀ best number i =
     (i ≤ length part)
-    × (tookAll (tookBy held binary32 triangles (pointOf asked) (fourthOf asked)) (drop i part) (soughtOf best number (measured + i)) ≡ tookAll (tookBy held binary32 triangles (pointOf asked) (fourthOf asked)) part (soughtOf best₀ number₀ measured))
+    × (tookAll (tookBy sure binary32 triangles (pointOf asked) (fourthOf asked)) (drop i part) (soughtOf best number (measured + i)) ≡ tookAll (tookBy sure binary32 triangles (pointOf asked) (fourthOf asked)) part (soughtOf best₀ number₀ measured))
 
 abbrev μ-loop : tie.MeasureT-loop
-μ-loop triangles part asked held measured best₀ number₀ i₀ best number i = length part - i
+μ-loop triangles part asked sure measured best₀ number₀ i₀ best number i = length part - i
 
 loop-holds : tie.Need-loop-holds Inv-loop μ-loop
 loop-holds c =
     let a = c .before .before .args in
-    (omega arith, ap (λ (n : ℕ). tookAll (tookBy (a .held) binary32 (a .triangles .now) (pointOf (a .asked .now)) (fourthOf (a .asked .now))) (a .part .now) (soughtOf (a .best .now) (a .number .now) n)) (plus-none (a .measured)))
+    (omega arith, ap (λ (n : ℕ). tookAll (tookBy (a .sure) binary32 (a .triangles .now) (pointOf (a .asked .now)) (fourthOf (a .asked .now))) (a .part .now) (soughtOf (a .best .now) (a .number .now) n)) (plus-none (a .measured)))
 
 mul-measure : tie.Need-mul-measure Inv-loop μ-loop
 mul-measure c = search needs
@@ -53,7 +53,7 @@ loop-again c =
     let loop = c .before .before .before .before .before .loop in
     let next = one-more-counted (a .measured) (loop .i) in (
       omega arith,
-      one-more (tookBy (a .held) binary32 (a .triangles .now) (pointOf (a .asked .now)) (fourthOf (a .asked .now))) (a .part .now) (loop .i) (soughtOf (loop .best) (loop .number) (a .measured + loop .i)) _
+      one-more (tookBy (a .sure) binary32 (a .triangles .now) (pointOf (a .asked .now)) (fourthOf (a .asked .now))) (a .part .now) (loop .i) (soughtOf (loop .best) (loop .number) (a .measured + loop .i)) _
           (soughtOf (a .best .now) (a .number .now) (a .measured)) (c .before .before .before .before .loop-test .taken) (λ j. record { best = c .measure .ensures j; measured = next j }) (loop .inv .1),
     )
 
@@ -64,7 +64,7 @@ returns : tie.Need-returns Inv-loop μ-loop
 returns c =
     let a = c .before .before .before .before .args in
     let loop = c .before .loop in
-    none-left (tookBy (a .held) binary32 (a .triangles .now) (pointOf (a .asked .now)) (fourthOf (a .asked .now))) (a .part .now) (loop .i) (soughtOf (loop .best) (loop .number) (a .measured + loop .i))
+    none-left (tookBy (a .sure) binary32 (a .triangles .now) (pointOf (a .asked .now)) (fourthOf (a .asked .now))) (a .part .now) (loop .i) (soughtOf (loop .best) (loop .number) (a .measured + loop .i))
     (soughtOf (a .best .now) (a .number .now) (a .measured)) (loop .inv .0) (c .loop-test .left) (loop .inv .1)
 
 pub measure-part-spec : {M : Type 1} → statement M
