@@ -1,4 +1,4 @@
--- What a build answers is fixed by what it stands for. Assumes nothing.
+-- No two answers of a build stand for the same of the definitions.
 use mathlib.Core.Path.{_≡_, refl, sym, ap, _∙_}
 use Rattle.spec_build.specs.Build as Build
 use Rattle.build.specs.declared.calls.Built.{Built}
@@ -13,5 +13,6 @@ back-is : (a : Built) → back (asBuilt a) ≡ a
 back-is (Tree nodes depth) = refl
 back-is (Refused number place) = refl
 
+-- what the answer stands for fixes it
 pub built-unique : (a b : Built) → asBuilt a ≡ asBuilt b → a ≡ b
 built-unique a b e = sym (back-is a) ∙ ap back e ∙ back-is b

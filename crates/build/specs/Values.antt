@@ -1,4 +1,4 @@
--- What the build answers, as the definitions' own. Definitions only.
+-- The answer of a build as the definitions' own. The contract compares by it.
 use Rattle.spec_build.specs.Build as Build
 use Rattle.build.specs.declared.calls.Built.{Built}
 use Rattle.build.specs.declared.calls.Built.the-variants.{Tree, Refused}

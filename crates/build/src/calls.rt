@@ -22,7 +22,7 @@ pub enum Built {
     Refused { number: usize, place: usize },
 }
 
-// Depth starts at 1: so many levels are left below the root.
+// How many levels may lie below the root: depth counts from 1.
 fn levels_below(maximum_depth: usize) -> usize
     ensures { λ r. ⌜ r ≡ «maximum_depth» - 1 ⌝ }
 {
@@ -33,7 +33,7 @@ fn levels_below(maximum_depth: usize) -> usize
     }
 }
 
-// Builds the tree of what passed the tests, in tables that are lent for it.
+// Builds the tree of triangles and settings that passed, in tables that are lent for it.
 fn build_with(
     triangles: &[f32],
     settings: Settings,
@@ -70,7 +70,7 @@ fn build_with(
     }
 }
 
-// Builds the tree of what passed the tests. The tables are made once a build.
+// Builds the tree of triangles and settings that passed. The tables are arrays of this call.
 fn build_passed(
     triangles: &[f32],
     settings: Settings,
@@ -96,7 +96,8 @@ fn build_passed(
     )
 }
 
-// 1 to 6 are tested in this order. On success the node count and the tree's depth are told.
+// Builds the tree and answers its node count and its depth, or the first of the tests 1 to 6 that refuses.
+// The order, links and boxes of the tree stand at the front of the lists. A refusal changes nothing.
 pub fn build(
     triangles: &[f32],
     strategy: usize,

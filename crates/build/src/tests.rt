@@ -1,5 +1,4 @@
-// The tests of a build, in turn: the triangles, the settings, the rooms of the three lists. The contract is an equation
-// with a definition of `spec_build`.
+// The tests of a build in turn: the triangles, the settings, the lengths of the three lists.
 ghost use mathlib.Core.Path.{_≡_};
 ghost use Rattle.lists.specs.Values as Lists;
 ghost use Rattle.spec_build.specs.Build.{buildRefusal};
@@ -10,7 +9,7 @@ use lists::tests::triangles_refusal;
 use lists::verdict::Verdict;
 use lists::verdict::room_refusal;
 
-// Tests 1 to 6, of outputs of these lengths.
+// Tests 1 to 6, for output lists of these lengths.
 pub fn build_refusal(
     triangles: &[f32],
     settings: Settings,

@@ -1,5 +1,5 @@
-// What the engine needs of f32 beyond the operators. Every function is total, NaN, infinities and
-// both zeros included, and its contract is an equation with a definition of `spec_numbers`.
+// What the engine needs of f32 beyond the operators. Every function answers for every input, NaN, infinities and both zeros included.
+// Its contract is an equation with a definition of `spec_numbers`.
 mod bits;
 mod order;
 mod whole;

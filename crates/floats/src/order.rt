@@ -1,4 +1,4 @@
-// The smaller and the larger of two, holding into an interval, and the tests and signs around zero.
+// The smaller and the larger of two numbers, holding into an interval, and the tests and signs around zero.
 ghost use mathlib.Core.Path.{_≡_};
 ghost use lib.Ieee.Scale.{finite};
 ghost use Rattle.spec_numbers.specs.Hold as Hold;
@@ -39,7 +39,7 @@ pub fn held(lo: f32, hi: f32, x: f32) -> f32
     lower(hi, raise(lo, x))
 }
 
-// Whether x is neither a NaN nor an infinity: of those x - x is a NaN, which is not equal to itself.
+// Whether x is neither a NaN nor an infinity. Of those x - x is a NaN, which is not equal to itself.
 pub fn is_finite(x: f32) -> bool
     ensures { λ r. ⌜ r ≡ finite x ⌝ }
 {
@@ -47,14 +47,14 @@ pub fn is_finite(x: f32) -> bool
     d == d
 }
 
-// x, with +0 for -0.
+// x, but +0 for -0.
 pub fn plus_zero(x: f32) -> f32
     ensures { λ r. ⌜ r ≡ Values.plusZero x ⌝ }
 {
     x + 0.0
 }
 
-// |x|
+// The magnitude of x. The sum turns -0 into +0.
 pub fn absolute(x: f32) -> f32
     ensures { λ r. ⌜ r ≡ Values.abs x ⌝ }
 {

@@ -1,9 +1,8 @@
-// The cut to a whole number.
+// The cut of a number to a whole one, as Rust casts it.
 ghost use mathlib.Core.Path.{_≡_};
 ghost use Rattle.spec_numbers.specs.Values as Values;
 
-// x without its fraction, as Rust's `as usize` has it: 0 for a NaN and below zero, the largest
-// number where x is 2 ^ 64 or more.
+// x without its fraction, as Rust's `as usize` has it: 0 for a NaN and below zero, the largest usize where x is 2 ^ 64 or more.
 pub fn cut(x: f32) -> usize
     ensures { λ r. ⌜ r ≡ Values.cut x ⌝ }
 {

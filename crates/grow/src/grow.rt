@@ -1,4 +1,5 @@
-// The recursion: a part of the order list becomes a leaf, or is cut in two and each side grows in its turn. The left subtree's nodes are written first, then the right one's, then the node itself.
+// The recursion: a slice of the order list becomes a leaf, or is cut in two and each side grows in its turn.
+// The nodes of the left subtree are written first, then those of the right one, then the branch itself.
 ghost use lib.Ieee.{binary32};
 ghost use Rattle.shapes.specs.Values as Shapes;
 ghost use Rattle.spec_build.specs.Growing.{Growable, GrownIs};
@@ -8,7 +9,8 @@ use crate::nodes::put_leaf;
 use crate::tries::try_part;
 use splits::split::Split;
 
-// Grows the tree of a part whose triangles begin at `entry` of the order list, with so many levels left below this one, its nodes from `node` on.
+// Grows the tree of the slice, which begins at `entry` of the order list, and answers its root, levels and box.
+// `levels_left` levels remain below this one. The slice is left in the order of the leaves, and the nodes stand in the lists from `node` on.
 pub fn grow(
     bounds: &[f32],
     centres: &[f32],

@@ -1,4 +1,4 @@
-// Nodes in the lent lists: three links and six box numbers each.
+// Writes the nodes of a tree to the lent lists: three links and six box numbers each.
 ghost use mathlib.Core.Path.{_≡_};
 ghost use mathlib.Core.List.{[], _∷_};
 ghost use Prim.Native.Nat.{_+_, _*_, _≤_, _<_, max};
@@ -12,13 +12,14 @@ use crate::tables::put_box;
 use shapes::box3::Box3;
 use splits::table::union_of;
 
-// What was grown: where its root stands, its levels, and the box over it.
+// A subtree that was grown: its root, how many levels it has, and its box.
 pub struct Grown {
     pub root: usize,
     pub levels: usize,
     pub bounds: Box3,
 }
 
+// Writes the kind and the two links of a node.
 pub fn put_links(links: &mut [u32], node: usize, kind: u32, left: u32, right: u32)
     requires { ⌜ 3 * node + 3 ≤ length (now links) ⌝ }
     ensures { λ _. ⌜ now (links .exit) ≡ over (3 * node) (kind ∷ left ∷ right ∷ []) (now (links .entry)) ⌝ }
@@ -29,7 +30,7 @@ pub fn put_links(links: &mut [u32], node: usize, kind: u32, left: u32, right: u3
     links[at + 2] = right;
 }
 
-// A leaf over the part, whose triangles begin at this entry of the order list.
+// Writes a leaf over the slice, which begins at this entry of the order list, as node `node`.
 pub fn put_leaf(
     bounds: &[f32],
     part: &[u32],
@@ -51,13 +52,14 @@ pub fn put_leaf(
     }
 }
 
+// The larger of the two.
 fn deeper(a: usize, b: usize) -> usize
     ensures { λ r. ⌜ r ≡ max a b ⌝ }
 {
     if a < b { b } else { a }
 }
 
-// A branch behind its two subtrees.
+// Writes a branch behind its two subtrees.
 pub fn put_branch(left: Grown, right: Grown, links: &mut [u32], boxes: &mut [f32]) -> Grown
     requires { ⌜ BranchAsked (left .root) (left .levels) (right .root) (right .levels) (now links) (now boxes) ⌝ }
     ensures { λ r. ⌜ BranchPut (left .root) (left .levels) (Shapes.asBox (left .bounds)) (right .root) (right .levels) (Shapes.asBox (right .bounds)) (now (links .entry)) (now (links .exit)) (now (boxes .entry)) (now (boxes .exit)) (r .root) (r .levels) (Shapes.asBox (r .bounds)) ⌝ }

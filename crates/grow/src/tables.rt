@@ -1,5 +1,4 @@
-// The tables that are made once a build: the box of each triangle, the centre of each box on each axis, and the
-// numbers of the triangles.
+// The tables that a build makes once: the box of each triangle, the centre of each box on each axis, and the order list.
 ghost use mathlib.Core.Path.{_≡_};
 ghost use mathlib.Core.List.{[], _∷_};
 ghost use Prim.Native.Nat.{_+_, _*_, _≤_};
@@ -20,7 +19,7 @@ use shapes::box3::Box3;
 use shapes::vec3::Axis;
 use splits::table::centre_on;
 
-// The box in place k of a table of boxes.
+// Writes the box to place k of a table of boxes.
 pub fn put_box(boxes: &mut [f32], k: usize, b: Box3)
     requires { ⌜ 6 * k + 6 ≤ length (now boxes) ⌝ }
     ensures { λ _. ⌜ now (boxes .exit) ≡ over (6 * k) (Trees.sixOf (Shapes.asBox b)) (now (boxes .entry)) ⌝ }
@@ -34,7 +33,7 @@ pub fn put_box(boxes: &mut [f32], k: usize, b: Box3)
     boxes[at + 5] = b.max.z;
 }
 
-// The boxes of the first `count` triangles, six numbers each.
+// Writes the boxes of the first `count` triangles, six numbers each.
 pub fn put_bounds(triangles: &[f32], count: usize, bounds: &mut [f32])
     requires { ⌜ (9 * count ≤ length (now triangles)) × (6 * count ≤ length (now bounds)) ⌝ }
     ensures { λ _. ⌜ now (bounds .exit) ≡ over 0 (many (λ t. Trees.sixOf (Reading.boxAt (now (triangles .entry)) t)) count) (now (bounds .entry)) ⌝ }
@@ -57,7 +56,7 @@ pub fn first_key(axis: Axis) -> usize
     }
 }
 
-// The centres of the first `count` boxes on one axis.
+// Writes the centres of the first `count` boxes on one axis to the front of the list.
 fn put_keys(bounds: &[f32], axis: Axis, count: usize, keys: &mut [f32])
     requires { ⌜ CentresAsked (now bounds) count (now keys) ⌝ }
     ensures { λ _. ⌜ now (keys .exit) ≡ over 0 (many (λ t. centreOn binary32 (boxIn (now (bounds .entry))) (Shapes.asAxis axis) t ∷ []) count) (now (keys .entry)) ⌝ }
@@ -69,7 +68,7 @@ fn put_keys(bounds: &[f32], axis: Axis, count: usize, keys: &mut [f32])
     }
 }
 
-// The same in the part of the table that the axis has.
+// Writes the centres of the first `count` boxes on one axis to that axis's slice of the table.
 fn put_axis(bounds: &[f32], axis: Axis, count: usize, centres: &mut [f32])
     requires { ⌜ (CentresAsked (now bounds) count (now centres)) × (length (now centres) ≡ 3 * mostTriangles) ⌝ }
     ensures { λ _. ⌜ CentresPut binary32 (now (bounds .entry)) (Shapes.asAxis axis) count (now (centres .entry)) (now (centres .exit)) ⌝ }
@@ -83,7 +82,7 @@ fn put_axis(bounds: &[f32], axis: Axis, count: usize, centres: &mut [f32])
     );
 }
 
-// The centres of the first `count` boxes on each axis.
+// Writes the centres of the first `count` boxes on each axis.
 pub fn put_centres(bounds: &[f32], count: usize, centres: &mut [f32])
     requires { ⌜ (CentresAsked (now bounds) count (now centres)) × (length (now centres) ≡ 3 * mostTriangles) ⌝ }
     ensures { λ _. ⌜ Centred binary32 (now (bounds .entry)) count (now (centres .entry)) (now (centres .exit)) ⌝ }
@@ -93,7 +92,7 @@ pub fn put_centres(bounds: &[f32], count: usize, centres: &mut [f32])
     put_axis(bounds, Axis::Z, count, centres);
 }
 
-// 0, 1 and so on at the front of the order list.
+// Writes 0, 1 and so on, `count` numbers, to the front of the order list.
 pub fn put_order(count: usize, order: &mut [u32])
     requires { ⌜ (count ≤ 4096) × (count ≤ length (now order)) ⌝ }
     ensures { λ _. ⌜ now (order .exit) ≡ over 0 (upTo count) (now (order .entry)) ⌝ }

@@ -1,4 +1,4 @@
-// The tries: a part is sorted by its centres on an axis and handed to the rule, on one axis after the other.
+// The tries to split a slice: it is sorted by the centres on an axis and handed to the rule, on one axis after the other.
 ghost use mathlib.Core.Path.{_≡_};
 ghost use lib.Ieee.{binary32};
 ghost use Rattle.shapes.specs.Values as Shapes;
@@ -18,7 +18,7 @@ use splits::median::median_split;
 use splits::split::Split;
 use splits::table::union_of;
 
-// The part, sorted stably by the centres on the axis.
+// Sorts the slice stably by the centres on the axis.
 fn sort_on(centres: &[f32], axis: Axis, part: &mut [u32], scratch: &mut [u32])
     requires { ⌜ SortAsked (Shapes.asAxis axis) (now centres) (now part) (now scratch) ⌝ }
     ensures { λ _. ⌜ now (part .exit) ≡ sorted (byKey (keysOn (Shapes.asAxis axis) (now (centres .entry)))) (now (part .entry)) ⌝ }
@@ -27,7 +27,7 @@ fn sort_on(centres: &[f32], axis: Axis, part: &mut [u32], scratch: &mut [u32])
     sort_by_key(&centres[first..first + MOST_TRIANGLES], part, scratch);
 }
 
-// What the rule says of the part as it stands: strategy 1 is median, 2 is area.
+// Where the rule cuts the slice as it stands. Strategy 1 is median, 2 is area.
 fn rule(bounds: &[f32], strategy: usize, axis: Axis, parent: Box3, part: &[u32]) -> Split
     requires { ⌜ RuleAsked binary32 (now bounds) (now part) ⌝ }
     ensures { λ r. ⌜ Rules.asSplit r ≡ Tries.rule binary32 strategy (Shapes.asAxis axis) (Shapes.asBox parent) (Splits.boxesIn (now (bounds .entry)) (now (part .entry))) ⌝ }
@@ -38,7 +38,7 @@ fn rule(bounds: &[f32], strategy: usize, axis: Axis, parent: Box3, part: &[u32])
     area_split(bounds, part, axis, parent)
 }
 
-// One try. Where it fails the part stays as it was sorted.
+// One try. Where it fails the slice stays as it was sorted.
 fn try_on(
     bounds: &[f32],
     centres: &[f32],
@@ -55,7 +55,7 @@ fn try_on(
     rule(bounds, strategy, axis, parent, part)
 }
 
-// The tries of a part whose boxes have this union, the largest axis first.
+// Tries to split a slice whose boxes have this union, on the largest axis first.
 fn try_axes(
     bounds: &[f32],
     centres: &[f32],
@@ -82,7 +82,7 @@ fn try_axes(
     try_on(bounds, centres, strategy, third, parent, part, scratch)
 }
 
-// Where the part is cut, and in which order it stands then.
+// Where the slice is cut. The slice is left as the last try sorted it.
 pub fn try_part(
     bounds: &[f32],
     centres: &[f32],

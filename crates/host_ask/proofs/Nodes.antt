@@ -1,4 +1,4 @@
--- What the test of the node count says, where it was asked and whether it refuses. Assumes nothing.
+-- What the test of the node count says, where it was asked and whether it refuses.
 use Prim.Native.Nat.{ℕ, _≤_, _<_}
 use mathlib.Core.Path.{_≡_, refl, sym, ap, _∙_}
 use mathlib.Core.Bool.{Bool, true, false}

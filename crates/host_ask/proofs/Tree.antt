@@ -1,4 +1,4 @@
--- A tree that was read stands at the front of the lists. Assumes nothing.
+-- A tree that was read stands at the front of the lists.
 use mathlib.Core.List.{List}
 use Prim.Native.Nat.{ℕ}
 use lib.Ieee.{Float}

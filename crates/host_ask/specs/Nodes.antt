@@ -1,4 +1,4 @@
--- A count of nodes that no tree has. Definitions only.
+-- A count of nodes that no tree has.
 use Prim.Native.Nat.{ℕ}
 use lib.Dec.{ltb}
 use Rattle.spec_lists.specs.Limits.{mostTriangles}

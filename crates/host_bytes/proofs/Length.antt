@@ -1,4 +1,4 @@
--- A refusal by the number of bytes is the build's, it can be told, and where there is none the bytes are whole triangles and few. Assumes nothing.
+-- A refusal by the number of bytes is the build's, it can be told, and where there is none the bytes are whole triangles and few.
 use Prim.Native.Nat.{ℕ, _*_, _%_, _≤_}
 use mathlib.Core.Path.{_≡_, refl, _∙_}
 use mathlib.Core.Bool.{Bool, true, false, not}

@@ -1,4 +1,4 @@
--- Which numbers of bytes are no triangle list that passes. Definitions only.
+-- Which numbers of bytes are no triangle list that passes.
 use Prim.Native.Nat.{ℕ, _*_}
 use mathlib.Core.List.{List, [], _∷_}
 use lib.Dec.{ltb}

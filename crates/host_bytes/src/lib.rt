@@ -1,4 +1,5 @@
-// What crosses the border to C as bytes and numbers: the one number that a call answers, triangles, points, answers. Each contract is an equation with a definition of `spec_host`.
+// What crosses the border to C as bytes and numbers: the one number that a call answers, triangles, points, answers.
+// Each contract is an equation with a definition of `spec_host`.
 pub mod answers;
 pub mod points;
 pub mod told;

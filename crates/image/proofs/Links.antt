@@ -1,4 +1,4 @@
--- A node's links, read as two lists of entries. Assumes nothing.
+-- A node's links, read as two lists of entries.
 use mathlib.Core.Path.{_≡_}
 use mathlib.Core.List.{List}
 use Prim.Native.Nat.{ℕ, _+_, _*_, _≤_}

@@ -1,4 +1,4 @@
--- What was read, put together: the answer, and lists that a refusal leaves as they were. Assumes nothing.
+-- What was read, put together: the answer, and lists that a refusal leaves as they were.
 use mathlib.Core.Path.{_≡_, sym, ap, _∙_}
 use mathlib.Core.List.{List}
 use mathlib.Core.Bool.{Bool, true, _&&_}

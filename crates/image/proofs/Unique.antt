@@ -1,4 +1,4 @@
--- What reading and writing an image answer is fixed by what it stands for. Assumes nothing.
+-- What reading and writing an image answer is fixed by what it stands for.
 use mathlib.Core.Path.{_≡_, refl, sym, ap, _∙_}
 use Rattle.spec_image.specs.Reading as Reading
 use Rattle.spec_image.specs.Writing as Writing

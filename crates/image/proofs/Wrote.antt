@@ -1,4 +1,4 @@
--- What was written, put together: the answer, and bytes that a refusal leaves as they were. Assumes nothing.
+-- What was written, put together: the answer, and bytes that a refusal leaves as they were.
 use mathlib.Core.Path.{_≡_, sym, ap, _∙_}
 use Prim.Native.Nat.{ℕ, _≤_}
 use mathlib.Core.List.{List}

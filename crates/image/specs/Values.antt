@@ -1,4 +1,4 @@
--- The image's values in the terms of `spec_image`, and what the calls leave in the lent lists. Definitions only.
+-- The image's values in the terms of `spec_image`, and what the calls leave in the lent lists.
 use Prim.Native.Nat.{ℕ}
 use mathlib.Core.List.{List}
 use lib.Ieee.{Float}

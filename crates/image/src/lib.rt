@@ -1,4 +1,5 @@
-// The image of a drawing and its tree: bytes put, lists read, the writer and the reader with their tests. Each contract is an equation with a definition of `spec_image`.
+// The image of a drawing and its tree: bytes put, lists read, the writer and the reader with their tests.
+// Each contract is an equation with a definition of `spec_image`.
 pub mod get;
 pub mod put;
 pub mod read;

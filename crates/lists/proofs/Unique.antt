@@ -1,4 +1,4 @@
--- A verdict and settings are fixed by what they stand for. Assumes nothing.
+-- No two verdicts and no two settings of the code stand for the same of the definitions.
 use mathlib.Core.Path.{_≡_, refl, ap}
 use Rattle.spec_lists.specs.Refusals as Refusals
 use Rattle.lists.specs.declared.verdict.Verdict.{Verdict}
@@ -6,6 +6,7 @@ use Rattle.lists.specs.declared.verdict.Verdict.the-variants.{Passed, Re
 use Rattle.lists.specs.declared.settings.Settings.{Settings}
 use Rattle.lists.specs.Values.{asVerdict, asSettings}
 
+-- what a verdict stands for fixes it
 pub verdict-unique : (a b : Verdict) → asVerdict a ≡ asVerdict b → a ≡ b
 verdict-unique Passed Passed e = refl
 verdict-unique Passed (Refused m q) e = cc
@@ -16,5 +17,6 @@ verdict-unique (Refused n p) (Refused m q) e = cc
 abbrev pub backSettings : Refusals.Settings → Settings
 backSettings s = record { strategy = s .strategy; «leaf_minimum» = s .leafMinimum; «maximum_depth» = s .maximumDepth }
 
+-- what settings stand for fixes them
 pub settings-unique : (a b : Settings) → asSettings a ≡ asSettings b → a ≡ b
 settings-unique a b e = ap backSettings e

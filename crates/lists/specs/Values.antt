@@ -1,4 +1,4 @@
--- The program's values as the definitions' own. Definitions only.
+-- Verdicts and settings of the code as the definitions' own. The contracts compare by these.
 use Rattle.spec_lists.specs.Refusals as Refusals
 use Rattle.lists.specs.declared.verdict.Verdict.{Verdict}
 use Rattle.lists.specs.declared.verdict.Verdict.the-variants.{Passed, Refused}

@@ -1,4 +1,5 @@
-// The lent lists: what a test answers, the limits, the tests, and how a list that passed is read. Each contract is an equation with a definition of `spec_lists`.
+// The lent lists: the limits, the tests of a list, the verdict of a test, and how a list that passed is read.
+// Each contract is an equation with a definition of `spec_lists`.
 pub mod coordinates;
 pub mod limits;
 pub mod reading;

@@ -1,4 +1,4 @@
-// A list that passed, read: triangles, their boxes, points.
+// Reading a list that passed: triangles, their boxes, points. A zero is read as +0, so that results do not depend on its sign.
 ghost use mathlib.Core.Path.{_≡_};
 ghost use Prim.Native.Nat.{_+_, _≤_, _<_, _*_};
 ghost use lib.ListN.{length};
@@ -9,7 +9,7 @@ use shapes::box3::Box3;
 use shapes::triangle3::Triangle3;
 use shapes::vec3::Vec3;
 
-// A number of a list is read as itself plus zero.
+// Number i, with +0 for -0.
 fn number_at(numbers: &[f32], i: usize) -> f32
     requires { ⌜ i < length (now numbers) ⌝ }
     ensures { λ r. ⌜ r ≡ Reading.numberAt (now (numbers .entry)) i ⌝ }
@@ -17,7 +17,7 @@ fn number_at(numbers: &[f32], i: usize) -> f32
     plus_zero(numbers[i])
 }
 
-// The point that starts at index i.
+// The point whose coordinates begin at index i.
 pub fn point_at(numbers: &[f32], i: usize) -> Vec3
     requires { ⌜ i + 3 ≤ length (now numbers) ⌝ }
     ensures { λ r. ⌜ Shapes.asPoint r ≡ Reading.pointAt (now (numbers .entry)) i ⌝ }
@@ -29,6 +29,7 @@ pub fn point_at(numbers: &[f32], i: usize) -> Vec3
     }
 }
 
+// Triangle t of the list.
 pub fn triangle_at(triangles: &[f32], t: usize) -> Triangle3
     requires { ⌜ 9 * t + 9 ≤ length (now triangles) ⌝ }
     ensures { λ r. ⌜ Shapes.asTriangle r ≡ Reading.triangleAt (now (triangles .entry)) t ⌝ }

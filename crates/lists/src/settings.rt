@@ -1,4 +1,4 @@
-// How a tree is built: strategy 1 is median, 2 is area.
+// The settings of a build: strategy 1 is the median split, 2 is the area split.
 ghost use mathlib.Core.Path.{_≡_};
 ghost use Rattle.spec_lists.specs.Refusals as Refusals;
 ghost use Rattle.lists.specs.Values as Values;
@@ -12,6 +12,7 @@ pub struct Settings {
     pub maximum_depth: usize,
 }
 
+// Whether each setting is in range.
 fn are_settings(s: Settings) -> bool
     ensures { λ r. ⌜ r ≡ Refusals.areSettings (Values.asSettings s) ⌝ }
 {

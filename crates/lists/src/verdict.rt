@@ -1,4 +1,4 @@
-// What a test answers: it passed, or it refuses with its number and a place.
+// The verdict of a test: it passed, or it refuses with its number and the place of what is wrong.
 ghost use mathlib.Core.Path.{_≡_};
 ghost use mathlib.Core.List.{[], _∷_};
 ghost use Rattle.spec_lists.specs.Refusals as Refusals;
@@ -10,6 +10,7 @@ pub enum Verdict {
 }
 
 impl Verdict {
+    // Whether the test refuses.
     pub fn refuses(self) -> bool
         ensures { λ r. ⌜ r ≡ Refusals.refuses (Values.asVerdict self) ⌝ }
     {
@@ -19,7 +20,7 @@ impl Verdict {
         }
     }
 
-    // The first of the two that refuses: a row of tests is `a.or(b).or(c)`.
+    // The first of the two that refuses. A row of tests is `a.or(b).or(c)`.
     pub fn or(self, next: Verdict) -> Verdict
         ensures { λ r. ⌜ Values.asVerdict r ≡ Refusals.firstRefusal (Values.asVerdict self ∷ Values.asVerdict next ∷ []) ⌝ }
     {
@@ -30,6 +31,7 @@ impl Verdict {
     }
 }
 
+// A refusal with this number and place where the flag is set, else a pass.
 pub fn refused_if(refuses: bool, number: usize, place: usize) -> Verdict
     ensures { λ r. ⌜ Values.asVerdict r ≡ Refusals.refusedIf refuses number place ⌝ }
 {
@@ -40,7 +42,7 @@ pub fn refused_if(refuses: bool, number: usize, place: usize) -> Verdict
     }
 }
 
-// 6: an output of `given` entries is shorter than its need.
+// 6: an output of `given` entries is shorter than it needs to be.
 pub fn room_refusal(given: usize, need: usize) -> Verdict
     ensures { λ r. ⌜ Values.asVerdict r ≡ Refusals.roomRefusal given need ⌝ }
 {

@@ -1,4 +1,4 @@
--- The crate's values in the terms of `spec_printing`. Definitions only.
+-- The crate's values in the terms of `spec_printing`.
 use Rattle.spec_printing.specs.Printed as printed
 use Rattle.printing.specs.declared.lines.Found.{Found}
 

@@ -1,4 +1,4 @@
--- The program's queries as the definitions' own. Definitions only.
+-- The queries of the code as the definitions' own. The contracts compare by these.
 use Rattle.spec_search.specs.Calls as Calls
 use Rattle.queries.specs.declared.query.Query.{Query}
 use Rattle.queries.specs.declared.query.Query.the-variants.{Sure, Source}

@@ -1,4 +1,5 @@
-// The public queries over lists of points.
+// The public queries: a list of points, a tree that need not be one, and a search distance become six words a point,
+// or a refusal that changes nothing.
 ghost use mathlib.Core.Path.{_≡_};
 ghost use Prim.Native.Nat.{_*_, _≤_};
 ghost use lib.ListN.{length};
@@ -42,7 +43,7 @@ fn query_refusal(
         .or(distance_refusal(distance))
 }
 
-// The answers at all points, from the front of the list.
+// Writes the answers at all points to the front of the list.
 fn put_answers(
     query: Query,
     triangles: &[f32],
@@ -77,7 +78,7 @@ fn put_answers(
     }
 }
 
-// A refusal changes nothing.
+// Tests the lists, and writes the answers. A refusal changes nothing.
 fn ask(
     query: Query,
     triangles: &[f32],
@@ -119,9 +120,8 @@ fn ask(
     verdict
 }
 
-// For each point the nearest held surface point within the search distance, the lowest triangle
-// number among equals: what a scan of all triangles finds. Six numbers a point, from the front of
-// `answers`; on a refusal nothing is changed.
+// For each point the nearest held surface point within the search distance, the lowest triangle number among equals:
+// what a scan of all triangles finds. `answers` holds six words a point at its front. A refusal changes nothing.
 pub fn sure_query(
     triangles: &[f32],
     order: &[u32],
@@ -148,8 +148,8 @@ pub fn sure_query(
     )
 }
 
-// For each point what the Rust's search answers, with its leaf range repaired. Six numbers a point,
-// from the front of `answers`; on a refusal nothing is changed.
+// For each point what the search of the Rust answers, with its leaf range repaired. `answers` holds six words a point at its front.
+// A refusal changes nothing.
 pub fn source_query(
     triangles: &[f32],
     order: &[u32],

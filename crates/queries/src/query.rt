@@ -1,4 +1,4 @@
-// Which of the two queries is asked, and what it answers at one point.
+// Which of the two queries is made, and what it answers at one point.
 ghost use mathlib.Core.Path.{_≡_};
 ghost use lib.Ieee.{binary32};
 ghost use Rattle.shapes.specs.Values.{asPoint};
@@ -17,7 +17,7 @@ pub enum Query {
     Source,
 }
 
-// The answer at one point: the scan's, or the source walk's.
+// The answer at one point: that of a scan of all triangles, or that of the source walk.
 pub fn answer_at(
     query: Query,
     triangles: &[f32],

@@ -1,4 +1,4 @@
--- What an answer says of the record that was looked for. Assumes nothing.
+-- What an answer says of the record that was looked for.
 use mathlib.Core.Path.{_≡_, refl, sym, _∙_, subst}
 use mathlib.Core.List.{List}
 use mathlib.Core.Bool.{Bool, true, false}

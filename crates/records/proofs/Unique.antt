@@ -1,4 +1,4 @@
--- What the layout of an image and that of an input tell is fixed by the spans of their bodies. Assumes nothing.
+-- What the layout of an image and that of an input tell is fixed by the spans of their bodies.
 use mathlib.Core.Path.{_≡_, refl, sym, ap, ap₂, _∙_}
 use mathlib.Core.List.{List, [], _∷_}
 use Prim.Native.Nat.{ℕ, zero, suc, _*_, _/_}

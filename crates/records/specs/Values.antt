@@ -1,4 +1,4 @@
--- What is found of records, as the definitions' own. Definitions only.
+-- What is found of records, as the definitions' own.
 use Prim.Native.Nat.{ℕ}
 use mathlib.Core.Bool.{Bool, cond}
 use Rattle.records.specs.declared.bodies.Body.{Body}

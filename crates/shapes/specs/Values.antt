@@ -1,4 +1,4 @@
--- The program's shapes as the records that the definitions speak of. Definitions only.
+-- The shapes of the code as the records that the definitions speak of. The contracts compare by these.
 use Rattle.spec_numbers.specs.Axes as Axes
 use Rattle.spec_shapes.specs.Points.{Point}
 use Rattle.shapes.specs.declared.vec3.Vec3.{Vec3}

@@ -1,5 +1,4 @@
-// A box: two corners, six numbers, passed and handed back by value. Each contract is an equation with a
-// definition of `spec_shapes`.
+// A box, by its lowest and its highest corner. The source's queries and the sure query measure a box differently, so both measures stand here.
 ghost use mathlib.Core.Path.{_≡_};
 ghost use lib.Ieee.{binary32};
 ghost use Rattle.spec_shapes.specs.Boxes as Boxes;
@@ -11,7 +10,7 @@ pub struct Box3 {
     pub max: Vec3,
 }
 
-// Where p lies between lo and hi: 0 at lo and 1 at hi.
+// Where p lies between lo and hi: 0 at lo, 1 at hi. Where hi is not above lo the answer is p - lo.
 pub fn offset_on(lo: f32, hi: f32, p: f32) -> f32
     ensures { λ r. ⌜ r ≡ Boxes.offsetOn binary32 lo hi p ⌝ }
 {
@@ -19,7 +18,7 @@ pub fn offset_on(lo: f32, hi: f32, p: f32) -> f32
     if hi > lo { o / (hi - lo) } else { o }
 }
 
-// The sum, and the square of how far `far` is past `near`.
+// The sum, and the square of how far `far` is past `near`, if it is past it.
 fn with_excess(sum: f32, far: f32, near: f32) -> f32
     ensures { λ r. ⌜ r ≡ Boxes.withExcess binary32 sum far near ⌝ }
 {
@@ -35,13 +34,14 @@ fn with_outside(sum: f32, lo: f32, hi: f32, v: f32) -> f32
 }
 
 impl Box3 {
+    // The box of the two corners.
     pub fn new(min: Vec3, max: Vec3) -> Box3
         ensures { λ r. ⌜ Values.asBox r ≡ record { min = Values.asPoint min; max = Values.asPoint max } ⌝ }
     {
         Box3 { min, max }
     }
 
-    // No box: joined with a box it gives that box.
+    // The box that joined with any box gives that box: its lowest corner is the largest finite number, its highest the opposite.
     pub fn empty() -> Box3
         ensures { λ r. ⌜ Values.asBox r ≡ Boxes.empty binary32 ⌝ }
     {
@@ -59,6 +59,7 @@ impl Box3 {
         }
     }
 
+    // The smallest box around both.
     pub fn union_box(self, b: Box3) -> Box3
         ensures { λ r. ⌜ Values.asBox r ≡ Boxes.union (Values.asBox self) (Values.asBox b) ⌝ }
     {
@@ -68,6 +69,7 @@ impl Box3 {
         }
     }
 
+    // The smallest box around this one and p.
     pub fn union_point(self, p: Vec3) -> Box3
         ensures { λ r. ⌜ Values.asBox r ≡ Boxes.unionPoint (Values.asBox self) (Values.asPoint p) ⌝ }
     {
@@ -77,18 +79,21 @@ impl Box3 {
         }
     }
 
+    // Half the sum of both corners.
     pub fn centre(self) -> Vec3
         ensures { λ r. ⌜ Values.asPoint r ≡ Boxes.centre binary32 (Values.asBox self) ⌝ }
     {
         self.min.plus(self.max).over(2.0)
     }
 
+    // The size on each axis.
     pub fn sizes(self) -> Vec3
         ensures { λ r. ⌜ Values.asPoint r ≡ Boxes.sizes binary32 (Values.asBox self) ⌝ }
     {
         self.max.minus(self.min)
     }
 
+    // The area of the six faces.
     pub fn area(self) -> f32
         ensures { λ r. ⌜ r ≡ Boxes.area binary32 (Values.asBox self) ⌝ }
     {
@@ -96,6 +101,7 @@ impl Box3 {
         2.0 * (d.x * d.y + d.x * d.z + d.y * d.z)
     }
 
+    // The product of the sizes.
     pub fn volume(self) -> f32
         ensures { λ r. ⌜ r ≡ Boxes.volume binary32 (Values.asBox self) ⌝ }
     {
@@ -103,7 +109,7 @@ impl Box3 {
         d.x * d.y * d.z
     }
 
-    // Where p lies in the box, on each axis: 0 at min and 1 at max.
+    // Where p lies in the box on each axis: 0 at min and 1 at max.
     pub fn offset(self, p: Vec3) -> Vec3
         ensures { λ r. ⌜ Values.asPoint r ≡ Boxes.offset binary32 (Values.asBox self) (Values.asPoint p) ⌝ }
     {
@@ -114,7 +120,7 @@ impl Box3 {
         }
     }
 
-    // The source's squared distance.
+    // The source's squared distance from p to the box: what p is outside, squared, axis after axis.
     pub fn squared_distance(self, p: Vec3) -> f32
         ensures { λ r. ⌜ r ≡ Boxes.boxSquared binary32 (Values.asBox self) (Values.asPoint p) ⌝ }
     {
@@ -123,20 +129,21 @@ impl Box3 {
         with_outside(xy, self.min.z, self.max.z, p.z)
     }
 
+    // Whether p lies in the box, its faces included.
     pub fn contains_point(self, p: Vec3) -> bool
         ensures { λ r. ⌜ r ≡ Boxes.containsPoint (Values.asBox self) (Values.asPoint p) ⌝ }
     {
         self.min.is_under(p) & p.is_under(self.max)
     }
 
-    // The source's closest point.
+    // The source's closest point of the box.
     pub fn closest_point(self, p: Vec3) -> Vec3
         ensures { λ r. ⌜ Values.asPoint r ≡ Boxes.closestInBox (Values.asBox self) (Values.asPoint p) ⌝ }
     {
         self.min.largest(p).smallest(self.max)
     }
 
-    // p raised to min, then lowered to max: the sure query's.
+    // p held into the box: raised to min, then lowered to max. The sure query uses it.
     pub fn hold(self, p: Vec3) -> Vec3
         ensures { λ r. ⌜ Values.asPoint r ≡ Boxes.heldIn (Values.asBox self) (Values.asPoint p) ⌝ }
     {
@@ -147,7 +154,7 @@ impl Box3 {
         }
     }
 
-    // The squared distance from p to p held into the box: the sure walk's.
+    // The squared distance from p to p held into the box. The sure query skips a box by it.
     pub fn held_squared(self, p: Vec3) -> f32
         ensures { λ r. ⌜ r ≡ Boxes.heldSquared binary32 (Values.asBox self) (Values.asPoint p) ⌝ }
     {

@@ -1,5 +1,4 @@
-// A plane, and the source's test of a plane and a box. Each contract is an equation with a definition of
-// `spec_shapes`.
+// A plane, and the source's test whether it cuts a box. The median split uses it.
 ghost use mathlib.Core.Path.{_≡_};
 ghost use lib.Ieee.{binary32};
 ghost use Rattle.spec_shapes.specs.Planes as Planes;
@@ -46,6 +45,7 @@ fn reach_of(normal: Vec3, halves: Vec3) -> f32
 }
 
 impl Plane3 {
+    // Whether the plane cuts the box or touches it.
     pub fn intersects_box3(self, b: Box3) -> bool
         ensures { λ r. ⌜ r ≡ Planes.meetsBox binary32 (Values.asPlane self) (Values.asBox b) ⌝ }
     {

@@ -1,5 +1,4 @@
-// A triangle, its box, its closest point to a point, and the sure query's held point. Each contract is
-// an equation with a definition of `spec_shapes`.
+// A triangle, its box, the source's closest point of it, and the sure query's point of it.
 ghost use mathlib.Core.Path.{_≡_};
 ghost use lib.Ieee.{binary32};
 ghost use Rattle.spec_shapes.specs.Triangles as Triangles;
@@ -13,7 +12,7 @@ pub struct Triangle3 {
     pub c: Vec3,
 }
 
-// The part of a triangle that is closest: the test that answered.
+// The part of a triangle that holds the closest point.
 pub enum Part {
     Face,
     CornerA,
@@ -24,7 +23,8 @@ pub enum Part {
     EdgeBC,
 }
 
-// What the tests look at: the edges ab and ac, each with the point seen from a, from b and from c.
+// What the tests for the closest part compare: the dot products of the edges ab and ac with the point as seen from a (d1, d2), from b (d3, d4)
+// and from c (d5, d6).
 pub struct Dots {
     pub d1: f32,
     pub d2: f32,
@@ -55,25 +55,28 @@ fn along(start: Vec3, edge: Vec3, s: f32) -> Vec3
 }
 
 impl Dots {
+    // The weight of corner a, up to the common divisor.
     fn va(self) -> f32
         ensures { λ r. ⌜ r ≡ Triangles.va binary32 (Values.asDots self) ⌝ }
     {
         crossed(self.d3, self.d6, self.d5, self.d4)
     }
 
+    // The weight of corner b, up to the common divisor.
     fn vb(self) -> f32
         ensures { λ r. ⌜ r ≡ Triangles.vb binary32 (Values.asDots self) ⌝ }
     {
         crossed(self.d5, self.d2, self.d1, self.d6)
     }
 
+    // The weight of corner c, up to the common divisor.
     fn vc(self) -> f32
         ensures { λ r. ⌜ r ≡ Triangles.vc binary32 (Values.asDots self) ⌝ }
     {
         crossed(self.d1, self.d4, self.d3, self.d2)
     }
 
-    // The first of the source's tests that answers.
+    // The part that holds the closest point: the first of the source's tests that answers.
     pub fn part(self) -> Part
         ensures { λ r. ⌜ Values.asPart r ≡ Triangles.part binary32 (Values.asDots self) ⌝ }
     {
@@ -100,6 +103,7 @@ impl Dots {
 }
 
 impl Triangle3 {
+    // The smallest box around the three corners.
     pub fn bbox(self) -> Box3
         ensures { λ r. ⌜ Values.asBox r ≡ Triangles.boxOf (Values.asTriangle self) ⌝ }
     {
@@ -109,6 +113,7 @@ impl Triangle3 {
         }
     }
 
+    // The dot products for p.
     pub fn dots(self, p: Vec3) -> Dots
         ensures { λ r. ⌜ Values.asDots r ≡ Triangles.dots binary32 (Values.asTriangle self) (Values.asPoint p) ⌝ }
     {
@@ -127,6 +132,7 @@ impl Triangle3 {
         }
     }
 
+    // The point whose weights the dot products give, divided by their sum.
     fn point_in_face(self, d: Dots) -> Vec3
         ensures { λ r. ⌜ Values.asPoint r ≡ Triangles.facePoint binary32 (Values.asTriangle self) (Values.asDots d) ⌝ }
     {
@@ -137,7 +143,7 @@ impl Triangle3 {
         along(on_ab, self.c.minus(self.a), vc * denom)
     }
 
-    // The point of a part of the triangle.
+    // The closest point, once its part is known.
     pub fn point_on(self, d: Dots, part: Part) -> Vec3
         ensures { λ r. ⌜ Values.asPoint r ≡ Triangles.pointOn binary32 (Values.asTriangle self) (Values.asDots d) (Values.asPart part) ⌝ }
     {
@@ -156,7 +162,7 @@ impl Triangle3 {
         }
     }
 
-    // The source's closest point.
+    // The source's closest point of the triangle to p.
     pub fn closest_point(self, p: Vec3) -> Vec3
         ensures { λ r. ⌜ Values.asPoint r ≡ Triangles.closestPoint binary32 (Values.asTriangle self) (Values.asPoint p) ⌝ }
     {
@@ -164,21 +170,21 @@ impl Triangle3 {
         self.point_on(d, d.part())
     }
 
-    // q, or corner a where q is not finite, held into the triangle's box, zeros plus zero.
+    // q held into the triangle's box, with +0 for -0. Where q is not finite, corner a stands for it.
     pub fn held(self, q: Vec3) -> Vec3
         ensures { λ r. ⌜ Values.asPoint r ≡ Triangles.heldFrom (Values.asTriangle self) (Values.asPoint q) ⌝ }
     {
         self.bbox().hold(finite_or(self.a, q)).plus_zero()
     }
 
-    // The sure query's point: the closest point, held.
+    // The sure query's point: the closest point, held into the triangle's box.
     pub fn held_point(self, p: Vec3) -> Vec3
         ensures { λ r. ⌜ Values.asPoint r ≡ Triangles.heldPoint binary32 (Values.asTriangle self) (Values.asPoint p) ⌝ }
     {
         self.held(self.closest_point(p))
     }
 
-    // That point, and its squared distance to p.
+    // The sure query's point, and its squared distance to p.
     pub fn measure(self, p: Vec3) -> Measured
         ensures { λ r. ⌜ Values.asMeasured r ≡ Triangles.measured binary32 (Values.asTriangle self) (Values.asPoint p) ⌝ }
     {

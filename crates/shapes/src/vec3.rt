@@ -1,5 +1,4 @@
-// A vector of f32, which is a point too, by value, with the operations of the Rust in its order. Each
-// contract is an equation with a definition of `spec_shapes`.
+// A vector of f32, which is a point too.
 ghost use mathlib.Core.Path.{_≡_};
 ghost use lib.Ieee.{binary32};
 ghost use Rattle.spec_shapes.specs.Points as Points;
@@ -29,6 +28,7 @@ impl Vec3 {
         }
     }
 
+    // The difference on each axis.
     pub fn minus(self, b: Vec3) -> Vec3
         ensures { λ r. ⌜ Values.asPoint r ≡ Points.minus binary32 (Values.asPoint self) (Values.asPoint b) ⌝ }
     {
@@ -39,6 +39,7 @@ impl Vec3 {
         }
     }
 
+    // The sum on each axis.
     pub fn plus(self, b: Vec3) -> Vec3
         ensures { λ r. ⌜ Values.asPoint r ≡ Points.plus binary32 (Values.asPoint self) (Values.asPoint b) ⌝ }
     {
@@ -49,6 +50,7 @@ impl Vec3 {
         }
     }
 
+    // Each coordinate times s.
     pub fn scale(self, s: f32) -> Vec3
         ensures { λ r. ⌜ Values.asPoint r ≡ Points.scale binary32 (Values.asPoint self) s ⌝ }
     {
@@ -59,6 +61,7 @@ impl Vec3 {
         }
     }
 
+    // Each coordinate divided by s.
     pub fn over(self, s: f32) -> Vec3
         ensures { λ r. ⌜ Values.asPoint r ≡ Points.dividedBy binary32 (Values.asPoint self) s ⌝ }
     {
@@ -69,14 +72,14 @@ impl Vec3 {
         }
     }
 
-    // xx + yy + zz, from the left.
+    // The dot product, summed from the left.
     pub fn dot(self, b: Vec3) -> f32
         ensures { λ r. ⌜ r ≡ Points.dot binary32 (Values.asPoint self) (Values.asPoint b) ⌝ }
     {
         self.x * b.x + self.y * b.y + self.z * b.z
     }
 
-    // yz - zy, zx - xz, xy - yx.
+    // The cross product.
     pub fn cross(self, b: Vec3) -> Vec3
         ensures { λ r. ⌜ Values.asPoint r ≡ Points.cross binary32 (Values.asPoint self) (Values.asPoint b) ⌝ }
     {
@@ -87,7 +90,7 @@ impl Vec3 {
         }
     }
 
-    // `min2`.
+    // The smaller coordinate on each axis, by `min2`.
     pub fn smallest(self, b: Vec3) -> Vec3
         ensures { λ r. ⌜ Values.asPoint r ≡ Points.smallest (Values.asPoint self) (Values.asPoint b) ⌝ }
     {
@@ -98,7 +101,7 @@ impl Vec3 {
         }
     }
 
-    // `max2`.
+    // The larger coordinate on each axis, by `max2`.
     pub fn largest(self, b: Vec3) -> Vec3
         ensures { λ r. ⌜ Values.asPoint r ≡ Points.largest (Values.asPoint self) (Values.asPoint b) ⌝ }
     {
@@ -109,20 +112,21 @@ impl Vec3 {
         }
     }
 
-    // Whether it is at most b on each axis.
+    // Whether each coordinate is at most that of b.
     pub fn is_under(self, b: Vec3) -> bool
         ensures { λ r. ⌜ r ≡ Points.isUnder (Values.asPoint self) (Values.asPoint b) ⌝ }
     {
         (self.x <= b.x) & (self.y <= b.y) & (self.z <= b.z)
     }
 
+    // Whether each coordinate is finite.
     pub fn is_finite(self) -> bool
         ensures { λ r. ⌜ r ≡ Points.isFinite (Values.asPoint self) ⌝ }
     {
         floats::is_finite(self.x) & floats::is_finite(self.y) & floats::is_finite(self.z)
     }
 
-    // Zeros are plus zero.
+    // The same point with +0 for -0.
     pub fn plus_zero(self) -> Vec3
         ensures { λ r. ⌜ Values.asPoint r ≡ Points.plusZero (Values.asPoint self) ⌝ }
     {
@@ -133,7 +137,7 @@ impl Vec3 {
         }
     }
 
-    // The squared distance to p: the difference, then its dot with itself.
+    // The squared distance to p: the difference, and its dot product with itself.
     pub fn squared_distance(self, p: Vec3) -> f32
         ensures { λ r. ⌜ r ≡ Points.squaredDistance binary32 (Values.asPoint self) (Values.asPoint p) ⌝ }
     {

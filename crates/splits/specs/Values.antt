@@ -1,4 +1,4 @@
--- What the split rules work on and answer, as the definitions' own. Definitions only.
+-- The buckets, costs and splits of the code as the definitions' own. The contracts compare by these.
 use mathlib.Core.List.{List, map}
 use Rattle.shapes.specs.Values.{asBox}
 use Rattle.spec_splits.specs.Buckets as Buckets

@@ -1,4 +1,4 @@
-// The area rule.
+// The area rule: cuts a slice where the areas of both sides, weighted by their counts, sum to the least.
 ghost use mathlib.Core.Path.{_≡_};
 ghost use Prim.Native.Nat.{_^_, _<_};
 ghost use lib.ListN.{length};
@@ -18,7 +18,7 @@ use crate::split::Split;
 use shapes::box3::Box3;
 use shapes::vec3::Axis;
 
-// Before the first object that lies in a bucket later than k.
+// Cuts before the first entry whose box lies in a bucket later than k.
 fn first_later(bounds: &[f32], part: &[u32], axis: Axis, within: Span, k: usize) -> Split
     requires { ⌜ Splits.AllInTable (now bounds) (now part) ⌝ }
     ensures { λ r. ⌜ Values.asSplit r ≡ Area.firstLater (Area.bucketBetween binary32 (Shapes.asAxis axis) (within .lo) (within .hi)) k (Splits.boxesIn (now (bounds .entry)) (now (part .entry))) 0 ⌝ }
@@ -33,7 +33,7 @@ fn first_later(bounds: &[f32], part: &[u32], axis: Axis, within: Span, k: usize)
     Split::Nowhere
 }
 
-// Where the first smallest cost cuts, if it is below the object count.
+// Cuts at the first smallest cost, if that is below the cost of a leaf, which is the count of the slice. Where a cost is a NaN it cuts nowhere.
 fn cut_by(bounds: &[f32], part: &[u32], axis: Axis, within: Span, best: Cheapest) -> Split
     requires { ⌜ length (now part) < 2 ^ 28 ⌝ }
     requires { ⌜ Splits.AllInTable (now bounds) (now part) ⌝ }
@@ -46,6 +46,7 @@ fn cut_by(bounds: &[f32], part: &[u32], axis: Axis, within: Span, best: Cheapest
     Split::Nowhere
 }
 
+// Cuts where the rule says, or nowhere.
 pub fn area_split(bounds: &[f32], part: &[u32], axis: Axis, parent: Box3) -> Split
     requires { ⌜ length (now part) < 2 ^ 28 ⌝ }
     requires { ⌜ Splits.Boxed binary32 (now bounds) (now part) ⌝ }

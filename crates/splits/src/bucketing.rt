@@ -1,4 +1,4 @@
-// The boxes of a part, put into twelve buckets by where their centres lie on an axis.
+// The boxes of a slice, put into twelve buckets by where their centres lie on an axis.
 ghost use mathlib.Core.Path.{_≡_};
 ghost use Prim.Native.Nat.{_^_, _<_};
 ghost use lib.ListN.{length};
@@ -13,7 +13,7 @@ use crate::table::centre_on;
 use shapes::box3::offset_on;
 use shapes::vec3::Axis;
 
-// 12 times the offset, cut to a whole number, at most 11: a NaN and what is below zero are 0.
+// 12 times the offset, cut to a whole number, at most 11. A NaN and what is below zero give 0.
 fn bucket_for(offset: f32) -> usize
     ensures { λ r. ⌜ r ≡ Area.bucketFor binary32 offset ⌝ }
 {
@@ -27,7 +27,7 @@ fn bucket_for(offset: f32) -> usize
     0
 }
 
-// Where the centres lie on an axis.
+// The lowest and the highest centre on an axis.
 pub struct Span {
     pub lo: f32,
     pub hi: f32,
@@ -41,7 +41,7 @@ pub fn bucket_of(bounds: &[f32], t: u32, axis: Axis, within: Span) -> usize
     bucket_for(offset_on(within.lo, within.hi, centre_on(bounds, t, axis)))
 }
 
-// The ends of the centres' bounds on the axis: the other two axes are never asked for.
+// The lowest and the highest centre of the slice's boxes on the axis. The rule needs one axis only.
 pub fn centre_span(bounds: &[f32], part: &[u32], axis: Axis) -> Span
     requires { ⌜ Splits.AllInTable (now bounds) (now part) ⌝ }
     ensures { λ r. ⌜ Area.EndsOf (Shapes.asAxis axis) (Area.centreBounds binary32 (Splits.boxesIn (now (bounds .entry)) (now (part .entry)))) (r .lo) (r .hi) ⌝ }
@@ -58,7 +58,7 @@ pub fn centre_span(bounds: &[f32], part: &[u32], axis: Axis) -> Span
     Span { lo, hi }
 }
 
-// The part's boxes in their buckets.
+// The slice's boxes in their buckets.
 pub fn fill(bounds: &[f32], part: &[u32], axis: Axis, within: Span) -> Buckets
     requires { ⌜ length (now part) < 2 ^ 28 ⌝ }
     requires { ⌜ Splits.AllInTable (now bounds) (now part) ⌝ }

@@ -1,4 +1,4 @@
-// Twelve buckets of boxes: how many fell into each, and their union.
+// Twelve buckets of boxes: how many boxes fell into each, and their union.
 ghost use mathlib.Core.Path.{_≡_};
 ghost use Prim.Native.Nat.{_+_, _^_, _<_};
 ghost use lib.Ieee.{binary32};
@@ -17,6 +17,7 @@ pub struct Buckets {
 }
 
 impl Bucket {
+    // A bucket of no boxes.
     pub fn empty() -> Bucket
         ensures { λ r. ⌜ Values.asBucket r ≡ Spec.emptyBucket binary32 ⌝ }
     {
@@ -26,7 +27,7 @@ impl Bucket {
         }
     }
 
-    // With one box more.
+    // This bucket with one box more.
     pub fn with_box(self, b: Box3) -> Bucket
         requires { ⌜ self .count < 2 ^ 28 ⌝ }
         ensures { λ r. ⌜ Values.asBucket r ≡ Spec.withBox (Values.asBucket self) (Shapes.asBox b) ⌝ }
@@ -37,7 +38,7 @@ impl Bucket {
         }
     }
 
-    // With the boxes of another.
+    // This bucket with the boxes of another.
     pub fn merged(self, other: Bucket) -> Bucket
         requires { ⌜ self .count + other .count < 2 ^ 32 ⌝ }
         ensures { λ r. ⌜ Values.asBucket r ≡ Spec.merged (Values.asBucket self) (Values.asBucket other) ⌝ }
@@ -52,6 +53,7 @@ impl Bucket {
 impl Buckets {
     pub const COUNT: usize = 12;
 
+    // Twelve empty buckets.
     pub fn empty() -> Buckets
         ensures { λ r. ⌜ Values.asBuckets r ≡ Spec.emptyBuckets binary32 ⌝ }
     {

@@ -1,4 +1,4 @@
-// What each cut between two buckets costs, and the first smallest of the costs.
+// The cost of each cut between two buckets, and the first of the smallest costs.
 ghost use mathlib.Core.Path.{_≡_};
 ghost use Prim.Native.Nat.{_<_};
 ghost use lib.Ieee.{binary32};
@@ -25,7 +25,7 @@ fn weight_of(side: Bucket) -> f32
     std::num::nearest_u32_to_f32(side.count) * side.bounds.area()
 }
 
-// What a cut with these two sides costs.
+// The cost of a cut with these two sides.
 fn cost_of(parent: Box3, left: Bucket, right: Bucket) -> f32
     ensures { λ r. ⌜ r ≡ Area.cost binary32 (Shapes.asBox parent) (Values.asBucket left) (Values.asBucket right) ⌝ }
 {
@@ -35,7 +35,7 @@ fn cost_of(parent: Box3, left: Bucket, right: Bucket) -> f32
     0.125 + (weight_of(left) + weight_of(right)) / parent.area()
 }
 
-// The side behind the cut after each bucket: going down, each bucket is merged once.
+// The side behind the cut after each bucket. Going down, each bucket is merged once.
 fn right_sides(buckets: Buckets) -> Buckets
     requires { ⌜ Spec.AreSmall binary32 (Values.asBuckets buckets) ⌝ }
     ensures { λ r. ⌜ Values.asBuckets r ≡ Spec.sidesDown binary32 (Values.asBuckets buckets) ⌝ }
@@ -51,9 +51,8 @@ fn right_sides(buckets: Buckets) -> Buckets
     sides
 }
 
-// What each of the 11 cuts costs: the cut after bucket i has the buckets up to i on its left, merged
-// going up, and those behind on its right. The source merges all twelve anew for each cut; plain
-// boxes give the same sides either way.
+// The cost of each of the 11 cuts. The cut after bucket i has the buckets up to i on its left, merged going up, and the others on its right.
+// The source merges all twelve anew for each cut. Plain boxes give the same sides either way.
 pub fn costs_of(buckets: Buckets, parent: Box3) -> [f32; 11]
     requires { ⌜ Spec.AreSmall binary32 (Values.asBuckets buckets) ⌝ }
     requires { ⌜ Spec.ArePlain binary32 (Values.asBuckets buckets) ⌝ }
@@ -72,7 +71,7 @@ pub fn costs_of(buckets: Buckets, parent: Box3) -> [f32; 11]
 }
 
 impl Cheapest {
-    // Before any cost.
+    // No cost was seen yet.
     fn none_yet() -> Cheapest
         ensures { λ r. ⌜ Values.asCheapest r ≡ Area.noneYet ⌝ }
     {
@@ -84,7 +83,7 @@ impl Cheapest {
         }
     }
 
-    // With one cost more.
+    // One cost more was seen.
     fn with_cost(self, cost: f32) -> Cheapest
         requires { ⌜ self .seen < 11 ⌝ }
         ensures { λ r. ⌜ Values.asCheapest r ≡ Area.withCost (Values.asCheapest self) cost ⌝ }

@@ -1,5 +1,4 @@
-// The median rule: where to cut a part of the order list into two. Its contract is an equation with a
-// definition of `spec_tree` over the boxes of the part's triangles, in its order.
+// The median rule: cuts a slice in the middle, unless that separates too little.
 ghost use mathlib.Core.Path.{_≡_};
 ghost use Prim.Native.Nat.{_≤_, _<_};
 ghost use lib.ListN.{length};
@@ -17,7 +16,7 @@ use shapes::plane3::Plane3;
 use shapes::plane3::unit_of;
 use shapes::vec3::Axis;
 
-// The plane across the axis, at the mean of the centres of two triangles' boxes.
+// The plane across the axis, half way between the centres of two triangles' boxes.
 fn plane_between(bounds: &[f32], axis: Axis, above: u32, below: u32) -> Plane3
     requires { ⌜ Splits.InTable (now bounds) above ⌝ }
     requires { ⌜ Splits.InTable (now bounds) below ⌝ }
@@ -30,7 +29,7 @@ fn plane_between(bounds: &[f32], axis: Axis, above: u32, below: u32) -> Plane3
     }
 }
 
-// Whether every box of the part meets the plane.
+// Whether the plane cuts or touches every box of the slice.
 fn all_meet(bounds: &[f32], part: &[u32], plane: Plane3) -> bool
     requires { ⌜ Splits.AllInTable (now bounds) (now part) ⌝ }
     ensures { λ r. ⌜ r ≡ Median.allMeet binary32 (Shapes.asPlane plane) (Splits.boxesIn (now (bounds .entry)) (now (part .entry))) ⌝ }
@@ -45,7 +44,7 @@ fn all_meet(bounds: &[f32], part: &[u32], plane: Plane3) -> bool
     true
 }
 
-// Whether every box of the part meets the plane between the two neighbours of the cut.
+// Whether the plane between the two neighbours of the cut cuts or touches every box of the slice.
 fn all_meet_at(bounds: &[f32], part: &[u32], axis: Axis, cut: usize) -> bool
     requires { ⌜ 0 < cut ⌝ }
     requires { ⌜ cut < length (now part) ⌝ }
@@ -59,7 +58,7 @@ fn all_meet_at(bounds: &[f32], part: &[u32], axis: Axis, cut: usize) -> bool
     )
 }
 
-// Whether the volume of the part's box over the parent's exceeds 0.8.
+// Whether the volume of the slice's box over the parent's exceeds 0.8.
 fn is_large(bounds: &[f32], part: &[u32], parent: Box3) -> bool
     requires { ⌜ 0 < length (now part) ⌝ }
     requires { ⌜ Splits.AllInTable (now bounds) (now part) ⌝ }
@@ -68,8 +67,7 @@ fn is_large(bounds: &[f32], part: &[u32], parent: Box3) -> bool
     union_of(bounds, part).volume() / parent.volume() > 0.8
 }
 
-// Whether both children of the cut are large. The right one's box is worked out only where the left
-// one is.
+// Whether both children of the cut are large. The box of the right one is computed only where the left one is large.
 fn are_both_large(bounds: &[f32], part: &[u32], cut: usize, parent: Box3) -> bool
     requires { ⌜ 0 < cut ⌝ }
     requires { ⌜ cut < length (now part) ⌝ }
@@ -82,6 +80,7 @@ fn are_both_large(bounds: &[f32], part: &[u32], cut: usize, parent: Box3) -> boo
     false
 }
 
+// Cuts in the middle. Where its plane meets every box, or both children are large, it cuts nowhere.
 pub fn median_split(bounds: &[f32], part: &[u32], axis: Axis, parent: Box3) -> Split
     requires { ⌜ 2 ≤ length (now part) ⌝ }
     requires { ⌜ Splits.Boxed binary32 (now bounds) (now part) ⌝ }

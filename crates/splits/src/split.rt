@@ -1,6 +1,6 @@
-// What a rule answers.
+// Where a rule cuts a slice.
 pub enum Split {
-    // Before this object of the part.
+    // Before this entry of the slice.
     At(usize),
     Nowhere,
 }

@@ -1,5 +1,5 @@
-// The table of the triangles' boxes: six numbers each, the smallest x y z, then the largest. It is
-// made once a build, so that no rule works a box out again.
+// The table of the triangles' boxes: six numbers each, the smallest x y z, then the largest.
+// A build makes it once, so that no rule computes a box again.
 ghost use mathlib.Core.Path.{_≡_};
 ghost use Prim.Native.Nat.{_+_, _≤_, _<_};
 ghost use lib.ListN.{length};
@@ -13,6 +13,7 @@ use shapes::box3::Box3;
 use shapes::vec3::Axis;
 use shapes::vec3::Vec3;
 
+// The point whose coordinates begin at this index.
 fn point_at(bounds: &[f32], at: usize) -> Vec3
     requires { ⌜ at + 3 ≤ length (now bounds) ⌝ }
     ensures { λ r. ⌜ Shapes.asPoint r ≡ Trees.pointFrom (now (bounds .entry)) at ⌝ }
@@ -36,7 +37,7 @@ pub fn box_at(bounds: &[f32], t: u32) -> Box3
     }
 }
 
-// Where the numbers of an axis stand in a point.
+// Where the coordinate of an axis stands in a point.
 fn place_of(axis: Axis) -> usize
     ensures { λ r. ⌜ r ≡ Splits.place (Shapes.asAxis axis) ⌝ }
 {
@@ -47,7 +48,7 @@ fn place_of(axis: Axis) -> usize
     }
 }
 
-// The centre of the box of triangle t, on one axis.
+// The centre of the box of triangle t on one axis.
 pub fn centre_on(bounds: &[f32], t: u32, axis: Axis) -> f32
     requires { ⌜ Splits.InTable (now bounds) t ⌝ }
     ensures { λ r. ⌜ r ≡ Points.on (Shapes.asAxis axis) (Boxes.centre binary32 (Splits.boxIn (now (bounds .entry)) t)) ⌝ }
@@ -56,7 +57,7 @@ pub fn centre_on(bounds: &[f32], t: u32, axis: Axis) -> f32
     (bounds[at] + bounds[at + 3]) / 2.0
 }
 
-// The union of the boxes of the part's triangles, from the left.
+// The smallest box around the boxes of the slice's triangles, joined from the left.
 pub fn union_of(bounds: &[f32], part: &[u32]) -> Box3
     requires { ⌜ 0 < length (now part) ⌝ }
     requires { ⌜ Splits.AllInTable (now bounds) (now part) ⌝ }

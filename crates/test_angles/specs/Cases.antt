@@ -1,4 +1,4 @@
--- The cases of the list: ours, theirs, and whether the two are near enough. Definitions only.
+-- The cases of the list: ours, theirs, and whether the two are near enough.
 use mathlib.Core.Bool.{Bool, false, cond, _&&_, _||_}
 use mathlib.Core.List.{List}
 use Prim.Native.Nat.{ℕ, _+_, _/_}

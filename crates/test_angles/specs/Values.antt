@@ -1,4 +1,4 @@
--- The program's values as the definitions' own. Definitions only.
+-- The program's values as the definitions' own.
 use Rattle.test_angles.specs.Cases.{Compared}
 use Rattle.test_angles.specs.declared.cases.Case.{Case}
 

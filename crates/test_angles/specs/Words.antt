@@ -1,4 +1,4 @@
--- The list as words of four bytes, and the counts, numbers and points that they stand for. A word past the end is 0, and no place is past 16384. Definitions only.
+-- The list as words of four bytes, and the counts, numbers and points that they stand for. A word past the end is 0, and no place is past 16384.
 use mathlib.Core.Bool.{cond, _&&_}
 use mathlib.Core.List.{List, [], _∷_}
 use Prim.Native.Nat.{ℕ, _+_, _*_}

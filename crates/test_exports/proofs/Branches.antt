@@ -1,4 +1,4 @@
--- What a choice comes to in each branch. Assumes nothing.
+-- What a choice comes to in each branch.
 use mathlib.Core.Path.{_≡_, refl, sym}
 use mathlib.Core.Bool.{Bool, true, false, cond, true≢false}
 

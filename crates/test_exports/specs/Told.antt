@@ -1,4 +1,4 @@
--- What the timed calls answer in one number. Definitions only.
+-- What the timed calls answer in one number.
 use mathlib.Core.Path.{_≡_}
 use mathlib.Core.Bool.{cond}
 use mathlib.Core.List.{List}

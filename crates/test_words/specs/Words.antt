@@ -1,4 +1,4 @@
--- The words of a stored case: numbers of four bytes, the lowest byte first, 0 past the end. Definitions only.
+-- The words of a stored case: numbers of four bytes, the lowest byte first, 0 past the end.
 use mathlib.Core.Bool.{cond}
 use mathlib.Core.List.{List, [], _∷_}
 use Prim.Native.Nat.{ℕ, _+_, _*_}

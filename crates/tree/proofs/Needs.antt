@@ -1,4 +1,5 @@
--- What the check of a node asks it can ask of its subtrees, right one first, and the tests of the whole give what the root asks. Assumes nothing.
+-- The tree check may go on: what the check of a node needs holds for its subtrees, the right one first,
+-- and the tests of the whole give it for the root.
 use mathlib.Core.Path.{_≡_, sym, subst, _∙_}
 use mathlib.Core.Bool.{true}
 use mathlib.Core.List.{List}
@@ -17,6 +18,7 @@ use Rattle.spec_tree.proofs.Order.{test-permutes, permutes-entries}
 use Rattle.tree.specs.Needs.{Subtree, LeftSubtree}
 
 module _ (triangles : List Float) (order links : List ℕ) (boxes : List Float) where
+  -- the right subtree has what its check needs
   pub right-asks : (node last right : ℕ) → Subtree triangles order links boxes node last → right ≡ rightAt links node → eqb (rightAt links node + 1) node ≡ true
       → Subtree triangles order links boxes right last
   right-asks node last right s p q =
@@ -24,6 +26,7 @@ module _ (triangles : List Float) (order links : List ℕ) (boxes : List Float) 
       let room : Room order links boxes node last = s .room in
       record { room = omega arith; entries = s .entries }
 
+  -- the left subtree has what its check needs
   pub left-asks : (node first entry left : ℕ) → LeftSubtree triangles order links boxes node first entry → left ≡ leftAt links node → eqb (leftAt links node + 1) first ≡ true
       → Subtree triangles order links boxes left entry
   left-asks node first entry left s p q =
@@ -32,7 +35,7 @@ module _ (triangles : List Float) (order links : List ℕ) (boxes : List Float) 
       let before : first ≤ node = s .before in
       record { room = omega arith; entries = s .entries }
 
-  -- once the right subtree is found
+  -- once the right subtree is found to be a listing, the left one can be checked in front of it
   pub then-left-asks : (levels node last right first entry : ℕ) (box : Box) (f : Finding) → Subtree triangles order links boxes node last → right ≡ rightAt links node
       → eqb (rightAt links node + 1) node ≡ true → f ≡ finding (boxAt triangles) order links boxes levels right last → f ≡ spans first entry box
       → LeftSubtree triangles order links boxes node first entry
@@ -42,7 +45,7 @@ module _ (triangles : List Float) (order links : List ℕ) (boxes : List Float) 
       let within = found-within (boxAt triangles) order links boxes levels right last first entry box (right-asks node last right s p q .room) (sym g ∙ h) in
       record { room = omega arith; entries = s .entries; before = omega arith }
 
-  -- the root
+  -- the root has what its check needs, once the order list and the lengths passed
   pub root-asks : (n nodes : ℕ) → n ≡ triangleCount triangles → permutes n order ≡ true → present links boxes nodes ≡ true → Subtree triangles order links boxes (nodes - 1) n
   root-asks n nodes p q r =
       record {

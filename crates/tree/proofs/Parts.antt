@@ -1,4 +1,4 @@
--- A part of a list that runs past its end is what of it is there. Assumes nothing.
+-- A slice that runs past the end of its list is what of it is there.
 use mathlib.Core.Path.{_≡_, sym, ap, _∙_}
 use mathlib.Core.List.{List, []}
 use Prim.Native.Nat.{ℕ, min, _-_, _≤_, _<_}
@@ -25,6 +25,7 @@ module _ {A : Type 0} (l : List A) (first last : ℕ) where
       at (yes p) = let none : drop first l ≡ [] = drop-of-length-le l {i = first} (omega arith) in sym (ap (take (last - first)) none ∙ take-nil (last - first))
       at (no p) = let none : last - first ≡ 0 = omega arith in rw none
 
+  -- the two bounds that the code cuts off give the slice that the definition speaks of
   pub part-there : (start end : ℕ) → end ≡ min last (length l) → start ≡ min first end → take (end - start) (drop start l) ≡ part l first (last - first)
   part-there start end p q = at (decLt end first)
     where

@@ -1,4 +1,4 @@
--- No two answers of the tree's functions stand for the same one of the definitions.
+-- No two answers of the tree's functions stand for the same of the definitions.
 use mathlib.Core.Path.{_≡_, refl, sym, ap, _∙_}
 use Rattle.spec_tree.specs.Depth as Depth
 use Rattle.spec_tree.specs.Leaves as Leaves
@@ -23,6 +23,7 @@ entry-is Entry.Nothing = refl
 entry-is (Entry.Triangle t) = refl
 entry-is (Entry.Refused number place) = refl
 
+-- what the entry of a leaf stands for fixes it
 pub entry-unique : (a b : EntryFound) → asEntryFound a ≡ asEntryFound b → a ≡ b
 entry-unique a b e = sym (entry-is a) ∙ ap backEntry e ∙ entry-is b
 
@@ -37,6 +38,7 @@ leaf-is Found.Nothing = refl
 leaf-is (Found.Leaf node first last over) = refl
 leaf-is (Found.Refused number place) = refl
 
+-- what a leaf stands for fixes it
 pub leaf-unique : (a b : LeafFound) → asLeafFound a ≡ asLeafFound b → a ≡ b
 leaf-unique a b e = sym (leaf-is a) ∙ ap backLeaf e ∙ leaf-is b
 
@@ -49,6 +51,7 @@ count-is : (a : LeavesCounted) → backCount (asLeavesCounted a) ≡ a
 count-is (Counted.Leaves n) = refl
 count-is (Counted.Refused number place) = refl
 
+-- what a count of leaves stands for fixes it
 pub count-unique : (a b : LeavesCounted) → asLeavesCounted a ≡ asLeavesCounted b → a ≡ b
 count-unique a b e = sym (count-is a) ∙ ap backCount e ∙ count-is b
 
@@ -61,5 +64,6 @@ depth-is : (a : DepthFound) → backDepth (asDepthFound a) ≡ a
 depth-is (Deep.Depth n) = refl
 depth-is (Deep.Refused number place) = refl
 
+-- what a depth stands for fixes it
 pub depth-unique : (a b : DepthFound) → asDepthFound a ≡ asDepthFound b → a ≡ b
 depth-unique a b e = sym (depth-is a) ∙ ap backDepth e ∙ depth-is b

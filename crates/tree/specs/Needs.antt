@@ -1,4 +1,4 @@
--- What the tree check's functions ask of the lists. Definitions only.
+-- What the functions of the tree check need of the lists.
 use mathlib.Core.List.{List}
 use Prim.Native.Nat.{ℕ, _≤_}
 use lib.Ieee.{Float}

@@ -1,4 +1,4 @@
--- What the tree's functions answer, as the definitions' own. Definitions only.
+-- The answers of the tree's functions as the definitions' own. The contracts compare by these.
 use Rattle.spec_tree.specs.Leaves as Leaves
 use Rattle.tree.specs.declared.leaf_reader.EntryFound.{EntryFound}
 use Rattle.tree.specs.declared.leaf_reader.EntryFound.the-variants as Entry

@@ -1,4 +1,4 @@
-// The box over a part of the order list.
+// The box around a slice of the order list.
 ghost use mathlib.Core.Path.{_≡_};
 ghost use Prim.Native.Nat.{_<_};
 ghost use lib.ListN.{length};
@@ -10,7 +10,7 @@ use crate::nodes::wide;
 use lists::reading::box_at;
 use shapes::box3::Box3;
 
-// The first triangle's box joined with those of the rest, from the left.
+// The box of the first triangle joined with those of the others, from the left, as the definition joins them.
 pub fn joined(triangles: &[f32], part: &[u32]) -> Box3
     requires some { ⌜ 0 < length (now part) ⌝ }
     requires numbered { ⌜ Order.EntriesBelow (Reading.triangleCount (now triangles)) (now part) ⌝ }

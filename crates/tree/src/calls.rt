@@ -1,4 +1,4 @@
-// The tree check as a refusal, and the calls over any lists at all: the check, and the depth of the tree that it accepts.
+// The calls over any lists at all: the tree check, and the depth of the tree that it accepts.
 ghost use mathlib.Core.Path.{_≡_};
 ghost use Prim.Native.Nat.{_≤_};
 ghost use Rattle.lists.specs.Values as Verdicts;
@@ -13,7 +13,7 @@ use lists::tests::triangles_refusal;
 use lists::verdict::Verdict;
 use lists::verdict::refused_if;
 
-// 7: the tree check says no.
+// 7: the lists are not the listing of a tree over the triangles.
 pub fn tree_refusal(
     triangles: &[f32],
     order: &[u32],
@@ -27,7 +27,7 @@ pub fn tree_refusal(
     refused_if(!is_accepted(triangles, order, links, boxes, nodes), 7, 0)
 }
 
-// Whether the lists hold a triangle list and a tree over it: tests 1 to 4 and 7.
+// Tests 1 to 4 and 7: whether the lists hold a triangle list and a tree over it.
 pub fn check(
     triangles: &[f32],
     order: &[u32],
@@ -49,7 +49,7 @@ pub enum DepthFound {
     Refused { number: usize, place: usize },
 }
 
-// The number of the tree's levels, a lone leaf having one: 1 to 4 and 7 refuse.
+// The number of the tree's levels, 1 for a lone leaf, or the first of the tests 1 to 4 and 7 that refuses.
 pub fn depth(
     triangles: &[f32],
     order: &[u32],

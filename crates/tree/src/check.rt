@@ -1,4 +1,4 @@
-// The tree check: from the root down, right subtrees first, since each ends just before its parent.
+// The tree check, from the root down. The right subtree comes first, since it ends just before its parent.
 ghost use mathlib.Core.Path.{_≡_};
 ghost use Prim.Native.Nat.{_+_, _*_, _≤_};
 ghost use lib.Dec.{eqb};
@@ -34,20 +34,21 @@ pub enum Finding {
     },
 }
 
+// Whether the points are the same bit for bit.
 fn same_point(a: Vec3, b: Vec3) -> bool
     ensures { λ r. ⌜ r ≡ Accepted.samePoint (Shapes.asPoint a) (Shapes.asPoint b) ⌝ }
 {
     same(a.x, b.x) & same(a.y, b.y) & same(a.z, b.z)
 }
 
-// Bit for bit.
+// Whether the boxes are the same bit for bit.
 fn same_box(a: Box3, b: Box3) -> bool
     ensures { λ r. ⌜ r ≡ Accepted.sameBox (Shapes.asBox a) (Shapes.asBox b) ⌝ }
 {
     same_point(a.min, b.min) & same_point(a.max, b.max)
 }
 
-// The node has the box that its triangles or children give it.
+// A listing, where the node has the box that its triangles or children give it.
 fn boxed(boxes: &[f32], node: usize, first: usize, entry: usize, over: Box3) -> Finding
     requires { ⌜ 6 * node + 6 ≤ length (now boxes) ⌝ }
     ensures { λ r. ⌜ Values.asFinding r ≡ Accepted.boxed (now (boxes .entry)) node first entry (Shapes.asBox over) ⌝ }
@@ -58,7 +59,7 @@ fn boxed(boxes: &[f32], node: usize, first: usize, entry: usize, over: Box3) -> 
     Finding::Wrong
 }
 
-// A branch whose left subtree is found to be this.
+// What a branch is found to be, once its left subtree was found to be this.
 fn left_found(boxes: &[f32], node: usize, right: Box3, left: Finding) -> Finding
     requires { ⌜ 6 * node + 6 ≤ length (now boxes) ⌝ }
     ensures { λ r. ⌜ Values.asFinding r ≡ Accepted.leftFound (now (boxes .entry)) node (Shapes.asBox right) (Values.asFinding left) ⌝ }
@@ -75,7 +76,7 @@ fn left_found(boxes: &[f32], node: usize, right: Box3, left: Finding) -> Finding
     }
 }
 
-// A leaf: its triangles are those from its left to its right, which is `last`.
+// A leaf: its triangles stand from its left link on and end before its right link, which must be `last`.
 fn check_leaf(
     triangles: &[f32],
     order: &[u32],
@@ -98,7 +99,7 @@ fn check_leaf(
     boxed(boxes, node, node, entry, over)
 }
 
-// The subtree whose root is this node and whose triangles end at `last`, the end not included.
+// The subtree whose root is this node and whose triangles end before `last`. `levels` levels may lie there.
 fn check_node(
     triangles: &[f32],
     order: &[u32],
@@ -179,7 +180,7 @@ fn check_left(
     left_found(boxes, node, right, left)
 }
 
-// There is a node, and the links and boxes of so many are there.
+// Whether there is a node, and the lists hold the links and boxes of `nodes` nodes.
 fn is_present(links: &[u32], boxes: &[f32], nodes: usize) -> bool
     ensures { λ r. ⌜ r ≡ Accepted.present (now (links .entry)) (now (boxes .entry)) nodes ⌝ }
 {
@@ -192,7 +193,7 @@ fn is_present(links: &[u32], boxes: &[f32], nodes: usize) -> bool
     nodes <= boxes.len() / 6
 }
 
-// The whole listing begins with node 0 and entry 0.
+// Whether the listing begins with node 0 and entry 0.
 fn is_whole(found: Finding) -> bool
     ensures { λ r. ⌜ r ≡ Accepted.isWhole (Values.asFinding found) ⌝ }
 {

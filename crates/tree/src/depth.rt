@@ -1,4 +1,4 @@
-// The depth of a tree: the number of its levels, a lone leaf having one.
+// The depth of a tree: the number of its levels, 1 for a lone leaf.
 ghost use mathlib.Core.Path.{_≡_};
 ghost use Prim.Native.Nat.{_-_, _<_, max};
 ghost use Rattle.spec_tree.specs.Depth as Depth;
@@ -7,13 +7,14 @@ use crate::nodes::left_at;
 use crate::nodes::right_at;
 use lists::limits;
 
+// The larger of the two.
 fn deeper(a: usize, b: usize) -> usize
     ensures { λ r. ⌜ r ≡ max a b ⌝ }
 {
     if a < b { b } else { a }
 }
 
-// The levels from this node down, of which so many are looked at.
+// The levels from this node down, of which at most `most` are looked at.
 fn depth_at(links: &[u32], most: usize, node: usize) -> usize
     requires { ⌜ Depth.Descends (now links) node ⌝ }
     ensures { λ r. ⌜ r ≡ Depth.depthAt (now (links .entry)) most node ⌝ }
@@ -29,7 +30,7 @@ fn depth_at(links: &[u32], most: usize, node: usize) -> usize
     deeper(left, right) + 1
 }
 
-// Of a tree that the check accepted.
+// The depth of a tree that the check accepted.
 pub fn depth_of(links: &[u32], nodes: usize) -> usize
     requires some { ⌜ 0 < nodes ⌝ }
     requires descends { ⌜ Depth.Descends (now links) (nodes - 1) ⌝ }

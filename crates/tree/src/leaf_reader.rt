@@ -1,6 +1,6 @@
-// The leaf reader: a struct that shows a caller a leaf's part of the order list, and thin functions over it.
-// The borrow checker covers no function over a struct that holds a reference, so each is proved by hand. The work is done by plain functions,
-// and whoever calls `entry_of`, whose parameters are a slice and numbers, needs no proof by hand.
+// The leaf reader: a struct that lends a caller a leaf's slice of the order list, and functions over it.
+// The borrow checker covers no function over a struct that holds a reference, so each is proved by hand, and plain functions do the work.
+// Who calls `entry_of`, which takes a slice and numbers, needs no proof by hand.
 ghost use mathlib.Core.Path.{_≡_};
 ghost use Prim.Native.Nat.{_-_, min};
 ghost use lib.ListN.{length};
@@ -12,20 +12,21 @@ pub struct Leaf<'a> {
     pub part: &'a [u32],
 }
 
-// A triangle of a leaf.
+// A triangle of a leaf, none where there is none at that place, or a refusal.
 pub enum EntryFound {
     Nothing,
     Triangle(u32),
     Refused { number: usize, place: usize },
 }
 
+// The smaller of the two.
 fn lesser(a: usize, b: usize) -> usize
     ensures { λ r. ⌜ r ≡ min a b ⌝ }
 {
     if a < b { a } else { b }
 }
 
-// The order list from `first` to `last`, the end not included, as far as it goes.
+// The order list from `first` up to `last`, the end not included, as far as the list goes.
 pub fn part_of(order: &[u32], first: usize, last: usize) -> &[u32]
     ensures { λ r. ⌜ now r ≡ Tables.part (now (order .entry)) first (last - first) ⌝ }
 {
@@ -34,7 +35,7 @@ pub fn part_of(order: &[u32], first: usize, last: usize) -> &[u32]
     &order[start..end]
 }
 
-// What stands at a place of a leaf's part.
+// The triangle at a place of a leaf's slice.
 pub fn entry_at(part: &[u32], i: usize) -> EntryFound
     ensures { λ r. ⌜ Values.asEntryFound r ≡ Leaves.entryAt (now (part .entry)) i ⌝ }
 {
@@ -45,7 +46,7 @@ pub fn entry_at(part: &[u32], i: usize) -> EntryFound
 }
 
 impl<'a> Leaf<'a> {
-    // Of the leaf with the order list's entries from `first` to `last`, the end not included.
+    // The reader of the leaf with the entries from `first` up to `last`, the end not included.
     pub fn of(order: &'a [u32], first: usize, last: usize) -> Leaf<'a>
         ensures { λ r. ⌜ now (r .part) ≡ Tables.part (now (order .entry)) first (last - first) ⌝ }
     {
@@ -54,14 +55,14 @@ impl<'a> Leaf<'a> {
         }
     }
 
-    // How many triangles it has.
+    // How many triangles the leaf has.
     pub fn len(self) -> usize
         ensures { λ r. ⌜ r ≡ length (now (self .entry .part)) ⌝ }
     {
         self.part.len()
     }
 
-    // Its i-th triangle, counted from 0.
+    // The i-th triangle of the leaf, counted from 0.
     pub fn entry(self, i: usize) -> EntryFound
         ensures { λ r. ⌜ Values.asEntryFound r ≡ Leaves.entryAt (now (self .entry .part)) i ⌝ }
     {

@@ -1,5 +1,5 @@
-// The leaves of a tree, left to right: how many there are, and each with its part of the order list and its box.
-// A left subtree is listed before the right one, so a look at the nodes in their order meets the leaves from left to right.
+// The leaves of a tree from left to right: how many there are, and each with its slice of the order list and its box.
+// A left subtree is listed before the right one, so the nodes in their order meet the leaves from left to right.
 ghost use mathlib.Core.Path.{_≡_};
 ghost use Prim.Native.Nat.{_+_, _*_, _≤_};
 ghost use lib.ListN.{length};
@@ -15,7 +15,7 @@ use crate::nodes::right_at;
 use lists::verdict::Verdict;
 use shapes::box3::Box3;
 
-// A leaf's triangles are the order list's entries from `first` to `last`, the end not included.
+// A leaf, nothing where there are fewer leaves, or a refusal. A leaf's triangles are the entries from `first` up to `last`, the end not included.
 pub enum LeafFound {
     Nothing,
     Leaf {
@@ -35,6 +35,7 @@ pub enum LeavesCounted {
     Refused { number: usize, place: usize },
 }
 
+// The leaf at this node.
 fn leaf_at(links: &[u32], boxes: &[f32], node: usize) -> LeafFound
     requires { ⌜ (3 * node + 3 ≤ length (now links)) × (6 * node + 6 ≤ length (now boxes)) ⌝ }
     ensures { λ r. ⌜ Values.asLeafFound r ≡ Leaves.found (Leaves.leafAt (now (links .entry)) (now (boxes .entry)) node) ⌝ }
@@ -50,8 +51,8 @@ fn leaf_at(links: &[u32], boxes: &[f32], node: usize) -> LeafFound
     }
 }
 
-// The k-th of the leaves from this node on, counted from 0. From 0 on that is the tree's k-th; the leaf behind a leaf is the first from the next node on,
-// so that a look at all of them passes each node once.
+// The k-th of the leaves from this node on, counted from 0. From node 0 on that is the tree's k-th leaf.
+// The leaf behind a leaf is the first from the next node on, so a caller who goes through all of them passes each node once.
 pub fn leaf_from(links: &[u32], boxes: &[f32], nodes: usize, from: usize, k: usize) -> LeafFound
     requires { ⌜ Leaves.NodesThere (now links) (now boxes) nodes ⌝ }
     ensures { λ r. ⌜ Values.asLeafFound r ≡ Leaves.leafFrom (now (links .entry)) (now (boxes .entry)) nodes from k ⌝ }
@@ -70,6 +71,7 @@ pub fn leaf_from(links: &[u32], boxes: &[f32], nodes: usize, from: usize, k: usi
     LeafFound::Nothing
 }
 
+// How many leaves the tree has.
 pub fn leaf_count(links: &[u32], nodes: usize) -> usize
     requires { ⌜ 3 * nodes ≤ length (now links) ⌝ }
     ensures { λ r. ⌜ r ≡ Leaves.leafCount (now (links .entry)) nodes ⌝ }
@@ -85,7 +87,7 @@ pub fn leaf_count(links: &[u32], nodes: usize) -> usize
     count
 }
 
-// The tree's k-th leaf, over any lists at all: 1 to 4 and 7 refuse.
+// The tree's k-th leaf, counted from 0, or the first of the tests 1 to 4 and 7 that refuses. The lists may be any lists at all.
 pub fn leaf(
     triangles: &[f32],
     order: &[u32],
@@ -103,7 +105,7 @@ pub fn leaf(
     }
 }
 
-// How many leaves the tree has, over any lists at all: 1 to 4 and 7 refuse.
+// How many leaves the tree has, or the first of the tests 1 to 4 and 7 that refuses. The lists may be any lists at all.
 pub fn leaves(
     triangles: &[f32],
     order: &[u32],
@@ -120,7 +122,8 @@ pub fn leaves(
     }
 }
 
-// The i-th triangle of the tree's k-th leaf, both counted from 0, over any lists at all: 1 to 4 and 7 refuse.
+// The i-th triangle of the tree's k-th leaf, both counted from 0, or the first of the tests 1 to 4 and 7 that refuses.
+// The lists may be any lists at all.
 pub fn leaf_entry(
     triangles: &[f32],
     order: &[u32],

@@ -1,4 +1,4 @@
-// A node of the lent lists: three links, a kind and two numbers, and a box of six numbers.
+// A node in the lent lists: three links, which are its kind and two numbers, and a box of six numbers.
 ghost use mathlib.Core.Path.{_≡_};
 ghost use Prim.Native.Nat.{_+_, _*_, _≤_};
 ghost use lib.Dec.{eqb};
@@ -8,20 +8,21 @@ ghost use Rattle.spec_tree.specs.Trees as Trees;
 use shapes::box3::Box3;
 use shapes::vec3::Vec3;
 
-// An entry of a list as a number to count with.
+// An entry of a list as a usize.
 pub fn wide(entry: u32) -> usize
     ensures { λ r. ⌜ r ≡ entry ⌝ }
 {
     entry as usize
 }
 
+// Whether the entry is just before `next`.
 fn is_before(entry: u32, next: usize) -> bool
     ensures { λ r. ⌜ r ≡ eqb (entry + 1) next ⌝ }
 {
     entry as usize + 1 == next
 }
 
-// 1 for a leaf, 2 for a branch.
+// The kind of the node: 1 for a leaf, 2 for a branch.
 pub fn kind_at(links: &[u32], node: usize) -> u32
     requires { ⌜ 3 * node + 3 ≤ length (now links) ⌝ }
     ensures { λ r. ⌜ r ≡ Trees.kindAt (now (links .entry)) node ⌝ }
@@ -61,7 +62,7 @@ pub fn is_right_before(links: &[u32], node: usize, next: usize) -> bool
     is_before(links[3 * node + 2], next)
 }
 
-// The three numbers that start at index i, as they are.
+// The three numbers from index i on, as they are.
 fn point_from(boxes: &[f32], i: usize) -> Vec3
     requires { ⌜ i + 3 ≤ length (now boxes) ⌝ }
     ensures { λ r. ⌜ Shapes.asPoint r ≡ Trees.pointFrom (now (boxes .entry)) i ⌝ }
@@ -73,6 +74,7 @@ fn point_from(boxes: &[f32], i: usize) -> Vec3
     }
 }
 
+// The box of the node, its numbers as they are.
 pub fn node_box(boxes: &[f32], node: usize) -> Box3
     requires { ⌜ 6 * node + 6 ≤ length (now boxes) ⌝ }
     ensures { λ r. ⌜ Shapes.asBox r ≡ Trees.nodeBox (now (boxes .entry)) node ⌝ }

@@ -7,7 +7,7 @@ ghost use Rattle.spec_tree.specs.Order as Order;
 use crate::nodes::wide;
 use lists::limits;
 
-// Marks each entry in `seen`, until one is too large or marked already.
+// Marks each entry in `seen`. Answers false at an entry that is too large or marked already.
 fn marks_all(n: usize, order: &[u32], seen: &mut [bool]) -> bool
     requires long { ⌜ length (now order) ≡ n ⌝ }
     requires unmarked { ⌜ Order.Unmarked n (now seen) ⌝ }
@@ -28,7 +28,7 @@ fn marks_all(n: usize, order: &[u32], seen: &mut [bool]) -> bool
     true
 }
 
-// n numbers, each below n, none of them twice.
+// Whether the list has n entries, each below n and none of them twice.
 pub fn is_permutation(n: usize, order: &[u32]) -> bool
     requires { ⌜ n ≤ Limits.mostTriangles ⌝ }
     ensures { λ r. ⌜ r ≡ Order.permutes n (now (order .entry)) ⌝ }

@@ -1,4 +1,4 @@
--- The program's values as the records that the definitions speak of. Definitions only.
+-- The hits and answers of the code as the definitions' own, and the four lent numbers as what they stand for. The contracts compare by these.
 use mathlib.Core.List.{List}
 use Prim.Native.Nat.{ℕ}
 use lib.ListN.{getD}
@@ -24,12 +24,15 @@ abbrev pub asSought : Sought → Walk.Sought Answers.Answer
 asSought s = record { best = asAnswer (s .best); measured = s .measured }
 
 -- ---- four numbers that are lent: a point with its limit squared, or with its squared distance
+-- the point in the first three
 abbrev pub pointOf : List Float → Point
 pointOf four = record { x = getD four 0 nan; y = getD four 1 nan; z = getD four 2 nan }
 
+-- the limit, or the squared distance
 abbrev pub fourthOf : List Float → Float
 fourthOf four = getD four 3 nan
 
+-- what is kept, as a hit
 abbrev pub hitOf : List Float → ℕ → Answers.Hit
 hitOf best number = record { point = pointOf best; squared = fourthOf best; triangle = number }
 

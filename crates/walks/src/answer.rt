@@ -1,13 +1,13 @@
-// What is asked of a search, and what it answers.
+// What a walk is given, and what it answers.
 use shapes::vec3::Vec3;
 
-// The point, and the limit squared.
+// The probe: a point, and the square of the search distance as its limit.
 pub struct Asked {
     pub point: Vec3,
     pub limit: f32,
 }
 
-// Nothing, or a found surface point with its squared distance and its triangle's number.
+// Nothing, or the surface point that was found, with its squared distance and the number of its triangle.
 pub enum Answer {
     Nothing,
     Found {
@@ -19,7 +19,7 @@ pub enum Answer {
     },
 }
 
-// What is measured of a triangle.
+// The measure of one triangle.
 pub struct Hit {
     pub point: Vec3,
     pub squared: f32,

@@ -1,5 +1,5 @@
-// What a search keeps, lent from call to call: a point with its squared distance, and its triangle's
-// number. At an infinite squared distance it stands for nothing.
+// What a walk keeps, lent from call to call: a point with its squared distance in four numbers, and the number of its triangle.
+// An infinite squared distance stands for nothing kept.
 ghost use mathlib.Core.Path.{_≡_};
 ghost use Rattle.shapes.specs.Values as Shapes;
 ghost use Rattle.spec_search.specs.Kept as Kept;
@@ -10,7 +10,7 @@ use crate::answer::Answer;
 use crate::answer::Hit;
 use shapes::vec3::Vec3;
 
-// The point of four numbers.
+// The point in the first three of four numbers.
 pub fn point_of(four: &[f32; 4]) -> Vec3
     ensures { λ r. ⌜ Shapes.asPoint r ≡ Values.pointOf (now (four .entry)) ⌝ }
 {
@@ -21,6 +21,7 @@ pub fn point_of(four: &[f32; 4]) -> Vec3
     }
 }
 
+// Leaves the hit in the four numbers and the triangle number.
 fn keep(hit: Hit, best: &mut [f32; 4], number: &mut u32)
     ensures { λ _. ⌜ Values.hitOf (now (best .exit)) (now (number .exit)) ≡ Values.asHit hit ⌝ }
 {
@@ -28,28 +29,28 @@ fn keep(hit: Hit, best: &mut [f32; 4], number: &mut u32)
     *number = hit.triangle;
 }
 
-// A squared distance counts.
+// Whether a squared distance counts: it is strictly below the limit.
 fn does_count(limit: f32, squared: f32) -> bool
     ensures { λ r. ⌜ r ≡ Sure.counts limit squared ⌝ }
 {
     squared < limit
 }
 
-// Smaller than what is kept, or level with it at a lower triangle number.
+// Whether the hit is smaller than what is kept, or equal to it with a lower triangle number.
 fn is_nearer(hit: Hit, best: &[f32; 4], number: u32) -> bool
     ensures { λ r. ⌜ r ≡ Kept.nearer (Values.asHit hit) (Values.hitOf (now (best .entry)) number) ⌝ }
 {
     (hit.squared < best[3]) | ((hit.squared == best[3]) & (hit.triangle < number))
 }
 
-// A box at this squared distance is passed over: it does not count, or is above the best so far.
+// Whether a box at this squared distance is skipped: the distance does not count, or is above the best so far.
 pub fn is_passed(limit: f32, squared: f32, best: &[f32; 4], number: u32) -> bool
     ensures { λ r. ⌜ r ≡ Sure.isPassed limit squared (Kept.kept (Values.hitOf (now (best .entry)) number)) ⌝ }
 {
     !does_count(limit, squared) | (best[3] < squared)
 }
 
-// Keeps the hit where it counts and is nearer: the sure query's.
+// Keeps the hit where it counts and is nearer. The sure query uses it.
 pub fn offer(limit: f32, hit: Hit, best: &mut [f32; 4], number: &mut u32)
     ensures { λ _. ⌜ Kept.kept (Values.hitOf (now (best .exit)) (now (number .exit))) ≡ Sure.offered limit (Values.asHit hit) (Kept.kept (Values.hitOf (now (best .entry)) (now (number .entry)))) ⌝ }
 {
@@ -59,7 +60,7 @@ pub fn offer(limit: f32, hit: Hit, best: &mut [f32; 4], number: &mut u32)
     }
 }
 
-// Keeps the hit where it is strictly smaller: the source query's.
+// Keeps the hit where it is strictly smaller. The source query uses it.
 pub fn meet(hit: Hit, best: &mut [f32; 4], number: &mut u32)
     ensures { λ _. ⌜ Kept.kept (Values.hitOf (now (best .exit)) (now (number .exit))) ≡ Source.strictly (Values.asHit hit) (Kept.kept (Values.hitOf (now (best .entry)) (now (number .entry)))) ⌝ }
 {
@@ -69,7 +70,7 @@ pub fn meet(hit: Hit, best: &mut [f32; 4], number: &mut u32)
     }
 }
 
-// What was kept, as an answer.
+// What is kept, as an answer.
 pub fn answer_of(best: &[f32; 4], number: u32) -> Answer
     ensures { λ r. ⌜ Values.asAnswer r ≡ Kept.kept (Values.hitOf (now (best .entry)) number) ⌝ }
 {

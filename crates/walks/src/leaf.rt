@@ -1,5 +1,4 @@
-// The triangles of a leaf, measured one after another, for both queries: the sure query keeps held
-// points, the source query the computed ones.
+// Measures the triangles of a leaf one after another, for both queries: the sure query keeps held points, the source query the computed ones.
 ghost use mathlib.Core.Path.{_≡_};
 ghost use Prim.Native.Nat.{_+_, _-_, _*_, _^_, _≤_, _<_};
 ghost use lib.ListN.{length};
@@ -20,7 +19,7 @@ use lists::reading::triangle_at;
 use shapes::vec3::Vec3;
 use tree::nodes::wide;
 
-// A triangle's point, with how far it is from p.
+// A triangle's point, with its squared distance from p.
 fn hit_at(point: Vec3, p: Vec3, t: u32) -> Hit
     ensures { λ r. ⌜ Values.asHit r ≡ record { point = Shapes.asPoint point; squared = Points.squaredDistance binary32 (Shapes.asPoint point) (Shapes.asPoint p); triangle = t } ⌝ }
 {
@@ -31,7 +30,7 @@ fn hit_at(point: Vec3, p: Vec3, t: u32) -> Hit
     }
 }
 
-// Measures one triangle.
+// Measures one triangle and keeps it where the query does. `held` says which query.
 fn measure(
     triangles: &[f32],
     t: u32,
@@ -58,7 +57,7 @@ fn measure(
     meet(hit_at(computed, p, t), best, number);
 }
 
-// Measures each triangle of a leaf's part of the order list, and counts them.
+// Measures each triangle of a leaf's slice of the order list, and answers how many were measured in all.
 fn measure_part(
     triangles: &[f32],
     part: &[u32],
@@ -80,7 +79,7 @@ fn measure_part(
     measured + i
 }
 
-// The same of the entries from `first` up to, not including, `last`.
+// Measures the triangles of the entries from `first` up to `last`, the end not included, and answers how many were measured in all.
 pub fn measure_leaf(
     triangles: &[f32],
     order: &[u32],

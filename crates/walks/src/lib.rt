@@ -1,4 +1,4 @@
-// The two walks of a tree for one point, the source's and the sure one. Each contract is an equation with a definition of `spec_search`.
+// The two walks of a tree for one point: the source's and the sure one. Each contract is an equation with a definition of `spec_search`.
 pub mod answer;
 pub mod kept;
 pub mod leaf;

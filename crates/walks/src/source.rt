@@ -1,5 +1,5 @@
-// The source query: the Rust's tests and order of visits, the right child first, with its leaf range
-// repaired. `asked` is the point and the limit squared.
+// The source query's walk: the tests and the order of visits of the Rust, the right child first, with its leaf range repaired.
+// The probe is lent as four numbers, the point and the limit.
 ghost use mathlib.Core.Path.{_≡_};
 ghost use Prim.Native.Nat.{_+_, _*_, _≤_};
 ghost use lib.ListN.{length};
@@ -19,7 +19,7 @@ use crate::links::links_of;
 use lists::limits;
 use tree::nodes::node_box;
 
-// Whether a child enters: its box holds the point, or is nearer than the limit.
+// Whether a child is entered: its box holds the point, or is nearer than the limit.
 fn does_enter(boxes: &[f32], node: usize, asked: &[f32; 4]) -> bool
     requires { ⌜ 6 * node + 6 ≤ length (now boxes) ⌝ }
     ensures { λ r. ⌜ r ≡ Source.enters binary32 (now (boxes .entry)) (Values.pointOf (now (asked .entry))) (Values.fourthOf (now (asked .entry))) node ⌝ }
@@ -29,7 +29,7 @@ fn does_enter(boxes: &[f32], node: usize, asked: &[f32; 4]) -> bool
     over.contains_point(p) | (over.squared_distance(p) < asked[3])
 }
 
-// Looks at a node, whatever its box, with `depth` levels of branches left to open.
+// Looks at a node, whatever its box. `depth` levels of branches remain to open. Answers how many triangles were measured in all.
 pub fn look(
     triangles: &[f32],
     order: &[u32],
@@ -86,7 +86,7 @@ pub fn look(
     )
 }
 
-// Looks at a child that enters.
+// Looks at a child if it is entered.
 pub fn look_if_entered(
     triangles: &[f32],
     order: &[u32],
@@ -119,7 +119,7 @@ pub fn look_if_entered(
     measured
 }
 
-// The whole search, from the root, which is the last node.
+// The whole walk from the root, which is the last node.
 pub fn search(
     triangles: &[f32],
     order: &[u32],

@@ -1,6 +1,6 @@
-// The sure query's walk: the nearer child first, a box passed over where it does not count or is above
-// the best so far. `asked` is the point and the limit squared. The lists are lent by a reference to
-// each: that is one word, handed on as it is, where a list's own reference is copied at each call.
+// The sure query's walk: the nearer child first. A box is skipped where it does not count or is above the best so far.
+// The probe is lent as four numbers, the point and the limit.
+// Each list is lent by a reference to it: that is one word, handed on as it is, where a list's own reference is copied at each call.
 ghost use mathlib.Core.Path.{_≡_};
 ghost use lib.Ieee.{binary32};
 ghost use Prim.Native.Nat.{_+_, _*_, _≤_};
@@ -29,8 +29,7 @@ fn node_squared(boxes: &[f32], node: usize, asked: &[f32; 4]) -> f32
     node_box(boxes, node).held_squared(point_of(asked))
 }
 
-// Looks at a node whose box is at this squared distance, with `depth` levels of branches left to
-// open.
+// Looks at a node whose box is at this squared distance. `depth` levels of branches remain to open. Answers how many triangles were measured in all.
 pub fn node_walk(
     triangles: &&[f32],
     order: &&[u32],
@@ -80,10 +79,9 @@ pub fn node_walk(
     )
 }
 
-// Looks at two children, the nearer box first and the left one among equals. Each box is measured
-// here, once, and its squared distance handed down. Where the farther box is passed over before the
-// nearer child is walked, as it mostly is, it stays so, since what is kept only comes nearer: then the
-// nearer child is all that is left, and its walk is a last step, which needs no frame of its own.
+// Looks at two children, the nearer box first and the left one among equals. Each box is measured here, once, and its squared distance handed down.
+// Mostly the farther box is skipped before the nearer child is walked, and stays so, since what is kept only comes nearer.
+// Then the walk of the nearer child is a last step, which needs no frame of its own.
 pub fn pair_walk(
     triangles: &&[f32],
     order: &&[u32],
@@ -188,7 +186,7 @@ pub fn pair_walk(
     )
 }
 
-// The whole search, from the root, which is the last node.
+// The whole walk from the root, which is the last node.
 pub fn search(
     triangles: &[f32],
     order: &[u32],

@@ -1,4 +1,4 @@
-// An answer as six numbers in a lent list.
+// An answer as six words in a lent list.
 ghost use mathlib.Core.Path.{_≡_};
 ghost use mathlib.Core.List.{[], _∷_};
 ghost use Prim.Native.Nat.{_+_, _≤_};
@@ -10,6 +10,7 @@ ghost use Rattle.walks.specs.Values as Values;
 use crate::answer::Answer;
 use floats::bits_of;
 
+// Writes six words from index `at` on.
 fn put_six(out: &mut [u32], at: usize, a: u32, b: u32, c: u32, d: u32, e: u32, f: u32)
     requires { ⌜ at + 6 ≤ length (now out) ⌝ }
     ensures { λ _. ⌜ now (out .exit) ≡ Tables.over at (a ∷ b ∷ c ∷ d ∷ e ∷ f ∷ []) (now (out .entry)) ⌝ }
@@ -22,7 +23,7 @@ fn put_six(out: &mut [u32], at: usize, a: u32, b: u32, c: u32, d: u32, e: u32, f
     out[at + 5] = f;
 }
 
-// 1, the triangle, and the bits of x, y, z and the squared distance; or six zeros.
+// Writes 1, the triangle, and the bits of x, y, z and the squared distance from index `at` on, or six zeros for nothing.
 pub fn put_answer(out: &mut [u32], at: usize, answer: Answer)
     requires { ⌜ at + 6 ≤ length (now out) ⌝ }
     ensures { λ _. ⌜ now (out .exit) ≡ Tables.over at (Answers.sixWords binary32 (Values.asAnswer answer)) (now (out .entry)) ⌝ }

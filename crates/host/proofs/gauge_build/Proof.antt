@@ -1,5 +1,4 @@
 -- `host::gauge_build` meets its contract: the function behind it has the same.
--- Assumes nothing.
 use Rattle.host.proofs.gauge_build.Statement.{statement}
 use Rattle.host.proofs.gauge_build.Tie as tie
 

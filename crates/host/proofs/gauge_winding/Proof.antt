@@ -1,5 +1,4 @@
 -- `host::gauge_winding` meets its contract: the function behind it has the same.
--- Assumes nothing.
 use Rattle.host.proofs.gauge_winding.Statement.{statement}
 use Rattle.host.proofs.gauge_winding.Tie as tie
 

@@ -1,5 +1,4 @@
 -- `test_angles::replay_windings` is safe and ends: the turn is at most the number of points.
--- Assumes nothing.
 use Prim.Native.Nat.{_≤_, _-_}
 use borrow.Author.Needs.{needs}
 use Rattle.test_angles.proofs.replay_windings.Statement.{statement}

@@ -1,5 +1,4 @@
 -- `test_check::accepts` meets its contract: two triangles are few enough.
--- Assumes nothing.
 use native.Mathlib.Omega.{arith}
 use Rattle.spec_lists.specs.Reading.{triangleCount}
 use borrow.Author.Needs.{needs}

@@ -1,5 +1,4 @@
 -- `test_check::comb` is safe and ends: there are 129 nodes.
--- Assumes nothing.
 use Prim.Native.Nat.{_≤_, _-_}
 use borrow.Author.Needs.{needs}
 use Rattle.test_check.proofs.comb.Statement.{statement}

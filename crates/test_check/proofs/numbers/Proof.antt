@@ -1,5 +1,4 @@
 -- `test_check::numbers` is safe and ends: each number is below 65.
--- Assumes nothing.
 use Prim.Native.Nat.{_≤_, _-_}
 use borrow.Author.Needs.{needs}
 use Rattle.test_check.proofs.numbers.Statement.{statement}

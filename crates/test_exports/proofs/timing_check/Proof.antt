@@ -1,4 +1,4 @@
--- `test_exports::timing_check` tells whether the check passed. Assumes nothing.
+-- `test_exports::timing_check` tells whether the check passed.
 use mathlib.Core.Path.{ap, _∙_}
 use Rattle.test_exports.specs.Told.{onePassed}
 use borrow.Author.Needs.{needs}

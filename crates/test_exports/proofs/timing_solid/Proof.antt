@@ -1,4 +1,4 @@
--- `test_exports::timing_solid` tells the angle of one triangle from one point, and no number else. Assumes nothing.
+-- `test_exports::timing_solid` tells the angle of one triangle from one point, and no number else.
 use mathlib.Core.Path.{_∙_}
 use lib.Ieee.{ofBits, div}
 use borrow.Author.Needs.{needs}

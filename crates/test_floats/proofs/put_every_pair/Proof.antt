@@ -1,5 +1,4 @@
 -- `test_floats::put_every_pair` is safe and ends: the turn is at most 10.
--- Assumes nothing.
 use Prim.Native.Nat.{_≤_, _-_}
 use borrow.Author.Needs.{needs}
 use Rattle.test_floats.proofs.put_every_pair.Statement.{statement}

@@ -1,5 +1,4 @@
 -- `test_floats::put_held_all` is safe and ends: the turn is at most ten.
--- Assumes nothing.
 use Prim.Native.Nat.{_≤_, _-_}
 use borrow.Author.Needs.{needs}
 use Rattle.test_floats.proofs.put_held_all.Statement.{statement}

@@ -1,5 +1,4 @@
 -- `test_gauge::main` is safe and ends: the turn is at most 100,000.
--- Assumes nothing.
 use borrow.Author.Needs.{needs}
 use Prim.Native.Nat.{_≤_, _-_}
 use Rattle.test_gauge.proofs.main.Statement.{statement}

@@ -1,5 +1,4 @@
 -- `test_gauge::print_next` is safe and ends: the input lies in its array.
--- Assumes nothing.
 use native.Mathlib.Omega.{arith}
 use lib.ListN.{length-take}
 use borrow.Author.Needs.{needs}

@@ -1,5 +1,4 @@
 -- `test_host::put_cases` meets its contract: the place of the next case is within the input.
--- Assumes nothing.
 use Prim.Native.Nat.{_≤_, _-_}
 use lib.ListN.{length}
 use borrow.Author.Needs.{needs}

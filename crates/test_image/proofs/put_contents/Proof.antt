@@ -1,5 +1,4 @@
 -- `test_image::put_contents` meets its contract: the parts that are written again end within the lists.
--- Assumes nothing.
 use native.Mathlib.Omega.{arith}
 use lib.ListN.{length-take}
 use borrow.Author.Needs.{needs}

@@ -1,5 +1,4 @@
 -- `test_image::show` meets its contract: the part ends within the line.
--- Assumes nothing.
 use native.Mathlib.Omega.{arith}
 use lib.ListN.{length-take}
 use borrow.Author.Needs.{needs}

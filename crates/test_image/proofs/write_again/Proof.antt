@@ -1,5 +1,4 @@
 -- `test_image::write_again` meets its contract: what was written ends within the room.
--- Assumes nothing.
 use native.Mathlib.Omega.{arith}
 use lib.ListN.{length-take}
 use borrow.Author.Needs.{needs}

@@ -1,5 +1,4 @@
 -- `test_leaves::put_entries` is safe and ends: the place is at most the count.
--- Assumes nothing.
 use Prim.Native.Nat.{_≤_, _-_}
 use borrow.Author.Needs.{needs}
 use Rattle.test_leaves.proofs.put_entries.Statement.{statement}

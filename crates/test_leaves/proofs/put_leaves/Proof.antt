@@ -1,5 +1,4 @@
 -- `test_leaves::put_leaves` is safe and ends: the leaf's number is at most the count.
--- Assumes nothing.
 use Prim.Native.Nat.{_≤_, _-_}
 use borrow.Author.Needs.{needs}
 use Rattle.test_leaves.proofs.put_leaves.Statement.{statement}

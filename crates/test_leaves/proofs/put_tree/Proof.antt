@@ -1,5 +1,4 @@
 -- `test_leaves::put_tree` is safe and ends: the nodes of lists that pass are there.
--- Assumes nothing.
 use mathlib.Core.Path.{sym, ap, _∙_}
 use borrow.Author.Needs.{needs}
 use Rattle.spec_tree.proofs.Leaves.{counted-there}

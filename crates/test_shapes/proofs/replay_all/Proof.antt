@@ -1,5 +1,4 @@
 -- `test_shapes::replay_all` is safe and ends: the turn is at most 100.
--- Assumes nothing.
 use Prim.Native.Nat.{_≤_, _-_}
 use borrow.Author.Needs.{needs}
 use Rattle.test_shapes.proofs.replay_all.Statement.{statement}

@@ -1,5 +1,4 @@
 -- `test_shapes::replay_block` is safe and ends: the turn is at most 264.
--- Assumes nothing.
 use Prim.Native.Nat.{_≤_, _-_}
 use borrow.Author.Needs.{needs}
 use Rattle.test_shapes.proofs.replay_block.Statement.{statement}

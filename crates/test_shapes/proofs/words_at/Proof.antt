@@ -1,5 +1,4 @@
 -- `test_shapes::words_at` is safe and ends: the turn is at most 62.
--- Assumes nothing.
 use Prim.Native.Nat.{_≤_, _-_}
 use mathlib.Core.Path.{_≡_}
 use lib.ListN.{length}

@@ -1,5 +1,4 @@
 -- `test_trees::replay_all` is safe and ends: the turn is at most 1000.
--- Assumes nothing.
 use Prim.Native.Nat.{_≤_, _-_}
 use borrow.Author.Needs.{needs}
 use Rattle.test_trees.proofs.replay_all.Statement.{statement}

@@ -1,4 +1,4 @@
--- `test_words::fill_numbers` meets its contract. The invariant: the first i stand in the list. Assumes nothing.
+-- `test_words::fill_numbers` meets its contract. The invariant: the first i stand in the list.
 use mathlib.Core.List.{[], _∷_}
 use Prim.Native.Nat.{_*_, _-_}
 use native.Mathlib.Omega.{arith}

@@ -1,4 +1,4 @@
--- `test_words::more` meets its contract: its tests are those of the definition. Assumes nothing.
+-- `test_words::more` meets its contract: its tests are those of the definition.
 use borrow.Author.Needs.{needs}
 use borrow.Author.Tests.{lt-ltb, le-ltb}
 use Rattle.test_words.specs.Words.{more}

@@ -1,4 +1,4 @@
--- `test_words::pattern_at` meets its contract: its tests are that of the definition. Assumes nothing.
+-- `test_words::pattern_at` meets its contract: its tests are that of the definition.
 use mathlib.Core.Path.{_≡_}
 use mathlib.Core.List.{List}
 use Prim.Native.Nat.{ℕ, _+_, _≤_, _<_}

@@ -1,4 +1,4 @@
--- `angles::angle_by` meets its contract: its test is `askable`. Assumes nothing.
+-- `angles::arc_tangent::angle_by` meets its contract: its test is `askable`.
 use mathlib.Core.Path.{_≡_, refl}
 use mathlib.Core.Bool.{Bool, true, _&&_}
 use lib.Ieee.{Float, ne, ofBits, div}

@@ -1,4 +1,4 @@
--- `angles::angle_of` meets its contract. Assumes nothing.
+-- `angles::arc_tangent::angle_of` meets its contract.
 use mathlib.Core.Path.{_≡_, refl}
 use mathlib.Core.Bool.{Bool}
 use Prim.Native.Nat.{ℕ, _^_, _≤_}

@@ -1,5 +1,4 @@
--- `angles::arc_of` meets its contract: the last entry, or a point on the line between two.
--- Assumes nothing.
+-- `angles::arc_tangent::arc_of` meets its contract: the last entry, or a point on the line between two.
 use mathlib.Core.Path.{_∙_}
 use native.Mathlib.Nat.{le-of-lt, lt-of-le-of-lt}
 use lib.Dec.{lit<}

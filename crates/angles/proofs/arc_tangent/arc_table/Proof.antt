@@ -1,5 +1,4 @@
--- `angles::arc_table` meets its contract: the array is the table of the definitions.
--- Assumes nothing.
+-- `angles::arc_tangent::arc_table` meets its contract: the array is the table of the definitions.
 use Rattle.spec_angles.specs.Table.{arcs}
 use borrow.Author.Needs.{needs}
 use Rattle.angles.proofs.arc_tangent.arc_table.Statement.{statement}

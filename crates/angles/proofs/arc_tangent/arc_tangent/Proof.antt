@@ -1,4 +1,4 @@
--- `angles::arc_tangent` meets its contract. Assumes nothing.
+-- `angles::arc_tangent::arc_tangent` meets its contract.
 use mathlib.Core.Path.{refl}
 use native.Mathlib.Omega.{arith}
 use lib.Ieee.{binary32, ofBits}

@@ -1,5 +1,4 @@
--- `angles::entries_at` meets its contract: the array that is lent is the table of the definitions.
--- Assumes nothing.
+-- `angles::arc_tangent::entries_at` meets its contract: the array that is lent is the table of the definitions.
 use mathlib.Core.Path.{ap, _∙_}
 use mathlib.Core.List.{List}
 use Prim.Native.Nat.{ℕ, _+_}

@@ -1,4 +1,4 @@
--- `angles::mirrored` meets its contract. Assumes nothing.
+-- `angles::arc_tangent::mirrored` meets its contract.
 use borrow.Author.Needs.{needs}
 use Rattle.spec_angles.specs.Angle.{mirrored}
 use Rattle.angles.proofs.arc_tangent.mirrored.Statement.{statement}

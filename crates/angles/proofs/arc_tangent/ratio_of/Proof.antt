@@ -1,4 +1,4 @@
--- `angles::ratio_of` meets its contract. Assumes nothing.
+-- `angles::arc_tangent::ratio_of` meets its contract.
 use mathlib.Core.Path.{_≡_}
 use mathlib.Core.Bool.{true, false}
 use lib.Ieee.{Float, binary32, lt, div}

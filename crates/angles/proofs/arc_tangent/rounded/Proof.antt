@@ -1,4 +1,4 @@
--- `angles::rounded` meets its contract. The constant of the source is 2 ^ -30. Assumes nothing.
+-- `angles::arc_tangent::rounded` meets its contract. The constant of the source is 2 ^ -30.
 use lib.Ieee.{binary32, ofBits, ofInt}
 use borrow.Author.Needs.{needs}
 use Rattle.spec_angles.proofs.Thirtieth.{rounds-once, rounds-once-negated}

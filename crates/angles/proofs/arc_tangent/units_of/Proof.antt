@@ -1,4 +1,4 @@
--- `angles::units_of` meets its contract. The constant of the source is 2 ^ 30. Assumes nothing.
+-- `angles::arc_tangent::units_of` meets its contract. The constant of the source is 2 ^ 30.
 use mathlib.Core.Path.{_∙_}
 use lib.Ieee.{binary32, ofBits}
 use borrow.Author.Needs.{needs}

@@ -1,4 +1,5 @@
--- `angles::by_fours` meets its contract. Shifted up by its spare places the significand has 24 digits; 23 or 24 places more leave an even power. Assumes nothing.
+-- `angles::root::by_fours` meets its contract.
+-- Shifted up by its spare places the significand has 24 digits; 23 or 24 places more leave an even power.
 use native.Mathlib.Omega.{arith}
 use lib.Count.{leadingZeros}
 use Rattle.spec_angles.proofs.RootByBits.{Spare, spare-of, split-of}

@@ -1,5 +1,4 @@
--- `angles::guess` meets its contract: the rest of a division is below its divisor.
--- Assumes nothing.
+-- `angles::root::guess` meets its contract: the rest of a division is below its divisor.
 use Rattle.spec_numbers.proofs.Tests.{failed}
 use Rattle.spec_numbers.proofs.Patterns.{same-is-number}
 use native.Mathlib.Omega.{arith}

@@ -1,4 +1,4 @@
--- `angles::root` meets its contract: the bits that it puts together are those of the value nearest the root, and there is only one. Assumes nothing.
+-- `angles::root::root` meets its contract: the bits that it puts together are those of the value nearest the root, and there is only one.
 use mathlib.Core.Path.{_≡_, sym}
 use Prim.Native.Nat.{ℕ, _+_, _-_, _*_, _^_, _<_}
 use native.Mathlib.Nat.{eq-zero-or-pos}

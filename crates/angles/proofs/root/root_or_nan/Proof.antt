@@ -1,4 +1,4 @@
--- `angles::root_or_nan` meets its contract: its test is `rootable`. Assumes nothing.
+-- `angles::root::root_or_nan` meets its contract: its test is `rootable`.
 use mathlib.Core.Path.{_≡_, refl, sym, _∙_}
 use mathlib.Core.Bool.{Bool, true, _&&_}
 use lib.Ieee.{Float, le, ofBits, div}

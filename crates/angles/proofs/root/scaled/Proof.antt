@@ -1,4 +1,4 @@
--- `angles::scaled` meets its contract: a subnormal number has no leading digit, and a normal one has it. Assumes nothing.
+-- `angles::root::scaled` meets its contract: a subnormal number has no leading digit, and a normal one has it.
 use borrow.Author.Needs.{needs}
 use Rattle.spec_angles.proofs.RootByBits.{scaled-subnormal, scaled-normal}
 use Rattle.angles.proofs.root.scaled.Statement.{statement}

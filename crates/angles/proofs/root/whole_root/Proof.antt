@@ -1,5 +1,4 @@
--- `angles::whole_root` meets its contract. The invariant: the root lies from r on and below r + step. The measure is the step.
--- Assumes nothing.
+-- `angles::root::whole_root` meets its contract. The invariant: the root lies from r on and below r + step. The measure is the step.
 use Prim.Native.Nat.{ℕ, _+_, _*_, _/_, _^_, _≤_, _<_}
 use native.Mathlib.Nat.{lt-of-le-of-lt, lt-of-lt-of-le}
 use native.Mathlib.Omega.{arith}

@@ -1,5 +1,4 @@
--- `angles::denominator_of` meets its contract: one and the three dots, from the left.
--- Assumes nothing.
+-- `angles::solid_angle::denominator_of` meets its contract: one and the three dots, from the left.
 use lib.Ieee.{ofBits}
 use Rattle.spec_angles.specs.Winding.{denominator}
 use borrow.Author.Needs.{needs}

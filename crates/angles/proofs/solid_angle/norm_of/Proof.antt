@@ -1,5 +1,4 @@
--- `angles::norm_of` meets its contract: the root of the dot with itself.
--- Assumes nothing.
+-- `angles::solid_angle::norm_of` meets its contract: the root of the dot with itself.
 use Rattle.spec_angles.specs.Winding.{norm}
 use borrow.Author.Needs.{needs}
 use Rattle.angles.proofs.solid_angle.norm_of.Statement.{statement}

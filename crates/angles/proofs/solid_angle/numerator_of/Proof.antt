@@ -1,5 +1,4 @@
--- `angles::numerator_of` meets its contract: the dot of a corner and the cross of two sides.
--- Assumes nothing.
+-- `angles::solid_angle::numerator_of` meets its contract: the dot of a corner and the cross of two sides.
 use Rattle.spec_angles.specs.Winding.{numerator}
 use borrow.Author.Needs.{needs}
 use Rattle.angles.proofs.solid_angle.numerator_of.Statement.{statement}

@@ -1,5 +1,4 @@
--- `angles::origin_angle` meets its contract: the lengths, their test, and the angle of the directions.
--- Assumes nothing.
+-- `angles::solid_angle::origin_angle` meets its contract: the lengths, their test, and the angle of the directions.
 use mathlib.Core.Path.{_≡_}
 use mathlib.Core.Bool.{true, false, _||_}
 use lib.Ieee.{Float, binary32, eq, ofBits}

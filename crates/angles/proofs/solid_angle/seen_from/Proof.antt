@@ -1,5 +1,4 @@
--- `angles::seen_from` meets its contract, corner by corner.
--- Assumes nothing.
+-- `angles::solid_angle::seen_from` meets its contract, corner by corner.
 use Rattle.spec_angles.specs.Winding.{seenFrom}
 use borrow.Author.Needs.{needs}
 use Rattle.angles.proofs.solid_angle.seen_from.Statement.{statement}

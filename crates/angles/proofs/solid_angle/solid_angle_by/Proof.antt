@@ -1,5 +1,4 @@
--- `angles::solid_angle_by` meets its contract: the triangle seen from the point, then its angle.
--- Assumes nothing.
+-- `angles::solid_angle::solid_angle_by` meets its contract: the triangle seen from the point, then its angle.
 use Rattle.spec_angles.specs.Winding.{solidAngle}
 use borrow.Author.Needs.{needs}
 use Rattle.angles.proofs.solid_angle.solid_angle_by.Statement.{statement}

@@ -1,5 +1,4 @@
--- `angles::unit_angle` meets its contract: its test is that of the definition.
--- Assumes nothing.
+-- `angles::solid_angle::unit_angle` meets its contract: its test is that of the definition.
 use lib.Ieee.{ofBits}
 use Rattle.spec_angles.specs.Winding.{unitAngle}
 use borrow.Author.Needs.{needs}

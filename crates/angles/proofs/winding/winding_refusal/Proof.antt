@@ -1,4 +1,4 @@
--- `angles::winding_refusal` meets its contract: three tests in a row.
+-- `angles::winding::winding_refusal` meets its contract: three tests in a row.
 use Rattle.spec_lists.proofs.Verdicts.{ends, or-test}
 use Rattle.spec_angles.specs.Windings.{windingRefusal}
 use borrow.Author.Needs.{needs}

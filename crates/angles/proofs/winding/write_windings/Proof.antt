@@ -1,5 +1,4 @@
--- `angles::winding_number::write_windings` meets its contract. The invariant: the first k winding numbers stand in `out`. The measure is how many are left.
--- Assumes nothing.
+-- `angles::winding::write_windings` meets its contract. The invariant: the first k winding numbers stand in `out`. The measure is how many are left.
 use Prim.Native.Nat.{_-_}
 use native.Mathlib.Omega.{arith}
 use lib.Ieee.{binary32}

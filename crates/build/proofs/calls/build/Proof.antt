@@ -1,5 +1,4 @@
--- `build::build` meets its contract: what is refused changes nothing, and what passes is built.
--- Assumes nothing.
+-- `build::calls::build` meets its contract: what is refused changes nothing, and what passes is built.
 use mathlib.Core.Path.{sym, ap, _∙_}
 use lib.Ieee.{binary32}
 use Rattle.lists.specs.Values.{asVerdict}

@@ -1,5 +1,4 @@
--- `build::build_with` meets its contract: the tables are made, the order list is numbered, and the whole of it grows.
--- Assumes nothing.
+-- `build::calls::build_with` meets its contract: the tables are made, the order list is numbered, and the whole of it grows.
 use mathlib.Core.Path.{sym}
 use native.Mathlib.Omega.{arith}
 use lib.Ieee.{binary32}

@@ -1,4 +1,4 @@
--- `build::build_refusal` meets its contract: two tests, then, over triangles that passed, the three rooms.
+-- `build::tests::build_refusal` meets its contract: two tests and then, for triangles that passed, the three lengths.
 use mathlib.Core.Path.{ap, _∙_}
 use Prim.Native.Nat.{ℕ, _*_}
 use native.Mathlib.Omega.{arith}

@@ -1,5 +1,4 @@
--- `floats::bits_of` meets its contract: what differs from itself is the NaN, which the definition gives this pattern too.
--- Assumes nothing.
+-- `floats::bits::bits_of` meets its contract: what differs from itself is the NaN, which the definition gives this pattern too.
 use mathlib.Core.Path.{ap, sym}
 use lib.Ieee.{binary32, toBits}
 use lib.Ieee.Compare.{differs-from-itself}

@@ -1,5 +1,4 @@
--- `floats::from_bits` meets its contract: the test is that of a NaN's pattern, and nought over nought is the NaN.
--- Assumes nothing.
+-- `floats::bits::from_bits` meets its contract: the test finds the patterns of a NaN, and 0 / 0 is the NaN.
 use mathlib.Core.Path.{_∙_}
 use lib.Ieee.{binary32}
 use Rattle.spec_numbers.proofs.Patterns.{reads-as-nan, reads-as-number, nought-over-nought}

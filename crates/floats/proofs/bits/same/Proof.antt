@@ -1,5 +1,4 @@
--- `floats::same` meets its contract: numbers of a format are the same where their patterns are.
--- Assumes nothing.
+-- `floats::bits::same` meets its contract: numbers of a format are the same where their patterns are.
 use mathlib.Core.Path.{_∙_}
 use lib.Dec.{eqb}
 use lib.Ieee.{binary32}

@@ -1,5 +1,4 @@
--- `floats::absolute` meets its contract: below zero the opposite of x, and otherwise x + 0, which is x but for the sign of a zero.
--- Assumes nothing.
+-- `floats::order::absolute` meets its contract: below zero the opposite of x, and otherwise x + 0, which is x but for the sign of a zero.
 use mathlib.Core.Path.{_∙_}
 use lib.Ieee.{binary32, ofBits}
 use Rattle.spec_numbers.proofs.Tests.{passed, failed}

@@ -1,5 +1,4 @@
--- `floats::held` meets its contract: it lowers what is raised.
--- Assumes nothing.
+-- `floats::order::held` meets its contract: x is raised, then lowered.
 use mathlib.Core.Path.{_∙_, ap}
 use Rattle.spec_numbers.specs.Hold.{lower}
 use borrow.Author.Needs.{needs}

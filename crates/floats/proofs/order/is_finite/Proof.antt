@@ -1,5 +1,4 @@
--- `floats::is_finite` meets its contract: x - x is equal to itself where x is finite, and only there.
--- Assumes nothing.
+-- `floats::order::is_finite` meets its contract: x - x is equal to itself where x is finite, and only there.
 use lib.Ieee.{binary32}
 use Rattle.spec_numbers.proofs.Exact.{difference-tells-finite}
 use Rattle.floats.proofs.order.is_finite.Statement.{statement}

@@ -1,5 +1,4 @@
--- `floats::max2` meets its contract: each arm returns what the test picks.
--- Assumes nothing.
+-- `floats::order::max2` meets its contract: each arm returns what the test picks.
 use Rattle.floats.proofs.order.max2.Statement.{statement}
 use Rattle.floats.proofs.order.max2.Tie as tie
 

@@ -1,5 +1,4 @@
--- `floats::min2` meets its contract: each arm returns what the test picks.
--- Assumes nothing.
+-- `floats::order::min2` meets its contract: each arm returns what the test picks.
 use Rattle.floats.proofs.order.min2.Statement.{statement}
 use Rattle.floats.proofs.order.min2.Tie as tie
 

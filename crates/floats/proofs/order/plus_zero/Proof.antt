@@ -1,5 +1,4 @@
--- `floats::plus_zero` meets its contract: a float that fits its format is its own sum with +0, but for -0. The program's 0.0 is the pattern 0, and `good` has that x fits.
--- Assumes nothing.
+-- `floats::order::plus_zero` meets its contract: x + 0 is x for every x of the format but -0. The pattern of 0.0 is 0, and `good` says that x fits.
 use lib.Ieee.{binary32, ofBits}
 use Rattle.spec_numbers.proofs.Tests.{passed}
 use Rattle.spec_numbers.proofs.Exact.{plus-zero}

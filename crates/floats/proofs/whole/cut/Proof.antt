@@ -1,5 +1,4 @@
--- `floats::cut` meets its contract: the two tests find what is too large and what is not above zero, and what is left is in the range of the cast.
--- Assumes nothing.
+-- `floats::whole::cut` meets its contract: two tests find what is too large and what is not above zero. What remains is in the range of the cast.
 use mathlib.Core.Path.{sym}
 use lib.Ieee.{ofBits}
 use Rattle.spec_numbers.proofs.Tests.{passed, failed}

@@ -1,5 +1,4 @@
--- `gauge_run::put_answer_lines` meets its contract. The invariant: the first k lines stand one behind the other.
--- Assumes nothing.
+-- `gauge_run::answer_lines::put_answer_lines` meets its contract. The invariant: the first k lines stand one behind the other.
 use denote.Ref.{now}
 use Prim.Native.Nat.{_-_}
 use native.Mathlib.Omega.{arith}

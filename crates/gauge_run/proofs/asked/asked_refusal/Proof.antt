@@ -1,4 +1,4 @@
--- `gauge_run::asked_refusal` meets its contract: four tests in a row.
+-- `gauge_run::asked::asked_refusal` meets its contract: four tests in a row.
 use Rattle.spec_gauge.specs.Printed.{askedRefusal}
 use Rattle.spec_lists.proofs.Verdicts.{ends, or-test}
 use borrow.Author.Needs.{needs}

@@ -1,5 +1,4 @@
--- `gauge_run::print` meets its contract: too long, laid out wrong, or what its records ask for.
--- Assumes nothing.
+-- `gauge_run::run::print` meets its contract: too long, laid out wrong, or what its records ask for.
 use denote.Ref.{now}
 use mathlib.Core.Path.{sym, ap, _∙_}
 use Rattle.spec_tables.proofs.Tables.{put-same}

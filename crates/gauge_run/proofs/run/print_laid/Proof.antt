@@ -1,5 +1,4 @@
--- `gauge_run::print_laid` meets its contract: the lists that are read are those that the records hold.
--- Assumes nothing.
+-- `gauge_run::run::print_laid` meets its contract: the lists that are read are those that the records hold.
 use denote.Ref.{now}
 use mathlib.Core.Path.{sym, ap, _∙_}
 use native.Mathlib.Omega.{arith}

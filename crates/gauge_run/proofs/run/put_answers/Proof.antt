@@ -1,5 +1,4 @@
--- `gauge_run::put_answers` meets its contract: no query is refused, and the lines are those of its answers.
--- Assumes nothing.
+-- `gauge_run::run::put_answers` meets its contract: no query is refused, and the lines are those of its answers.
 use denote.Ref.{now}
 use native.Mathlib.Omega.{arith}
 use Rattle.spec_tables.proofs.Tables.{put-same}

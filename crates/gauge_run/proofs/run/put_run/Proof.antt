@@ -1,5 +1,4 @@
--- `gauge_run::put_run` meets its contract: what passed the tests is built, and the tree passes the tree check.
--- Assumes nothing.
+-- `gauge_run::run::put_run` meets its contract: what passed the tests is built, and the tree passes the tree check.
 use denote.Ref.{now}
 use mathlib.Core.Path.{refl, sym}
 use native.Mathlib.Omega.{arith}

@@ -1,4 +1,4 @@
--- `grow::grow` meets its contract. The measure is the levels that are left. Assumes nothing.
+-- `grow::grow::grow` meets its contract. The measure is the number of levels that remain.
 use mathlib.Core.Path.{sym, ap, _∙_}
 use native.Mathlib.Omega.{arith}
 use borrow.Author.Needs.{needs}

@@ -1,5 +1,4 @@
--- `grow::put_branch` meets its contract: what `union_box`, `put_links`, `put_box` and `deeper` ensure.
--- Assumes nothing.
+-- `grow::nodes::put_branch` meets its contract: what `union_box`, `put_links`, `put_box` and `deeper` ensure.
 use mathlib.Core.Path.{refl, ap, _∙_}
 use Prim.Native.Nat.{ℕ, _+_, _*_}
 use Rattle.spec_tables.specs.Tables.{over}

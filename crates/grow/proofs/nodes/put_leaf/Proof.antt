@@ -1,5 +1,4 @@
--- `grow::put_leaf` meets its contract: what `union_of`, `put_links` and `put_box` ensure.
--- Assumes nothing.
+-- `grow::nodes::put_leaf` meets its contract: what `union_of`, `put_links` and `put_box` ensure.
 use lib.Ieee.{binary32}
 use Rattle.spec_build.proofs.Writing.{leaf-written}
 use borrow.Author.Needs.{needs}

@@ -1,5 +1,4 @@
--- `grow::put_links` meets its contract: three stores are one write.
--- Assumes nothing.
+-- `grow::nodes::put_links` meets its contract: three stores are one write.
 use native.Mathlib.Omega.{arith}
 use lib.ListN.{length-set}
 use Rattle.spec_tables.proofs.Stores.{three-stores}

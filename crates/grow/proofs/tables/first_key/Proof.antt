@@ -1,5 +1,4 @@
--- `grow::first_key` meets its contract, in each arm.
--- Assumes nothing.
+-- `grow::tables::first_key` meets its contract, in each arm.
 use borrow.Author.Needs.{needs}
 use Rattle.grow.proofs.tables.first_key.Statement.{statement}
 use Rattle.grow.proofs.tables.first_key.Tie as tie

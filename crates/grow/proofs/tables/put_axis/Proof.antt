@@ -1,5 +1,4 @@
--- `grow::put_axis` meets its contract: the part that was lent comes back with the centres in it.
--- Assumes nothing.
+-- `grow::tables::put_axis` meets its contract: the slice that was lent comes back with the centres in it.
 use Prim.Native.Nat.{_+_, _-_}
 use mathlib.Core.Path.{refl}
 use native.Mathlib.Omega.{arith}

@@ -1,5 +1,4 @@
--- `grow::put_bounds` meets its contract: a turn writes one box behind those that stand there.
--- Assumes nothing.
+-- `grow::tables::put_bounds` meets its contract: a turn writes one box behind those that stand there.
 use borrow.Author.Needs.{needs}
 use mathlib.Core.Path.{refl, _∙_, ap}
 use Prim.Native.Nat.{_-_, _*_}

@@ -1,5 +1,4 @@
--- `grow::put_box` meets its contract: six stores are one write.
--- Assumes nothing.
+-- `grow::tables::put_box` meets its contract: six stores are one write.
 use native.Mathlib.Omega.{arith}
 use lib.ListN.{length-set}
 use Rattle.spec_tables.proofs.Stores.{six-stores}

@@ -1,5 +1,4 @@
--- `grow::put_centres` meets its contract: what `put_axis` ensures of each axis.
--- Assumes nothing.
+-- `grow::tables::put_centres` meets its contract: what `put_axis` ensures of each axis.
 use Rattle.spec_build.proofs.Tabling.{all-centred}
 use borrow.Author.Needs.{needs}
 use Rattle.grow.proofs.tables.put_centres.Statement.{statement}

@@ -1,5 +1,4 @@
--- `grow::put_keys` meets its contract: a turn stores one centre behind those that stand there.
--- Assumes nothing.
+-- `grow::tables::put_keys` meets its contract: a turn stores one centre behind those that stand there.
 use Prim.Native.Nat.{_-_}
 use mathlib.Core.List.{[], _∷_}
 use native.Mathlib.Omega.{arith}

@@ -1,5 +1,4 @@
--- `grow::put_order` meets its contract: a turn stores one number behind those that stand there.
--- Assumes nothing.
+-- `grow::tables::put_order` meets its contract: a turn stores one number behind those that stand there.
 use mathlib.Core.Path.{refl, ap, _∙_}
 use mathlib.Core.List.{List, [], _∷_}
 use Prim.Native.Nat.{ℕ, _-_}

@@ -1,5 +1,4 @@
--- `grow::rule` meets its contract: what the two rules ensure.
--- Assumes nothing.
+-- `grow::tries::rule` meets its contract: what the two rules ensure.
 use borrow.Author.Tests.{eq-eqb, ne-eqb}
 use Rattle.spec_build.specs.Tries.{rule}
 use borrow.Author.Needs.{needs}

@@ -1,5 +1,4 @@
--- `grow::sort_on` meets its contract: the part of the table that the axis has is what `sort_by_key` sorts by.
--- Assumes nothing.
+-- `grow::tries::sort_on` meets its contract: `sort_by_key` sorts by the slice of the table that the axis has.
 use Prim.Native.Nat.{_+_, _-_}
 use native.Mathlib.Omega.{arith}
 use Rattle.shapes.specs.Values.{asAxis}

@@ -1,5 +1,4 @@
--- `grow::try_axes` meets its contract: the tries in turn, each on the order that the last one left.
--- Assumes nothing.
+-- `grow::tries::try_axes` meets its contract: the tries in turn, each on the order that the last one left.
 use mathlib.Core.Path.{ap, _∙_}
 use lib.Ieee.{binary32}
 use Rattle.splits.specs.Values.{asSplit}

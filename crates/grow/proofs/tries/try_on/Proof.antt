@@ -1,5 +1,4 @@
--- `grow::try_on` meets its contract: the part is sorted, and the rule is asked of it.
--- Assumes nothing.
+-- `grow::tries::try_on` meets its contract: the slice is sorted, and the rule is applied to it.
 use lib.Ieee.{binary32}
 use Rattle.shapes.specs.Values.{asAxis, asBox}
 use Rattle.spec_build.proofs.Trying.{try-sort-asks, try-sorted, try-rule-asks, try-gives}

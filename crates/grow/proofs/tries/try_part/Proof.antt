@@ -1,5 +1,4 @@
--- `grow::try_part` meets its contract: what `union_of` and `try_axes` ensure.
--- Assumes nothing.
+-- `grow::tries::try_part` meets its contract: what `union_of` and `try_axes` ensure.
 use native.Mathlib.Omega.{arith}
 use lib.Ieee.{binary32}
 use Rattle.spec_build.proofs.Trying.{try-rule-asks, tried-is}

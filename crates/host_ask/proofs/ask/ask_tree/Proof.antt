@@ -1,5 +1,4 @@
--- `host_ask::ask_tree` meets its contract: what is loaded is what the image holds.
--- Assumes nothing.
+-- `host_ask::ask::ask_tree` meets its contract: what is loaded is what the image holds.
 use Rattle.lists.specs.Values.{asVerdict}
 use mathlib.Core.Path.{sym, ap, _∙_}
 use native.Mathlib.Omega.{arith}

@@ -1,5 +1,4 @@
--- `host_ask::check_image` meets its contract: a check is a query at no points.
--- Assumes nothing.
+-- `host_ask::calls::check_image` meets its contract: a check is a query at no points.
 use lib.Ieee.{ofBits}
 use mathlib.Core.Path.{_∙_}
 use mathlib.Core.List.{[]}

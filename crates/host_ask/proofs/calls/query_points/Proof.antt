@@ -1,5 +1,4 @@
--- `host_ask::query_points` meets its contract: the query, told.
--- Assumes nothing.
+-- `host_ask::calls::query_points` meets its contract: the query, told.
 use mathlib.Core.Path.{ap, _∙_}
 use Prim.Native.Nat.{_/_}
 use native.Mathlib.Omega.{arith}

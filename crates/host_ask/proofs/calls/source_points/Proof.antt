@@ -1,5 +1,4 @@
--- `host_ask::source_points` meets its contract: the query, by the source walk.
--- Assumes nothing.
+-- `host_ask::calls::source_points` meets its contract: the query, by the source walk.
 use Rattle.host_ask.proofs.calls.source_points.Statement.{statement}
 use Rattle.host_ask.proofs.calls.source_points.Tie as tie
 

@@ -1,5 +1,4 @@
--- `host_ask::tell_count` meets its contract: a refusal is told whatever the count.
--- Assumes nothing.
+-- `host_ask::calls::tell_count` meets its contract: a refusal is told whatever the count.
 use mathlib.Core.Path.{sym, _∙_}
 use Rattle.lists.specs.Values.{asVerdict}
 use Rattle.spec_host.proofs.RequestsTold.{told-refused, told-done}

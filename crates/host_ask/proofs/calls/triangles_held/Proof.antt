@@ -1,5 +1,4 @@
--- `host_ask::triangles_held` meets its contract: none where the layout is wrong.
--- Assumes nothing.
+-- `host_ask::calls::triangles_held` meets its contract: none where the layout is wrong.
 use mathlib.Core.Path.{sym, ap, _∙_}
 use Rattle.records.specs.Values.{imageLaid}
 use Rattle.spec_host.proofs.Requests.{held-none, held-count}

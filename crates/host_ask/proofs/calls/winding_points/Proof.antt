@@ -1,5 +1,4 @@
--- `host_ask::winding_points` meets its contract: the winding numbers, told.
--- Assumes nothing.
+-- `host_ask::calls::winding_points` meets its contract: the winding numbers, told.
 use mathlib.Core.Path.{ap, _∙_}
 use Prim.Native.Nat.{_/_}
 use native.Mathlib.Omega.{arith}

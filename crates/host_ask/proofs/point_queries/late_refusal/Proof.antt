@@ -1,4 +1,4 @@
--- `host_ask::late_refusal` meets its contract: three tests in a row.
+-- `host_ask::point_queries::late_refusal` meets its contract: three tests in a row.
 use Rattle.spec_lists.proofs.Verdicts.{ends, or-test}
 use Rattle.spec_host.specs.Loading.{lateRefusal}
 use borrow.Author.Needs.{needs}

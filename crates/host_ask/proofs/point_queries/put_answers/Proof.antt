@@ -1,5 +1,4 @@
--- `host_ask::put_answers` meets its contract: a turn writes the answer at one point more (`Answered`).
--- Assumes nothing.
+-- `host_ask::point_queries::put_answers` meets its contract: a turn writes the answer at one point more (`Answered`).
 use mathlib.Core.Path.{refl, ap, _∙_}
 use Prim.Native.Nat.{_-_}
 use native.Mathlib.Omega.{arith}

@@ -1,5 +1,4 @@
--- `host_ask::put_windings` meets its contract: a turn writes the winding number about one point more (`Wound`).
--- Assumes nothing.
+-- `host_ask::point_windings::put_windings` meets its contract: a turn writes the winding number about one point more (`Wound`).
 use mathlib.Core.Path.{refl, ap, _∙_}
 use Prim.Native.Nat.{_-_}
 use native.Mathlib.Omega.{arith}

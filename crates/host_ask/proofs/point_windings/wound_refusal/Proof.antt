@@ -1,4 +1,4 @@
--- `host_ask::wound_refusal` meets its contract: three tests in a row.
+-- `host_ask::point_windings::wound_refusal` meets its contract: three tests in a row.
 use Rattle.spec_lists.proofs.Verdicts.{ends, or-test}
 use Rattle.spec_host.specs.Requests.{woundRefusal}
 use borrow.Author.Needs.{needs}

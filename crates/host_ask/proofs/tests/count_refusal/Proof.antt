@@ -1,4 +1,4 @@
--- `host_ask::count_refusal` meets its contract: two tests in a row.
+-- `host_ask::tests::count_refusal` meets its contract: two tests in a row.
 use Rattle.spec_lists.proofs.Verdicts.{ends, or-test}
 use Rattle.spec_host.specs.Loading.{countRefusal}
 use borrow.Author.Needs.{needs}

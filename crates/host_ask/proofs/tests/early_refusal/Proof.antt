@@ -1,4 +1,4 @@
--- `host_ask::early_refusal` meets its contract: three tests in a row.
+-- `host_ask::tests::early_refusal` meets its contract: three tests in a row.
 use Rattle.spec_lists.proofs.Verdicts.{ends, or-test}
 use Rattle.spec_host.specs.Loading.{earlyRefusal}
 use borrow.Author.Needs.{needs}

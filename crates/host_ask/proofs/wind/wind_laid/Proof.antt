@@ -1,5 +1,4 @@
--- `host_ask::wind_laid` meets its contract: the count, and the triangles.
--- Assumes nothing.
+-- `host_ask::wind::wind_laid` meets its contract: the count, and the triangles.
 use Rattle.lists.specs.Values.{asVerdict}
 use mathlib.Core.Path.{sym, ap, _∙_}
 use mathlib.Core.List.{List}

@@ -1,5 +1,4 @@
--- `host_build::build_image` meets its contract: bytes that hold no list, or the list that they hold.
--- Assumes nothing.
+-- `host_build::build::build_image` meets its contract: bytes that hold no list, or the list that they hold.
 use mathlib.Core.Path.{refl, sym, ap, _∙_}
 use native.Mathlib.Omega.{arith}
 use lib.Seq.{length-take-le}

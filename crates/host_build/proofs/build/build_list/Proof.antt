@@ -1,5 +1,4 @@
--- `host_build::build_list` meets its contract: the lists that are lent to the build have room, so what is left is to put what it made.
--- Assumes nothing.
+-- `host_build::build::build_list` meets its contract: the lists that are lent to the build have room, so what is left is to put what it made.
 use denote.Ref.{now}
 use mathlib.Core.Path.{_≡_, _∙_, sym}
 use mathlib.Core.List.{List}
@@ -41,7 +40,8 @@ boxes-long = length-replicate 49146 (ofBits binary32 0)
 within : {count n long : ℕ} → count ≡ n → long ≡ 4096 → n ≤ 4096 → count ≤ long
 within e l h = omega arith
 
--- what the build did with them, by the arm that was taken: written out once, and over any lists where it is rewritten, since each look at it counts those that are lent
+-- what the build did with them, by the arm that was taken:
+-- written out once, and over any lists where it is rewritten, since each look at it counts those that are lent
 as-told : (t : List Float) (s : Settings) (order links : List ℕ) (boxes : List Float) {order′ links′ : List ℕ} {boxes′ : List Float} {r told : Built} → r ≡ told
     → BuildIs binary32 t (asSettings s) order links boxes (asBuilt r) order′ links′ boxes′ → BuildIs binary32 t (asSettings s) order links boxes (asBuilt told) order′ links′ boxes′
 as-told t s order links boxes e b = rw e at b

@@ -1,5 +1,4 @@
--- `host_build::put_built` meets its contract: the room is tested, then the image is put.
--- Assumes nothing.
+-- `host_build::put::put_built` meets its contract: the room is tested, then the image is put.
 use native.Mathlib.Omega.{arith}
 use Rattle.spec_lists.proofs.Passed.{room-passes}
 use Rattle.spec_host.proofs.Build.{room-short, put-nothing, put-all}

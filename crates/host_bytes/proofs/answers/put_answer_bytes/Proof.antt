@@ -1,5 +1,4 @@
--- `host_bytes::put_answer_bytes` meets its contract: the six words of the answer, as bytes.
--- Assumes nothing.
+-- `host_bytes::answers::put_answer_bytes` meets its contract: the six words of the answer, as bytes.
 use mathlib.Core.Path.{refl, ap, _∙_}
 use mathlib.Core.List.{List}
 use Prim.Native.Nat.{ℕ}

@@ -1,5 +1,4 @@
--- `host_bytes::put_winding_bytes` meets its contract: the number's bits in four bytes.
--- Assumes nothing.
+-- `host_bytes::answers::put_winding_bytes` meets its contract: the number's bits in four bytes.
 use mathlib.Core.Path.{ap, _∙_}
 use Prim.Native.Nat.{ℕ}
 use denote.Ref.{now}

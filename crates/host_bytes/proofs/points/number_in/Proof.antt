@@ -1,5 +1,4 @@
--- `host_bytes::number_in` meets its contract: the number of four bytes.
--- Assumes nothing.
+-- `host_bytes::points::number_in` meets its contract: the number of four bytes.
 use mathlib.Core.Path.{sym, ap, _∙_}
 use native.Mathlib.Omega.{arith}
 use lib.Ieee.{binary32, ofBits}

@@ -1,4 +1,4 @@
--- `host_bytes::point_bytes_refusal` meets its contract: two tests in a row.
+-- `host_bytes::points::point_bytes_refusal` meets its contract: two tests in a row.
 use mathlib.Core.Path.{_∙_}
 use Rattle.spec_lists.specs.Refusals.{coordinateRefusal}
 use Rattle.spec_lists.proofs.Verdicts.{ends, or-test}

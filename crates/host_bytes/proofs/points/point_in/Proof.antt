@@ -1,5 +1,4 @@
--- `host_bytes::point_in` meets its contract: three numbers, each plus zero.
--- Assumes nothing.
+-- `host_bytes::points::point_in` meets its contract: three numbers, each plus zero.
 use mathlib.Core.Path.{ap, _∙_}
 use Rattle.spec_numbers.specs.Values.{plusZero}
 use Rattle.spec_lists.specs.Reading.{numberAt, pointAt}

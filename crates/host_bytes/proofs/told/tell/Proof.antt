@@ -1,5 +1,4 @@
--- `host_bytes::tell` meets its contract, case by case.
--- Assumes nothing.
+-- `host_bytes::told::tell` meets its contract, case by case.
 use borrow.Author.Needs.{needs}
 use Rattle.host_bytes.proofs.told.tell.Statement.{statement}
 use Rattle.host_bytes.proofs.told.tell.Tie as tie

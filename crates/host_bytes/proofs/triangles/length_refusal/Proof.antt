@@ -1,4 +1,4 @@
--- `host_bytes::length_refusal` meets its contract: two tests in a row.
+-- `host_bytes::triangles::length_refusal` meets its contract: two tests in a row.
 use Rattle.spec_lists.proofs.Verdicts.{ends, or-test}
 use Rattle.host_bytes.specs.Length.{lengthRefusal}
 use Rattle.spec_host.specs.Build.{raggedBytes}

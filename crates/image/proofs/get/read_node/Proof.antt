@@ -1,5 +1,4 @@
--- `image::read_node` meets its contract: the links in two lists of entries, the box in one.
--- Assumes nothing.
+-- `image::get::read_node` meets its contract: the links in two lists of entries, the box in one.
 use denote.Ref.{now}
 use Rattle.spec_image.specs.Image.{sidesIn}
 use Rattle.image.proofs.Links.{links-over}

@@ -1,5 +1,4 @@
--- `image::read_nodes` meets its contract: a turn reads one node more, into two lists (`Run` of each).
--- Assumes nothing.
+-- `image::get::read_nodes` meets its contract: a turn reads one node more, into two lists (`Run` of each).
 use Prim.Native.Nat.{_-_}
 use denote.Ref.{now}
 use Rattle.spec_tables.proofs.Runs.{Run, run-start, run-front, run-end}

@@ -1,5 +1,4 @@
--- `image::read_tree` meets its contract: the order, and the nodes.
--- Assumes nothing.
+-- `image::get::read_tree` meets its contract: the order, and the nodes.
 use Rattle.spec_image.specs.Image.{imageIn}
 use borrow.Author.Needs.{needs}
 use Rattle.image.proofs.get.read_tree.Statement.{statement}

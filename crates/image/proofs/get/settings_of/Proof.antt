@@ -1,5 +1,4 @@
--- `image::settings_of` meets its contract: three numbers of two bytes.
--- Assumes nothing.
+-- `image::get::settings_of` meets its contract: three numbers of two bytes.
 use Rattle.spec_image.specs.Image.{settingsIn}
 use borrow.Author.Needs.{needs}
 use Rattle.image.proofs.get.settings_of.Statement.{statement}

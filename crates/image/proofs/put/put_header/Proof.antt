@@ -1,5 +1,4 @@
--- `image::put_header` meets its contract: the length, and the kind behind it.
--- Assumes nothing.
+-- `image::put::put_header` meets its contract: the length, and the kind behind it.
 use native.Mathlib.Omega.{arith}
 use Rattle.spec_tables.proofs.Tables.{put-then}
 use Rattle.spec_records.specs.Records.{header}

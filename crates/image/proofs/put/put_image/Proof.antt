@@ -1,5 +1,4 @@
--- `image::put_image` meets its contract: four records, one behind the other.
--- Assumes nothing.
+-- `image::put::put_image` meets its contract: four records, one behind the other.
 use Prim.Native.Nat.{_*_}
 use native.Mathlib.Omega.{arith}
 use denote.Ref.{now}

@@ -1,5 +1,4 @@
--- `image::put_node` meets its contract: the kind, left and right, and the box.
--- Assumes nothing.
+-- `image::put::put_node` meets its contract: the kind, left and right, and the box.
 use native.Mathlib.Omega.{arith}
 use Rattle.spec_tables.proofs.Tables.{put-then}
 use Rattle.spec_image.specs.Image.{nodeBytes}

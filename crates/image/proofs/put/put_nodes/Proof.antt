@@ -1,5 +1,4 @@
--- `image::put_nodes` meets its contract: a turn puts one node more (`Puts`).
--- Assumes nothing.
+-- `image::put::put_nodes` meets its contract: a turn puts one node more (`Puts`).
 use Prim.Native.Nat.{_-_}
 use denote.Ref.{now}
 use Rattle.spec_tables.proofs.Runs.{Puts, puts-start, puts-more, puts-end}

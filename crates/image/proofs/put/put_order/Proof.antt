@@ -1,5 +1,4 @@
--- `image::put_order` meets its contract: a header, and the entries behind it.
--- Assumes nothing.
+-- `image::put::put_order` meets its contract: a header, and the entries behind it.
 use Prim.Native.Nat.{_*_}
 use native.Mathlib.Omega.{arith}
 use lib.ListN.{length}

@@ -1,5 +1,4 @@
--- `image::put_settings` meets its contract: a header, and four numbers behind it.
--- Assumes nothing.
+-- `image::put::put_settings` meets its contract: a header, and four numbers behind it.
 use native.Mathlib.Omega.{arith}
 use Rattle.spec_tables.proofs.Tables.{put-then}
 use Rattle.spec_records.specs.Layouts.{version1}

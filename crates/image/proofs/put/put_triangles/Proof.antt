@@ -1,5 +1,4 @@
--- `image::put_triangles` meets its contract: a header, and the numbers behind it.
--- Assumes nothing.
+-- `image::put::put_triangles` meets its contract: a header, and the numbers behind it.
 use Prim.Native.Nat.{_*_}
 use native.Mathlib.Omega.{arith}
 use lib.ListN.{length}

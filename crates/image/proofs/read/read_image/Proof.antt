@@ -1,5 +1,4 @@
--- `image::read_image` meets its contract: the layout, then the room, then the lists.
--- Assumes nothing.
+-- `image::read::read_image` meets its contract: the layout, then the room, then the lists.
 use mathlib.Core.Path.{sym, _∙_}
 use native.Mathlib.Omega.{arith}
 use denote.Ref.{now}

@@ -1,5 +1,4 @@
--- `image::image_room_refusal` meets its contract: it refuses where the room is short.
--- Assumes nothing.
+-- `image::size::image_room_refusal` meets its contract: it refuses where the room is short.
 use Rattle.spec_lists.specs.Refusals.{roomRefusal}
 use borrow.Author.Needs.{needs}
 use Rattle.image.proofs.size.image_room_refusal.Statement.{statement}

@@ -1,5 +1,4 @@
--- `image::write_image` meets its contract: the tests, then the image.
--- Assumes nothing.
+-- `image::write::write_image` meets its contract: the tests, then the image.
 use denote.Ref.{now}
 use Rattle.image.specs.Values.{imageFrom}
 use Rattle.image.proofs.Wrote.{wrote-nothing, can-put, wrote-image}

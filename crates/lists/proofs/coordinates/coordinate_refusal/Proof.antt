@@ -1,5 +1,4 @@
--- `lists::coordinate_refusal` meets its contract: what `first_bad` and `refused_if` ensure.
--- Assumes nothing.
+-- `lists::coordinates::coordinate_refusal` meets its contract: what `first_bad` and `refused_if` ensure.
 use Rattle.spec_lists.specs.Refusals.{coordinateRefusal}
 use borrow.Author.Needs.{needs}
 use Rattle.lists.proofs.coordinates.coordinate_refusal.Statement.{statement}

@@ -1,5 +1,4 @@
--- `lists::first_bad` meets its contract. The invariant: the index, and how many good numbers there are from there on, give the answer.
--- Assumes nothing.
+-- `lists::coordinates::first_bad` meets its contract. The invariant: the answer is the index and the number of coordinates from there on.
 use mathlib.Core.Path.{_≡_, sym, _∙_}
 use Prim.Native.Nat.{_+_, _-_}
 use native.Mathlib.Omega.{arith}

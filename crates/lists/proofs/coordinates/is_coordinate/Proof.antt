@@ -1,5 +1,4 @@
--- `lists::is_coordinate` meets its contract: the program's numbers are the limit and its opposite.
--- Assumes nothing.
+-- `lists::coordinates::is_coordinate` meets its contract: the program's numbers are the limit and its opposite.
 use lib.Ieee.{ofBits, neg}
 use Rattle.spec_lists.specs.Refusals.{isCoordinate}
 use borrow.Author.Needs.{needs}

@@ -1,5 +1,4 @@
--- `lists::box_at` meets its contract: what `triangle_at` and `bbox` ensure.
--- Assumes nothing.
+-- `lists::reading::box_at` meets its contract: what `triangle_at` and `bbox` ensure.
 use Rattle.spec_lists.specs.Reading.{boxAt}
 use borrow.Author.Needs.{needs}
 use Rattle.lists.proofs.reading.box_at.Statement.{statement}

@@ -1,5 +1,4 @@
--- `lists::number_at` meets its contract: what `plus_zero` ensures.
--- Assumes nothing.
+-- `lists::reading::number_at` meets its contract: what `plus_zero` ensures.
 use Rattle.spec_lists.specs.Reading.{numberAt}
 use borrow.Author.Needs.{needs}
 use Rattle.lists.proofs.reading.number_at.Statement.{statement}

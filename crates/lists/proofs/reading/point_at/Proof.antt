@@ -1,5 +1,4 @@
--- `lists::point_at` meets its contract: what `number_at` ensures, on each axis.
--- Assumes nothing.
+-- `lists::reading::point_at` meets its contract: what `number_at` ensures, on each axis.
 use Rattle.spec_lists.specs.Reading.{pointAt}
 use borrow.Author.Needs.{needs}
 use Rattle.lists.proofs.reading.point_at.Statement.{statement}

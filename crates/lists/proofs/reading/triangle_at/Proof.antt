@@ -1,5 +1,4 @@
--- `lists::triangle_at` meets its contract: what `point_at` ensures, of each corner.
--- Assumes nothing.
+-- `lists::reading::triangle_at` meets its contract: what `point_at` ensures, of each corner.
 use Rattle.spec_lists.specs.Reading.{triangleAt}
 use borrow.Author.Needs.{needs}
 use Rattle.lists.proofs.reading.triangle_at.Statement.{statement}

@@ -1,5 +1,4 @@
--- `lists::are_settings` meets its contract, which is its body.
--- Assumes nothing.
+-- `lists::settings::are_settings` meets its contract, which is its body.
 use mathlib.Core.Path.{refl}
 use Rattle.spec_lists.specs.Refusals.{areSettings}
 use Rattle.lists.proofs.settings.are_settings.Statement.{statement}

@@ -1,5 +1,4 @@
--- `lists::settings_refusal` meets its contract: what `are_settings` and `refused_if` ensure.
--- Assumes nothing.
+-- `lists::settings::settings_refusal` meets its contract: what `are_settings` and `refused_if` ensure.
 use Rattle.spec_lists.specs.Refusals.{settingsRefusal}
 use borrow.Author.Needs.{needs}
 use Rattle.lists.proofs.settings.settings_refusal.Statement.{statement}

@@ -1,5 +1,4 @@
--- `lists::distance_refusal` meets its contract: what `is_within` and `refused_if` ensure.
--- Assumes nothing.
+-- `lists::tests::distance_refusal` meets its contract: what `is_within` and `refused_if` ensure.
 use lib.Ieee.{ofBits}
 use Rattle.spec_lists.specs.Refusals.{isDistance, distanceRefusal}
 use borrow.Author.Needs.{needs}

@@ -1,5 +1,4 @@
--- `lists::none_refusal` meets its contract: what `triangle_count` and `refused_if` ensure.
--- Assumes nothing.
+-- `lists::tests::none_refusal` meets its contract: what `triangle_count` and `refused_if` ensure.
 use Rattle.spec_lists.specs.Refusals.{noneRefusal}
 use borrow.Author.Needs.{needs}
 use Rattle.lists.proofs.tests.none_refusal.Statement.{statement}

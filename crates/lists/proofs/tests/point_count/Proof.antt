@@ -1,5 +1,4 @@
--- `lists::point_count` meets its contract, which is its body.
--- Assumes nothing.
+-- `lists::tests::point_count` meets its contract, which is its body.
 use mathlib.Core.Path.{refl}
 use Rattle.spec_lists.specs.Reading.{pointCount}
 use Rattle.lists.proofs.tests.point_count.Statement.{statement}

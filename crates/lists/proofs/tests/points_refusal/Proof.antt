@@ -1,4 +1,4 @@
--- `lists::points_refusal` meets its contract: two tests in a row.
+-- `lists::tests::points_refusal` meets its contract: two tests in a row.
 use Rattle.spec_lists.specs.Refusals.{pointsRefusal}
 use Rattle.spec_lists.proofs.Verdicts.{ends, or-test}
 use borrow.Author.Needs.{needs}

@@ -1,5 +1,4 @@
--- `lists::ragged_refusal` meets its contract: what `refused_if` ensures.
--- Assumes nothing.
+-- `lists::tests::ragged_refusal` meets its contract: what `refused_if` ensures.
 use Rattle.spec_lists.specs.Refusals.{raggedRefusal}
 use borrow.Author.Needs.{needs}
 use Rattle.lists.proofs.tests.ragged_refusal.Statement.{statement}

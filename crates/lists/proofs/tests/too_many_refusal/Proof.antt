@@ -1,5 +1,4 @@
--- `lists::too_many_refusal` meets its contract: what `triangle_count` and `refused_if` ensure.
--- Assumes nothing.
+-- `lists::tests::too_many_refusal` meets its contract: what `triangle_count` and `refused_if` ensure.
 use Rattle.spec_lists.specs.Refusals.{tooManyRefusal}
 use borrow.Author.Needs.{needs}
 use Rattle.lists.proofs.tests.too_many_refusal.Statement.{statement}

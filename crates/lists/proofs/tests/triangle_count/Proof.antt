@@ -1,5 +1,4 @@
--- `lists::triangle_count` meets its contract, which is its body.
--- Assumes nothing.
+-- `lists::tests::triangle_count` meets its contract, which is its body.
 use mathlib.Core.Path.{refl}
 use Rattle.spec_lists.specs.Reading.{triangleCount}
 use Rattle.lists.proofs.tests.triangle_count.Statement.{statement}

@@ -1,4 +1,4 @@
--- `lists::triangles_refusal` meets its contract: what the length says, and then the coordinates.
+-- `lists::tests::triangles_refusal` meets its contract: the tests of the length, then that of the coordinates.
 use Rattle.spec_lists.specs.Refusals.{trianglesRefusal}
 use Rattle.spec_lists.proofs.Verdicts.{ends, or-test, row-stops, row-goes-on}
 use borrow.Author.Needs.{needs}

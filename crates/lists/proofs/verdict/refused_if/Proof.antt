@@ -1,5 +1,4 @@
--- `lists::refused_if` meets its contract: each arm answers what the flag picks.
--- Assumes nothing.
+-- `lists::verdict::refused_if` meets its contract: each arm answers what the flag picks.
 use Rattle.lists.proofs.verdict.refused_if.Statement.{statement}
 use Rattle.lists.proofs.verdict.refused_if.Tie as tie
 

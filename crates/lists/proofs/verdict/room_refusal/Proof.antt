@@ -1,5 +1,4 @@
--- `lists::room_refusal` meets its contract: what `refused_if` ensures.
--- Assumes nothing.
+-- `lists::verdict::room_refusal` meets its contract: what `refused_if` ensures.
 use Rattle.spec_lists.specs.Refusals.{roomRefusal}
 use borrow.Author.Needs.{needs}
 use Rattle.lists.proofs.verdict.room_refusal.Statement.{statement}

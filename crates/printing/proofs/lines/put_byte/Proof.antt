@@ -1,5 +1,4 @@
--- `printing::put_byte` meets its contract: one store.
--- Assumes nothing.
+-- `printing::lines::put_byte` meets its contract: one store.
 use mathlib.Core.Path.{refl}
 use native.Mathlib.Omega.{arith}
 use denote.Ref.{now}

@@ -1,5 +1,4 @@
--- `printing::put_word` meets its contract: a turn stores one byte more (`Run`).
--- Assumes nothing.
+-- `printing::lines::put_word` meets its contract: a turn stores one byte more (`Run`).
 use mathlib.Core.Path.{refl}
 use mathlib.Core.List.{[], _∷_}
 use Prim.Native.Nat.{_-_}

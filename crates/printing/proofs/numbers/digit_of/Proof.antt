@@ -1,5 +1,4 @@
--- `printing::digit_of` meets its contract, by the two cases of `digit`.
--- Assumes nothing.
+-- `printing::numbers::digit_of` meets its contract, by the two cases of `digit`.
 use mathlib.Core.Path.{sym}
 use Rattle.spec_printing.proofs.Numbers.{digit-low, digit-high}
 use borrow.Author.Needs.{needs}

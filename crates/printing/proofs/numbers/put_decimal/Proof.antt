@@ -1,5 +1,4 @@
--- `printing::put_decimal` meets its contract: as many digits as the number has.
--- Assumes nothing.
+-- `printing::numbers::put_decimal` meets its contract: as many digits as the number has.
 use mathlib.Core.Path.{ap}
 use Prim.Native.Nat.{ℕ}
 use native.Mathlib.Omega.{arith}

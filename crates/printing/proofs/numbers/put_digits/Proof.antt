@@ -1,5 +1,4 @@
--- `printing::put_digits` meets its contract: a turn stores one digit more, right in front of the others (`Backwards`).
--- Assumes nothing.
+-- `printing::numbers::put_digits` meets its contract: a turn stores one digit more, right in front of the others (`Backwards`).
 use mathlib.Core.Path.{refl}
 use native.Mathlib.Omega.{arith}
 use Prim.Native.Nat.{_-_}

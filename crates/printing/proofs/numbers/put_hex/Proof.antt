@@ -1,5 +1,4 @@
--- `printing::put_hex` meets its contract: eight digits.
--- Assumes nothing.
+-- `printing::numbers::put_hex` meets its contract: eight digits.
 use native.Mathlib.Omega.{arith}
 use Rattle.spec_printing.specs.Printed.{hex}
 use borrow.Author.Needs.{needs}

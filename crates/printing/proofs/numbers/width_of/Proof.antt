@@ -1,5 +1,4 @@
--- `printing::width_of` meets its contract: what was counted, and the width of what is left, are one more than the width.
--- Assumes nothing.
+-- `printing::numbers::width_of` meets its contract: what was counted, and the width of what is left, are one more than the width.
 use mathlib.Core.Path.{_≡_}
 use Prim.Native.Nat.{_+_}
 use native.Mathlib.Omega.{arith}

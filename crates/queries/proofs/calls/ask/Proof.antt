@@ -1,5 +1,4 @@
--- `queries::ask` meets its contract: a refusal leaves the answers as they were, and where there is none each point's are written.
--- Assumes nothing.
+-- `queries::calls::ask` meets its contract: a refusal leaves the answers as they were, and otherwise those of each point are written.
 use mathlib.Core.Path.{_∙_, sym}
 use lib.Ieee.{binary32}
 use lib.ListN.{length}

@@ -1,5 +1,4 @@
--- `queries::put_answers` meets its contract. The invariant: the first k answers stand at the front of the list.
--- Assumes nothing.
+-- `queries::calls::put_answers` meets its contract. The invariant: the first k answers stand at the front of the list.
 use mathlib.Core.Path.{ap, _∙_}
 use Prim.Native.Nat.{_-_}
 use native.Mathlib.Omega.{arith}

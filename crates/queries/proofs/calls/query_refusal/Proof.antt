@@ -1,4 +1,4 @@
--- `queries::query_refusal` meets its contract: two tests, then, over triangles that passed, three more.
+-- `queries::calls::query_refusal` meets its contract: two tests and then, for triangles that passed, three more.
 use Rattle.spec_lists.proofs.Verdicts.{ends, or-test, row-stops, row-goes-on, row-passed}
 use Rattle.spec_lists.proofs.Passed.{triangles-passed}
 use Rattle.spec_search.specs.Calls.{queryRefusal}

@@ -1,5 +1,4 @@
--- `queries::answer_at` meets its contract: the sure walk's answer is the scan's, the source walk's its own.
--- Assumes nothing.
+-- `queries::query::answer_at` meets its contract: the sure walk's answer is the scan's, the source walk's its own.
 use mathlib.Core.Path.{ap, _∙_}
 use lib.Ieee.{binary32}
 use Rattle.spec_search.specs.Answers.{Answer}

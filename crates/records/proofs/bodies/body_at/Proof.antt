@@ -1,5 +1,4 @@
--- `records::body_at` meets its contract: each test is one of those of `isRecord`.
--- Assumes nothing.
+-- `records::bodies::body_at` meets its contract: each test is one of those of `isRecord`.
 use mathlib.Core.Path.{sym, _∙_}
 use native.Mathlib.Omega.{arith}
 use denote.Ref.{now}

@@ -1,5 +1,4 @@
--- `records::has_body` meets its contract: of a record that is there its size decides.
--- Assumes nothing.
+-- `records::bodies::has_body` meets its contract: of a record that is there its size decides.
 use mathlib.Core.Path.{sym}
 use denote.Ref.{now}
 use Rattle.spec_records.specs.Records.{exactly}

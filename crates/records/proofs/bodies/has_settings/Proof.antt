@@ -1,5 +1,4 @@
--- `records::has_settings` meets its contract: of settings of the right size the version decides.
--- Assumes nothing.
+-- `records::bodies::has_settings` meets its contract: of settings of the right size the version decides.
 use mathlib.Core.Path.{sym, ap, _∙_}
 use Prim.Native.Nat.{ℕ}
 use native.Mathlib.Omega.{arith}

@@ -1,5 +1,4 @@
--- `records::read_f32s` meets its contract: a turn stores one entry more (`Run`).
--- Assumes nothing.
+-- `records::entries::read_f32s` meets its contract: a turn stores one entry more (`Run`).
 use mathlib.Core.Path.{ap, _∙_}
 use mathlib.Core.List.{List, [], _∷_}
 use Prim.Native.Nat.{ℕ, _+_, _-_, _*_}

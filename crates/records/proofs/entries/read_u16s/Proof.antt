@@ -1,5 +1,4 @@
--- `records::read_u16s` meets its contract: a turn stores one entry more (`Run`).
--- Assumes nothing.
+-- `records::entries::read_u16s` meets its contract: a turn stores one entry more (`Run`).
 use mathlib.Core.List.{List, [], _∷_}
 use Prim.Native.Nat.{ℕ, _+_, _-_, _*_}
 use denote.Ref.{now}

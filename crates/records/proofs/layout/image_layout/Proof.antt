@@ -1,5 +1,4 @@
--- `records::image_layout` meets its contract: each way out is a place that was reached (`Reached`).
--- Assumes nothing.
+-- `records::layout::image_layout` meets its contract: each way out is a place that was reached (`Reached`).
 use mathlib.Core.Path.{sym, ap, _∙_}
 use native.Mathlib.Omega.{arith}
 use borrow.Author.Tests.{not-true, not-false}

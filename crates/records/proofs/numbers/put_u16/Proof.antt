@@ -1,5 +1,4 @@
--- `records::put_u16` meets its contract: two stores, one behind the other.
--- Assumes nothing.
+-- `records::numbers::put_u16` meets its contract: two stores, one behind the other.
 use native.Mathlib.Omega.{arith}
 use mathlib.Core.Path.{refl}
 use lib.ListN.{length-set}

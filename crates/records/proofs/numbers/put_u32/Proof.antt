@@ -1,5 +1,4 @@
--- `records::put_u32` meets its contract: two bytes, and two behind them.
--- Assumes nothing.
+-- `records::numbers::put_u32` meets its contract: two bytes, and two behind them.
 use native.Mathlib.Omega.{arith}
 use Rattle.spec_records.proofs.Little.{four-put}
 use borrow.Author.Needs.{needs}

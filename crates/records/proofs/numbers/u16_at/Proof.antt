@@ -1,5 +1,4 @@
--- `records::u16_at` meets its contract: the two bytes, the upper one times 256.
--- Assumes nothing.
+-- `records::numbers::u16_at` meets its contract: the two bytes, the upper one times 256.
 use native.Mathlib.Omega.{arith}
 use mathlib.Core.Path.{_≡_}
 use denote.Ref.{now}

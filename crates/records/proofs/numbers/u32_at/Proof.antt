@@ -1,5 +1,4 @@
--- `records::u32_at` meets its contract: two numbers of two bytes, the upper one times 65,536.
--- Assumes nothing.
+-- `records::numbers::u32_at` meets its contract: two numbers of two bytes, the upper one times 65,536.
 use native.Mathlib.Omega.{arith}
 use denote.Ref.{now}
 use Rattle.spec_records.proofs.Little.{four-at}

@@ -1,5 +1,4 @@
--- `shapes::offset_on` meets its contract: each arm returns what the test picks.
--- Assumes nothing.
+-- `shapes::box3::offset_on` meets its contract: each arm returns what the test picks.
 use Rattle.spec_shapes.specs.Boxes.{offsetOn}
 use Rattle.shapes.proofs.box3.offset_on.Statement.{statement}
 use Rattle.shapes.proofs.box3.offset_on.Tie as tie

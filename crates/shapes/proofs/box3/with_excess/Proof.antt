@@ -1,5 +1,4 @@
--- `shapes::with_excess` meets its contract: each arm returns what the test picks.
--- Assumes nothing.
+-- `shapes::box3::with_excess` meets its contract: each arm returns what the test picks.
 use Rattle.spec_shapes.specs.Boxes.{withExcess}
 use Rattle.shapes.proofs.box3.with_excess.Statement.{statement}
 use Rattle.shapes.proofs.box3.with_excess.Tie as tie

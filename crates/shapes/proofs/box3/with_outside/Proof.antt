@@ -1,5 +1,4 @@
--- `shapes::with_outside` meets its contract: what `with_excess` ensures, twice.
--- Assumes nothing.
+-- `shapes::box3::with_outside` meets its contract: what `with_excess` ensures, twice.
 use Rattle.spec_shapes.specs.Boxes.{withOutside}
 use borrow.Author.Needs.{needs}
 use Rattle.shapes.proofs.box3.with_outside.Statement.{statement}

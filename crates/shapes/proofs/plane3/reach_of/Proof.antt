@@ -1,5 +1,4 @@
--- `shapes::reach_of` meets its contract: what `absolute` ensures, on each axis.
--- Assumes nothing.
+-- `shapes::plane3::reach_of` meets its contract: what `absolute` ensures, on each axis.
 use Rattle.spec_shapes.specs.Planes.{reach}
 use borrow.Author.Needs.{needs}
 use Rattle.shapes.proofs.plane3.reach_of.Statement.{statement}

@@ -1,5 +1,4 @@
--- `shapes::unit_of` meets its contract, in each arm.
--- Assumes nothing.
+-- `shapes::plane3::unit_of` meets its contract, in each arm.
 use lib.Ieee.{ofBits}
 use Rattle.spec_shapes.specs.Planes.{unit}
 use borrow.Author.Needs.{needs}

@@ -1,5 +1,4 @@
--- `shapes::along` meets its contract: what `scale` and then `plus` ensure.
--- Assumes nothing.
+-- `shapes::triangle3::along` meets its contract: what `scale` and then `plus` ensure.
 use Rattle.spec_shapes.specs.Triangles.{along}
 use borrow.Author.Needs.{needs}
 use Rattle.shapes.proofs.triangle3.along.Statement.{statement}

@@ -1,5 +1,4 @@
--- `shapes::crossed` meets its contract.
--- Assumes nothing.
+-- `shapes::triangle3::crossed` meets its contract.
 use mathlib.Core.Path.{refl}
 use Rattle.spec_shapes.specs.Triangles.{crossed}
 use Rattle.shapes.proofs.triangle3.crossed.Statement.{statement}

@@ -1,5 +1,4 @@
--- `shapes::finite_or` meets its contract: each arm returns what the test picks.
--- Assumes nothing.
+-- `shapes::triangle3::finite_or` meets its contract: each arm returns what the test picks.
 use Rattle.spec_shapes.specs.Triangles.{finiteOr}
 use borrow.Author.Needs.{needs}
 use Rattle.shapes.proofs.triangle3.finite_or.Statement.{statement}

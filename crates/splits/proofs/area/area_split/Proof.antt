@@ -1,6 +1,5 @@
--- `splits::area_split` meets its contract: what each call ensures, put in. The buckets' counts are small, since the part is short, and their
--- boxes plain, since the triangles' are.
--- Assumes nothing.
+-- `splits::area::area_split` meets its contract: what each call ensures, put in.
+-- The counts of the buckets are small, since the slice is short, and their boxes plain, since the triangles' are.
 use lib.ListN.{length-map}
 use lib.Ieee.{binary32}
 use Rattle.shapes.specs.Values.{asAxis}

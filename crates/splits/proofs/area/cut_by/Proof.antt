@@ -1,5 +1,4 @@
--- `splits::cut_by` meets its contract: each arm returns what the test picks.
--- Assumes nothing.
+-- `splits::area::cut_by` meets its contract: each arm returns what the test picks.
 use lib.ListN.{length-map}
 use Rattle.spec_splits.specs.Area.{cutBy}
 use borrow.Author.Needs.{needs}

@@ -1,5 +1,4 @@
--- `splits::first_later` meets its contract. The invariant: looking on from here gives what looking from the start gives.
--- Assumes nothing.
+-- `splits::area::first_later` meets its contract. The invariant: what remains gives the answer of the whole slice.
 use mathlib.Core.Path.{_≡_, refl, sym, ap, _∙_}
 use Prim.Native.Nat.{_-_}
 use native.Mathlib.Omega.{arith}

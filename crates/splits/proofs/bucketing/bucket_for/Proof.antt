@@ -1,5 +1,4 @@
--- `splits::bucket_for` meets its contract, by the two tests.
--- Assumes nothing.
+-- `splits::bucketing::bucket_for` meets its contract, by the two tests.
 use mathlib.Core.Path.{_∙_}
 use lib.Ieee.{ofBits, mul, binary32}
 use Rattle.spec_numbers.proofs.Tests.{passed, failed}

@@ -1,5 +1,4 @@
--- `splits::bucket_of` meets its contract: what each call ensures, put in.
--- Assumes nothing.
+-- `splits::bucketing::bucket_of` meets its contract: what each call ensures, put in.
 use Rattle.spec_splits.specs.Area.{bucketBetween}
 use borrow.Author.Needs.{needs}
 use Rattle.splits.proofs.bucketing.bucket_of.Statement.{statement}

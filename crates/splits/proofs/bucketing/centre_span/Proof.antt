@@ -1,5 +1,5 @@
--- `splits::centre_span` meets its contract. The invariant: going on from the two ends with the centres that are left gives what the whole part gives.
--- Assumes nothing.
+-- `splits::bucketing::centre_span` meets its contract.
+-- The invariant: from the two ends so far, the centres that remain give the ends of the whole slice.
 use mathlib.Core.Path.{_≡_, refl, ap, _∙_}
 use mathlib.Core.List.{foldl}
 use Prim.Native.Nat.{_-_}

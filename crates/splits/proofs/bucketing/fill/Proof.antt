@@ -1,5 +1,5 @@
--- `splits::fill` meets its contract. The invariant: putting the boxes that are left into the buckets as they are gives what the whole part gives; and no count is above the number put.
--- Assumes nothing.
+-- `splits::bucketing::fill` meets its contract.
+-- The invariant: the boxes that remain, put into the buckets as they are, give what the whole slice gives, and no count exceeds the boxes put.
 use Prim.Native.Nat.{_-_}
 use native.Mathlib.Omega.{arith}
 use borrow.Author.Needs.{needs}

@@ -1,5 +1,4 @@
--- `splits::cheapest_of` meets its contract. The invariant: going through the costs that are left, from the best now, gives what all give.
--- Assumes nothing.
+-- `splits::costs::cheapest_of` meets its contract. The invariant: the costs that remain, from the best so far, give what all give.
 use mathlib.Core.Path.{_≡_, ap}
 use mathlib.Core.List.{foldl}
 use Prim.Native.Nat.{_-_, _≤_}

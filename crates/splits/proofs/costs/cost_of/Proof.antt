@@ -1,5 +1,4 @@
--- `splits::cost_of` meets its contract: infinite where a side is empty, and else the weights over the parent's area.
--- Assumes nothing.
+-- `splits::costs::cost_of` meets its contract: infinite where a side is empty, else the weights over the area of the parent.
 use lib.Ieee.{ofBits, div}
 use Rattle.spec_splits.specs.Area.{cost}
 use borrow.Author.Needs.{needs}

@@ -1,5 +1,4 @@
--- `splits::costs_of` meets its contract. The invariant: `left` is the side before bucket i, and the costs stored so far are those of the cuts.
--- Assumes nothing.
+-- `splits::costs::costs_of` meets its contract. The invariant: `left` is the side before bucket i, and the costs stored so far are those of the cuts.
 use mathlib.Core.Path.{_≡_, refl, sym, ap, _∙_}
 use mathlib.Core.List.{List}
 use Prim.Native.Nat.{ℕ, _+_, _-_, _<_}

@@ -1,5 +1,4 @@
--- `splits::right_sides` meets its contract. The invariant: `right` is the side behind bucket i, and the sides from there on are stored.
--- Assumes nothing.
+-- `splits::costs::right_sides` meets its contract. The invariant: `right` is the side behind bucket i, and the sides from there on are stored.
 use mathlib.Core.Path.{_≡_}
 use Prim.Native.Nat.{_-_}
 use native.Mathlib.Omega.{arith}

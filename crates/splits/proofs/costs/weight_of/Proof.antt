@@ -1,5 +1,4 @@
--- `splits::weight_of` meets its contract: what the two calls ensure.
--- Assumes nothing.
+-- `splits::costs::weight_of` meets its contract: what the two calls ensure.
 use Rattle.spec_splits.specs.Area.{weight}
 use borrow.Author.Needs.{needs}
 use Rattle.splits.proofs.costs.weight_of.Statement.{statement}

@@ -1,5 +1,4 @@
--- `splits::all_meet` meets its contract. The invariant: asking the boxes that are left gives what asking the whole part gives.
--- Assumes nothing.
+-- `splits::median::all_meet` meets its contract. The invariant: the boxes that remain give the answer of the whole slice.
 use mathlib.Core.Path.{_≡_, refl, sym, ap, _∙_}
 use Prim.Native.Nat.{_-_}
 use native.Mathlib.Omega.{arith}

@@ -1,5 +1,4 @@
--- `splits::all_meet_at` meets its contract: what each call ensures, put in. The two neighbours are the list's.
--- Assumes nothing.
+-- `splits::median::all_meet_at` meets its contract: what each call ensures, put in. The two neighbours are the list's.
 use Prim.Native.Nat.{_-_}
 use native.Mathlib.Omega.{arith}
 use lib.Ieee.{binary32}

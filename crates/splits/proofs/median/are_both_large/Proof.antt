@@ -1,5 +1,4 @@
--- `splits::are_both_large` meets its contract: what `is_large` ensures of each half.
--- Assumes nothing.
+-- `splits::median::are_both_large` meets its contract: what `is_large` ensures of each half.
 use mathlib.Core.Path.{sym, _∙_}
 use native.Mathlib.Omega.{arith}
 use lib.ListN.{length-take, length-drop}

@@ -1,5 +1,4 @@
--- `splits::is_large` meets its contract: what each call ensures, put in.
--- Assumes nothing.
+-- `splits::median::is_large` meets its contract: what each call ensures, put in.
 use lib.Ieee.{ofBits, div}
 use Rattle.spec_splits.specs.Median.{isLarge}
 use borrow.Author.Needs.{needs}

@@ -1,5 +1,4 @@
--- `splits::median_split` meets its contract: at each return the tests before have failed and this one has passed.
--- Assumes nothing.
+-- `splits::median::median_split` meets its contract: at each return the tests before have failed and this one has passed.
 use native.Mathlib.Omega.{arith}
 use lib.ListN.{length-map}
 use Rattle.spec_splits.specs.Median.{medianSplit}

@@ -1,5 +1,4 @@
--- `splits::plane_between` meets its contract: what each call ensures, put in.
--- Assumes nothing.
+-- `splits::median::plane_between` meets its contract: what each call ensures, put in.
 use lib.Ieee.{ofBits}
 use Rattle.spec_splits.specs.Median.{planeBetween}
 use borrow.Author.Needs.{needs}

@@ -1,5 +1,4 @@
--- `splits::box_at` meets its contract: what `point_at` ensures of each corner.
--- Assumes nothing.
+-- `splits::table::box_at` meets its contract: what `point_at` ensures of each corner.
 use Rattle.spec_splits.specs.Splits.{boxIn}
 use borrow.Author.Needs.{needs}
 use Rattle.splits.proofs.table.box_at.Statement.{statement}

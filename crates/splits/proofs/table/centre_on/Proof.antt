@@ -1,5 +1,4 @@
--- `splits::centre_on` meets its contract: the two numbers of the axis stand at its place in the box.
--- Assumes nothing.
+-- `splits::table::centre_on` meets its contract: the two numbers of the axis stand at its place in the box.
 use native.Mathlib.Omega.{arith}
 use lib.Ieee.{binary32, ofBits}
 use Rattle.shapes.specs.Values.{asAxis}

@@ -1,5 +1,4 @@
--- `splits::union_of` meets its contract. The invariant: joining the boxes that are left, from what is joined now, gives what the whole part gives.
--- Assumes nothing.
+-- `splits::table::union_of` meets its contract. The invariant: the boxes that remain, joined to the box so far, give the union of the whole slice.
 use mathlib.Core.Path.{_≡_, ap, _∙_}
 use mathlib.Core.List.{foldl}
 use Prim.Native.Nat.{_-_}

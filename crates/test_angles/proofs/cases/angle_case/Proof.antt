@@ -1,4 +1,4 @@
--- `replay_angles::cases::angle_case` meets its contract. Assumes nothing.
+-- `test_angles::cases::angle_case` meets its contract.
 use Rattle.test_angles.specs.Cases.{angleCase}
 use borrow.Author.Needs.{needs}
 use Rattle.test_angles.proofs.cases.angle_case.Statement.{statement}

@@ -1,4 +1,4 @@
--- `replay_angles::cases::case_at` meets its contract: its tests are those of the definition. Assumes nothing.
+-- `test_angles::cases::case_at` meets its contract: its tests are those of the definition.
 use borrow.Author.Tests.{eq-eqb, ne-eqb}
 use Rattle.test_angles.specs.Cases.{caseAt}
 use borrow.Author.Needs.{needs}

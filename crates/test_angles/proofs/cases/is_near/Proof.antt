@@ -1,4 +1,4 @@
--- `replay_angles::cases::is_near` meets its contract. Assumes nothing.
+-- `test_angles::cases::is_near` meets its contract.
 use Rattle.test_angles.specs.Cases.{near}
 use borrow.Author.Needs.{needs}
 use Rattle.test_angles.proofs.cases.is_near.Statement.{statement}

@@ -1,4 +1,4 @@
--- `replay_angles::cases::is_near_units` meets its contract. Assumes nothing.
+-- `test_angles::cases::is_near_units` meets its contract.
 use mathlib.Core.Path.{_≡_}
 use mathlib.Core.Bool.{false, _&&_}
 use Prim.Native.Nat.{ℕ, _+_, _/_, _≤_, _<_}

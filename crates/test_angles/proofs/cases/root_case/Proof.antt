@@ -1,4 +1,4 @@
--- `replay_angles::cases::root_case` meets its contract. Assumes nothing.
+-- `test_angles::cases::root_case` meets its contract.
 use Rattle.test_angles.specs.Cases.{rootCase}
 use borrow.Author.Needs.{needs}
 use Rattle.test_angles.proofs.cases.root_case.Statement.{statement}

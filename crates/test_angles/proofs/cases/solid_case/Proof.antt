@@ -1,4 +1,4 @@
--- `replay_angles::cases::solid_case` meets its contract. Assumes nothing.
+-- `test_angles::cases::solid_case` meets its contract.
 use Rattle.test_angles.specs.Cases.{solidCase}
 use borrow.Author.Needs.{needs}
 use Rattle.test_angles.proofs.cases.solid_case.Statement.{statement}

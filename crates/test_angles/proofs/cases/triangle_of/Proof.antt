@@ -1,4 +1,4 @@
--- `replay_angles::cases::triangle_of` meets its contract, corner by corner. Assumes nothing.
+-- `test_angles::cases::triangle_of` meets its contract, corner by corner.
 use Rattle.test_angles.specs.Cases.{triangleOf}
 use borrow.Author.Needs.{needs}
 use Rattle.test_angles.proofs.cases.triangle_of.Statement.{statement}

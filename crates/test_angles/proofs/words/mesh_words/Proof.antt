@@ -1,4 +1,4 @@
--- `replay_angles::words::mesh_words` meets its contract. Assumes nothing.
+-- `test_angles::words::mesh_words` meets its contract.
 use Rattle.test_angles.specs.Words.{meshWords}
 use borrow.Author.Needs.{needs}
 use Rattle.test_angles.proofs.words.mesh_words.Statement.{statement}

@@ -1,4 +1,4 @@
--- `replay_angles::words::number_at` meets its contract. Assumes nothing.
+-- `test_angles::words::number_at` meets its contract.
 use Rattle.test_angles.specs.Words.{numberAt}
 use borrow.Author.Needs.{needs}
 use Rattle.test_angles.proofs.words.number_at.Statement.{statement}

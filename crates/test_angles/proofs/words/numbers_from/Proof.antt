@@ -1,5 +1,4 @@
--- `replay_angles::words::numbers_from` meets its contract. The invariant: the first i numbers stand in the array. The measure is how many are left.
--- Assumes nothing.
+-- `test_angles::words::numbers_from` meets its contract. The invariant: the first i numbers stand in the array. The measure is how many are left.
 use Prim.Native.Nat.{_-_}
 use mathlib.Core.List.{[], _∷_}
 use native.Mathlib.Omega.{arith}

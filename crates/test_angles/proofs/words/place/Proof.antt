@@ -1,5 +1,4 @@
--- `replay_angles::words::place` meets its contract: the product of two numbers below 2 ^ 14 is below 2 ^ 28.
--- Assumes nothing.
+-- `test_angles::words::place` meets its contract: the product of two numbers below 2 ^ 14 is below 2 ^ 28.
 use mathlib.Core.Path.{_≡_}
 use mathlib.Core.Bool.{true, _&&_}
 use Prim.Native.Nat.{ℕ, _*_, _<_, _≤_}

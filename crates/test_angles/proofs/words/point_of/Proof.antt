@@ -1,4 +1,4 @@
--- `replay_angles::words::point_of` meets its contract. Assumes nothing.
+-- `test_angles::words::point_of` meets its contract.
 use Rattle.test_angles.specs.Words.{pointAt}
 use borrow.Author.Needs.{needs}
 use Rattle.test_angles.proofs.words.point_of.Statement.{statement}

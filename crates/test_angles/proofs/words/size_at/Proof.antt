@@ -1,4 +1,4 @@
--- `replay_angles::words::size_at` meets its contract. Assumes nothing.
+-- `test_angles::words::size_at` meets its contract.
 use mathlib.Core.Path.{_≡_}
 use mathlib.Core.Bool.{cond}
 use Prim.Native.Nat.{ℕ, _≤_, _<_}

@@ -1,4 +1,4 @@
--- `replay_angles::words::word_at` meets its contract: its test is that of the definition. Assumes nothing.
+-- `test_angles::words::word_at` meets its contract: its test is that of the definition.
 use borrow.Author.Needs.{needs}
 use borrow.Author.Tests.{lt-ltb, le-ltb}
 use Rattle.test_angles.specs.Words.{wordAt}

@@ -1,5 +1,4 @@
--- `build_run::large::fill` is safe and ends: the list keeps its length.
--- Assumes nothing.
+-- `test_build::large::fill` is safe and ends: the list keeps its length.
 use Prim.Native.Nat.{_≤_, _-_}
 use mathlib.Core.Path.{_≡_}
 use native.Mathlib.Omega.{arith}

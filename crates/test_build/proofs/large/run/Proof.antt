@@ -1,5 +1,4 @@
--- `build_run::large::run` is safe and ends: each part lies in its list.
--- Assumes nothing.
+-- `test_build::large::run` is safe and ends: each part lies in its list.
 use native.Mathlib.Omega.{arith}
 use lib.ListN.{length-take}
 use borrow.Author.Needs.{needs}

@@ -1,5 +1,4 @@
 -- `test_trees::Tally::floats` is safe and ends: it goes through the list.
--- Assumes nothing.
 use Prim.Native.Nat.{_≤_, _-_}
 use lib.ListN.{length}
 use borrow.Author.Needs.{needs}

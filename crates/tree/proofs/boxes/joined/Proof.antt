@@ -1,5 +1,4 @@
--- `tree::joined` meets its contract: before turn i the box is what joins with the rest to the whole.
--- Assumes nothing.
+-- `tree::boxes::joined` meets its contract: before turn i the box is what joins with the rest to the whole.
 use mathlib.Core.Path.{_≡_, ap, _∙_}
 use Prim.Native.Nat.{_-_}
 use native.Mathlib.Omega.{arith}

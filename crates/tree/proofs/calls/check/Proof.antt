@@ -1,5 +1,4 @@
--- `tree::check` meets its contract: the first of the two tests that refuses.
--- Assumes nothing.
+-- `tree::calls::check` meets its contract: the first of the two tests that refuses.
 use Rattle.spec_lists.proofs.Verdicts.{stops, goes-on, ends, did-pass}
 use Rattle.spec_lists.proofs.Passed.{triangles-passed}
 use Rattle.spec_tree.specs.Refusals.{checkRefusal}

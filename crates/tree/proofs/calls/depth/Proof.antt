@@ -1,4 +1,4 @@
--- `tree::depth` meets its contract: the refusal, or the depth of lists that pass.
+-- `tree::calls::depth` meets its contract: the refusal, or the depth of lists that pass.
 use mathlib.Core.Path.{sym, ap, _∙_}
 use native.Mathlib.Omega.{arith}
 use Rattle.lists.specs.Values.{asVerdict}

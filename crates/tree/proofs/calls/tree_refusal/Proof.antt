@@ -1,5 +1,4 @@
--- `tree::tree_refusal` meets its contract: it refuses where the check says no.
--- Assumes nothing.
+-- `tree::calls::tree_refusal` meets its contract: it refuses where the check says no.
 use mathlib.Core.Path.{ap, _∙_}
 use mathlib.Core.Bool.{Bool, not}
 use Rattle.spec_lists.specs.Refusals.{refusedIf}

@@ -1,5 +1,7 @@
--- The proof of the cycle of calls {check_left, check_node}: `check_node` calls itself and `check_left` at the levels less one, and `check_left` calls `check_node` at the same, so the measures are 2d and 2d + 1.
--- Each answer applies a law of the definitions' steps. Assumes nothing.
+-- `tree::check::check_left` and `tree::check::check_node` meet their contracts.
+-- `check_node` calls itself and `check_left` with one level less, and `check_left` calls `check_node` with the same levels,
+-- so the measures are 2d and
+-- 2d + 1. Each answer applies a law of `spec_tree` to one step of the check.
 use mathlib.Core.Path.{sym, ap, _∙_}
 use borrow.Author.Tests.{not-true, not-false}
 use Rattle.spec_tree.proofs.Steps.{node-none, node-leaf, node-neither, node-apart, node-goes-on}

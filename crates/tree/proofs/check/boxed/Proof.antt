@@ -1,5 +1,4 @@
--- `tree::boxed` meets its contract: the test of the node's box is the definition's.
--- Assumes nothing.
+-- `tree::check::boxed` meets its contract: the test of the node's box is the definition's.
 use mathlib.Core.Path.{sym, _∙_}
 use Rattle.spec_tree.specs.Accepted.{boxed}
 use borrow.Author.Needs.{needs}

@@ -1,5 +1,4 @@
--- `tree::check_leaf` meets its contract: its range is what the definition asks, and its box what `boxed` finds.
--- Assumes nothing.
+-- `tree::check::check_leaf` meets its contract: its range is the one that the definition requires, and its box what `boxed` finds.
 use mathlib.Core.Path.{sym, _∙_}
 use Prim.Native.Nat.{_-_}
 use Rattle.spec_tree.proofs.Steps.{part-some, part-entries, leaf-late, leaf-misses, leaf-fits}

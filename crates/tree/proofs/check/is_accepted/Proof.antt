@@ -1,5 +1,4 @@
--- `tree::is_accepted` meets its contract: the three tests in turn, the last a look from the root.
--- Assumes nothing.
+-- `tree::check::is_accepted` meets its contract: the three tests in turn, the last a look from the root.
 use mathlib.Core.Path.{sym, _∙_}
 use native.Mathlib.Omega.{arith}
 use borrow.Author.Tests.{not-true, not-false}

@@ -1,5 +1,4 @@
--- `tree::is_present` meets its contract: the two quotients say what the definition's products say.
--- Assumes nothing.
+-- `tree::check::is_present` meets its contract: the two quotients say what the definition's products say.
 use mathlib.Core.Path.{sym}
 use Rattle.spec_tree.proofs.Steps.{present-none, present-links, present-boxes}
 use Rattle.tree.proofs.check.is_present.Statement.{statement}

@@ -1,5 +1,4 @@
--- `tree::is_whole` meets its contract in both cases.
--- Assumes nothing.
+-- `tree::check::is_whole` meets its contract in both cases.
 use borrow.Author.Needs.{needs}
 use Rattle.tree.proofs.check.is_whole.Statement.{statement}
 use Rattle.tree.proofs.check.is_whole.Tie as tie

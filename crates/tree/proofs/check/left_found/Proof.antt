@@ -1,5 +1,4 @@
--- `tree::left_found` meets its contract: what `boxed` ensures of the union.
--- Assumes nothing.
+-- `tree::check::left_found` meets its contract: what `boxed` ensures of the union.
 use borrow.Author.Needs.{needs}
 use Rattle.tree.proofs.check.left_found.Statement.{statement}
 use Rattle.tree.proofs.check.left_found.Tie as tie

@@ -1,5 +1,4 @@
--- `tree::same_box` meets its contract: what `same_point` ensures of both corners.
--- Assumes nothing.
+-- `tree::check::same_box` meets its contract: what `same_point` ensures of both corners.
 use mathlib.Core.Bool.{_&&_}
 use Rattle.spec_tree.specs.Accepted.{sameBox}
 use borrow.Author.Needs.{needs}

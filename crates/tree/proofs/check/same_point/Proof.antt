@@ -1,5 +1,4 @@
--- `tree::same_point` meets its contract: what `same` ensures on each axis.
--- Assumes nothing.
+-- `tree::check::same_point` meets its contract: what `same` ensures on each axis.
 use mathlib.Core.Bool.{_&&_}
 use borrow.Author.Needs.{needs}
 use Rattle.tree.proofs.check.same_point.Statement.{statement}

@@ -1,4 +1,4 @@
--- The proof of `depth_at`, which calls itself with one level less to look at. Assumes nothing.
+-- `tree::depth::depth_at` meets its contract. The measure is the number of levels that it may look at.
 use mathlib.Core.Path.{sym, _∙_}
 use native.Mathlib.Omega.{arith}
 use Rattle.spec_tree.proofs.Depth.{depth-most, depth-none, depth-leaf, depth-branch, descends-left, descends-right}

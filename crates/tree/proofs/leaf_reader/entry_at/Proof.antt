@@ -1,5 +1,4 @@
--- `tree::entry_at` meets its contract: within the part the triangle's number, past its end nothing.
--- Assumes nothing.
+-- `tree::leaf_reader::entry_at` meets its contract: within the slice the triangle's number, past its end nothing.
 use borrow.Author.Tests.{lt-ltb, le-ltb}
 use borrow.Author.Needs.{needs}
 use Rattle.spec_tree.specs.Leaves.{entryAt}

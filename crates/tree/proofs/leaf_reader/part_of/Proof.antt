@@ -1,5 +1,4 @@
--- `tree::part_of` meets its contract: what of the part is there.
--- Assumes nothing.
+-- `tree::leaf_reader::part_of` meets its contract: what of the slice is there.
 use borrow.Author.Needs.{needs}
 use Rattle.tree.proofs.Parts.{part-there}
 use Rattle.tree.proofs.leaf_reader.part_of.Statement.{statement}

@@ -1,5 +1,4 @@
--- `tree::leaf` meets its contract: the refusal, or the k-th leaf of lists that pass.
--- Assumes nothing.
+-- `tree::leaves::leaf` meets its contract: the refusal, or the k-th leaf of lists that pass.
 use mathlib.Core.Path.{sym, ap, _∙_}
 use Rattle.lists.specs.Values.{asVerdict}
 use Rattle.spec_tree.proofs.Leaves.{passed-there, leaf-refused, leaf-sought}

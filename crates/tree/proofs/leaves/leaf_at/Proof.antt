@@ -1,5 +1,4 @@
--- `tree::leaf_at` meets its contract: each number and the box are what the reads ensure.
--- Assumes nothing.
+-- `tree::leaves::leaf_at` meets its contract: each number and the box are what the reads ensure.
 use Rattle.spec_tree.specs.Leaves as Leaves
 use borrow.Author.Needs.{needs}
 use Rattle.tree.proofs.leaves.leaf_at.Statement.{statement}

@@ -1,5 +1,4 @@
--- `tree::leaf_count` meets its contract. Before each node, what is counted and what is left to be counted are all leaves.
--- Assumes nothing.
+-- `tree::leaves::leaf_count` meets its contract. The invariant: the leaves counted and those that remain are all leaves.
 use mathlib.Core.Path.{sym, _∙_}
 use mathlib.Core.Logic.{⊎-elim}
 use Prim.Native.Nat.{_-_, _≤_}

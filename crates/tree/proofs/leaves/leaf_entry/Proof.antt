@@ -1,5 +1,4 @@
--- `tree::leaf_entry` meets its contract. It calls a function whose parameters are a plain slice and numbers, so it needs no walk by hand.
--- Assumes nothing.
+-- `tree::leaves::leaf_entry` meets its contract. It calls a function over a plain slice and numbers, so it needs no proof by hand.
 use mathlib.Core.Path.{sym, ap, _∙_}
 use Rattle.spec_tree.proofs.Leaves.{entry-none, entry-read, entry-refused}
 use Rattle.tree.specs.Values.{asLeafFound}

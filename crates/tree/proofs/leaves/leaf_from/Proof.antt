@@ -1,5 +1,4 @@
--- `tree::leaf_from` meets its contract. Before each node, the leaf that is sought is found from that node on.
--- Assumes nothing.
+-- `tree::leaves::leaf_from` meets its contract. The invariant: the leaf that is sought is found from this node on.
 use mathlib.Core.Path.{_≡_, refl, sym, ap, _∙_}
 use mathlib.Core.Logic.{⊎-elim}
 use Prim.Native.Nat.{_-_}

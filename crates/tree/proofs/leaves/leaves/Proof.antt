@@ -1,5 +1,4 @@
--- `tree::leaves` meets its contract: the refusal, or the count over lists that pass.
--- Assumes nothing.
+-- `tree::leaves::leaves` meets its contract: the refusal, or the count over lists that pass.
 use mathlib.Core.Path.{sym, ap, _∙_}
 use Rattle.lists.specs.Values.{asVerdict}
 use Rattle.spec_tree.proofs.Leaves.{passed-there, count-refused, count-made}

@@ -1,5 +1,4 @@
--- `tree::node_box` meets its contract: each corner is what `point_from` ensures.
--- Assumes nothing.
+-- `tree::nodes::node_box` meets its contract: each corner is what `point_from` ensures.
 use borrow.Author.Needs.{needs}
 use Rattle.tree.proofs.nodes.node_box.Statement.{statement}
 use Rattle.tree.proofs.nodes.node_box.Tie as tie

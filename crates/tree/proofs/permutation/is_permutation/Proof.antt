@@ -1,5 +1,4 @@
--- `tree::is_permutation` meets its contract: a list of another length is refused, and a fresh array of marks serves for the rest.
--- Assumes nothing.
+-- `tree::permutation::is_permutation` meets its contract: a list of another length is refused, and a fresh array of marks serves for the others.
 use lib.ListN.{length}
 use borrow.Author.Tests.{ne-eqb}
 use Rattle.spec_tree.specs.Order.{permutes}

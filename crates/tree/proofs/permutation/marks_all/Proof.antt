@@ -1,5 +1,4 @@
--- `tree::marks_all` meets its contract: the first i entries are below n and distinct, and those that occur among them are marked.
--- Assumes nothing.
+-- `tree::permutation::marks_all` meets its contract. The invariant: the first i entries are below n and distinct, and exactly they are marked.
 use mathlib.Core.Path.{_≡_, refl, sym}
 use Prim.Native.Nat.{_-_}
 use native.Mathlib.Omega.{arith}

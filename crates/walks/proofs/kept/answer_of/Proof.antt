@@ -1,4 +1,4 @@
--- `answers::kept::answer_of` meets its contract: one over nought is infinite, and there nothing is kept. Assumes nothing.
+-- `walks::kept::answer_of` meets its contract: 1 / 0 is infinite, and there nothing is kept.
 use lib.Ieee.{div, ofBits}
 use Rattle.spec_search.proofs.Kept.{stands-nothing, stands-found}
 use borrow.Author.Needs.{needs}

@@ -1,4 +1,4 @@
--- `walks::does_count` meets its contract: the comparison is the definition.
+-- `walks::kept::does_count` meets its contract: the comparison is the definition.
 use mathlib.Core.Path.{refl}
 use Rattle.spec_search.specs.Sure.{counts}
 use Rattle.walks.proofs.kept.does_count.Statement.{statement}

@@ -1,4 +1,4 @@
--- `answers::kept::is_nearer` meets its contract: the three tests are the definition's. Assumes nothing.
+-- `walks::kept::is_nearer` meets its contract: the three tests are the definition's.
 use mathlib.Core.Path.{refl}
 use Rattle.spec_search.specs.Kept.{nearer}
 use borrow.Author.Needs.{needs}

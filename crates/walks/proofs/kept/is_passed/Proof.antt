@@ -1,4 +1,4 @@
--- `answers::kept::is_passed` meets its contract: what is kept is compared as the answer that it stands for. Assumes nothing.
+-- `walks::kept::is_passed` meets its contract: what is kept is compared as the answer that it stands for.
 use Rattle.spec_search.proofs.Kept.{passed-kept}
 use Rattle.walks.specs.Values.{hitOf}
 use borrow.Author.Needs.{needs}

@@ -1,4 +1,4 @@
--- `answers::kept::meet` meets its contract: a hit that is strictly smaller takes the place of what was kept. Assumes nothing.
+-- `walks::kept::meet` meets its contract: a hit that is strictly smaller takes the place of what was kept.
 use Rattle.spec_search.proofs.Kept.{met-smaller, met-no-smaller}
 use Rattle.walks.specs.Values.{asHit, hitOf}
 use borrow.Author.Needs.{needs}

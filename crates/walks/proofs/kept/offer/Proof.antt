@@ -1,4 +1,4 @@
--- `answers::kept::offer` meets its contract: a hit that counts and is nearer takes the place of what was kept. Assumes nothing.
+-- `walks::kept::offer` meets its contract: a hit that counts and is nearer takes the place of what was kept.
 use Rattle.spec_search.proofs.Kept.{both-said, offer-taken, offer-left}
 use Rattle.walks.specs.Values.{asHit, hitOf}
 use borrow.Author.Needs.{needs}

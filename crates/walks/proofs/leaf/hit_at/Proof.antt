@@ -1,4 +1,4 @@
--- `walks::hit_at` meets its contract: how far the point is. Assumes nothing.
+-- `walks::leaf::hit_at` meets its contract: the squared distance of the point.
 use borrow.Author.Needs.{needs}
 use Rattle.walks.proofs.leaf.hit_at.Statement.{statement}
 use Rattle.walks.proofs.leaf.hit_at.Tie as tie

@@ -1,4 +1,4 @@
--- `walks::measure` meets its contract: the triangle that was read, its computed or its held point, offered or met. Assumes nothing.
+-- `walks::leaf::measure` meets its contract: the triangle that was read, and its held point offered or its computed one kept if smaller.
 use mathlib.Core.Path.{_≡_, ap, _∙_}
 use lib.Ieee.{binary32}
 use Prim.Native.Nat.{ℕ}

@@ -1,5 +1,4 @@
--- `walks::measure_leaf` meets its contract: a part of a list of triangle numbers is one.
--- Assumes nothing.
+-- `walks::leaf::measure_leaf` meets its contract: a slice of a list of triangle numbers is one too.
 use Prim.Native.Nat.{_-_}
 use native.Mathlib.Omega.{arith}
 use Rattle.spec_tree.proofs.Standing.{part-length}

@@ -1,4 +1,5 @@
--- `walks::measure_part` meets its contract. The invariant: measuring those that are left, from what is kept now, gives what the whole part gives. Assumes nothing.
+-- `walks::leaf::measure_part` meets its contract.
+-- The invariant: measuring those that remain, from what is kept now, gives what the whole slice gives.
 use mathlib.Core.Path.{_≡_, ap}
 use Prim.Native.Nat.{ℕ, _+_, _-_, _≤_}
 use native.Mathlib.Omega.{arith}

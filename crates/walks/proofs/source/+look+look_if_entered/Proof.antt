@@ -1,5 +1,5 @@
--- The proof of the cycle of calls {look, look_if_entered}. `look` calls `look_if_entered` at the depth less one, and `look_if_entered` calls `look` at the same depth, so the measures are 2d
--- and 2d + 1. Each answer applies a law of `spec_search`. Assumes nothing.
+-- `walks::source::look` and `walks::source::look_if_entered` meet their contracts. `look` calls `look_if_entered` with one level less,
+-- and `look_if_entered` calls `look` with the same levels, so the measures are 2d and 2d + 1. Each answer applies a law of `spec_search`.
 use mathlib.Core.Path.{_≡_, refl, sym, ap, _∙_}
 use mathlib.Core.Bool.{not}
 use native.Mathlib.Omega.{arith}

@@ -1,5 +1,4 @@
--- `walks::does_enter` meets its contract: both tests are of the node's box.
--- Assumes nothing.
+-- `walks::source::does_enter` meets its contract: both tests are of the node's box.
 use Rattle.spec_search.specs.Source.{enters}
 use borrow.Author.Needs.{needs}
 use Rattle.walks.proofs.source.does_enter.Statement.{statement}

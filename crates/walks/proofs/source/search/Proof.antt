@@ -1,5 +1,4 @@
--- `walks::search` meets its contract: an accepted tree is safe to walk from its root, and what is kept at first stands for nothing.
--- Assumes nothing.
+-- `walks::source::search` meets its contract: an accepted tree is safe to walk from its root, and what is kept at first stands for nothing.
 use mathlib.Core.Path.{_∙_}
 use lib.Ieee.{div, ofBits, eq}
 use Rattle.spec_search.specs.Kept.{kept}

@@ -1,6 +1,6 @@
--- The proof of the cycle of calls {node_walk, pair_walk}. `node_walk` calls `pair_walk` at the depth less one, and `pair_walk` calls
--- `node_walk` at the same depth, so the measures are 2d and 2d + 1. Each answer applies a law of `spec_search` to what the calls and
--- tests before it said; a place is named by what was just done there. Assumes nothing.
+-- `walks::sure::node_walk` and `walks::sure::pair_walk` meet their contracts. `node_walk` calls `pair_walk` with one level less,
+-- and `pair_walk` calls `node_walk` with the same levels, so the measures are 2d and 2d + 1.
+-- Each answer applies a law of `spec_search` to what the calls and tests before it said; a place is named by what was just done there.
 use mathlib.Core.Path.{_≡_, refl, sym}
 use mathlib.Core.Bool.{true, false}
 use Prim.Native.Nat.{ℕ, _+_, _-_, _<_}
@@ -81,7 +81,7 @@ node-walk-element-copy-out-is-passed t c = search needs
 node-walk-is-passed-requires : (t : ℕ) → node-walk-lts.Need-is-passed-requires (node-calls t) (node-walk-at t) node-walk.Post
 node-walk-is-passed-requires t c κs = search needs
 
--- passed over
+-- skipped
 node-walk-returns : (t : ℕ) → node-walk-lts.Need-returns (node-calls t) (node-walk-at t) node-walk.Post
 node-walk-returns t c =
     let tested = c .before in

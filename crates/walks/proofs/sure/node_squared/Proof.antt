@@ -1,5 +1,4 @@
--- `walks::node_squared` meets its contract: the node's box, measured.
--- Assumes nothing.
+-- `walks::sure::node_squared` meets its contract: the node's box, measured.
 use Rattle.spec_search.specs.Sure.{nodeSquared}
 use borrow.Author.Needs.{needs}
 use Rattle.walks.proofs.sure.node_squared.Statement.{statement}

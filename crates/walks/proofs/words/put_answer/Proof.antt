@@ -1,5 +1,4 @@
--- `walks::put_answer` meets its contract: six zeros, or the six numbers of what was found.
--- Assumes nothing.
+-- `walks::words::put_answer` meets its contract: six zeros, or the six words of what was found.
 use Rattle.spec_search.specs.Answers.{sixWords}
 use borrow.Author.Needs.{needs}
 use Rattle.walks.proofs.words.put_answer.Statement.{statement}

@@ -1,5 +1,4 @@
--- `walks::put_six` meets its contract: the six stores are one write.
--- Assumes nothing.
+-- `walks::words::put_six` meets its contract: the six stores are one write.
 use native.Mathlib.Omega.{arith}
 use lib.ListN.{length-set}
 use Rattle.spec_tables.proofs.Tables.{six-over}

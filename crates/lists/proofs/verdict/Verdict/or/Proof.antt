@@ -1,4 +1,4 @@
--- `lists::Verdict::or` meets its contract: the first of the two that refuses.
+-- `lists::verdict::Verdict::or` meets its contract: the first of the two that refuses.
 use mathlib.Core.Path.{refl}
 use borrow.Author.Needs.{needs}
 use Rattle.spec_lists.proofs.Verdicts.{stops, goes-on, ends}

@@ -1,5 +1,4 @@
--- `shapes::Box3::area` meets its contract, of the sizes that `sizes` ensures.
--- Assumes nothing.
+-- `shapes::box3::Box3::area` meets its contract, of the sizes that `sizes` ensures.
 use lib.Ieee.{ofBits}
 use Rattle.spec_shapes.specs.Boxes.{area}
 use borrow.Author.Needs.{needs}

@@ -1,5 +1,4 @@
--- `shapes::Box3::centre` meets its contract: the sum that `plus` ensures, over two.
--- Assumes nothing.
+-- `shapes::box3::Box3::centre` meets its contract: the sum that `plus` ensures, over two.
 use lib.Ieee.{ofBits}
 use Rattle.spec_shapes.specs.Boxes.{centre}
 use borrow.Author.Needs.{needs}

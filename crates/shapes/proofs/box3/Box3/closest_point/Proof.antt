@@ -1,5 +1,4 @@
--- `shapes::Box3::closest_point` meets its contract: what `largest` and then `smallest` ensure.
--- Assumes nothing.
+-- `shapes::box3::Box3::closest_point` meets its contract: what `largest` and then `smallest` ensure.
 use Rattle.spec_shapes.specs.Boxes.{closestInBox}
 use borrow.Author.Needs.{needs}
 use Rattle.shapes.proofs.box3.Box3.closest_point.Statement.{statement}

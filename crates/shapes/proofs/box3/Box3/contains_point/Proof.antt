@@ -1,5 +1,4 @@
--- `shapes::Box3::contains_point` meets its contract: what `is_under` ensures of both corners.
--- Assumes nothing.
+-- `shapes::box3::Box3::contains_point` meets its contract: what `is_under` ensures of both corners.
 use Rattle.spec_shapes.specs.Boxes.{containsPoint}
 use borrow.Author.Needs.{needs}
 use Rattle.shapes.proofs.box3.Box3.contains_point.Statement.{statement}

@@ -1,5 +1,4 @@
--- `shapes::Box3::empty` meets its contract: the patterns are those of the largest number and its opposite.
--- Assumes nothing.
+-- `shapes::box3::Box3::empty` meets its contract: the patterns are those of the largest number and its opposite.
 use mathlib.Core.Path.{refl}
 use lib.Ieee.{ofBits, neg}
 use Rattle.spec_shapes.specs.Boxes.{empty}

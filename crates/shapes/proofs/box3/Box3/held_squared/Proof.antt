@@ -1,5 +1,4 @@
--- `shapes::Box3::held_squared` meets its contract, of the point that `hold` ensures.
--- Assumes nothing.
+-- `shapes::box3::Box3::held_squared` meets its contract, of the point that `hold` ensures.
 use Rattle.spec_shapes.specs.Boxes.{heldSquared}
 use borrow.Author.Needs.{needs}
 use Rattle.shapes.proofs.box3.Box3.held_squared.Statement.{statement}

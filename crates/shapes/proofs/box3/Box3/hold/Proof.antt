@@ -1,5 +1,4 @@
--- `shapes::Box3::hold` meets its contract: what `held` ensures, on each axis.
--- Assumes nothing.
+-- `shapes::box3::Box3::hold` meets its contract: what `held` ensures, on each axis.
 use Rattle.spec_shapes.specs.Boxes.{heldIn}
 use borrow.Author.Needs.{needs}
 use Rattle.shapes.proofs.box3.Box3.hold.Statement.{statement}

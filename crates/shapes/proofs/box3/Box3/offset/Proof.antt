@@ -1,5 +1,4 @@
--- `shapes::Box3::offset` meets its contract: what `offset_on` ensures, on each axis.
--- Assumes nothing.
+-- `shapes::box3::Box3::offset` meets its contract: what `offset_on` ensures, on each axis.
 use Rattle.spec_shapes.specs.Boxes.{offset}
 use borrow.Author.Needs.{needs}
 use Rattle.shapes.proofs.box3.Box3.offset.Statement.{statement}

@@ -1,5 +1,4 @@
--- `shapes::Box3::sizes` meets its contract: what `minus` ensures.
--- Assumes nothing.
+-- `shapes::box3::Box3::sizes` meets its contract: what `minus` ensures.
 use Rattle.spec_shapes.specs.Boxes.{sizes}
 use borrow.Author.Needs.{needs}
 use Rattle.shapes.proofs.box3.Box3.sizes.Statement.{statement}

@@ -1,5 +1,4 @@
--- `shapes::Box3::squared_distance` meets its contract: what `with_outside` ensures, axis after axis.
--- Assumes nothing.
+-- `shapes::box3::Box3::squared_distance` meets its contract: what `with_outside` ensures, axis after axis.
 use lib.Ieee.{ofBits}
 use Rattle.spec_shapes.specs.Boxes.{boxSquared}
 use borrow.Author.Needs.{needs}

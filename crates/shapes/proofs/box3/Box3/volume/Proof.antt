@@ -1,5 +1,4 @@
--- `shapes::Box3::volume` meets its contract, of the sizes that `sizes` ensures.
--- Assumes nothing.
+-- `shapes::box3::Box3::volume` meets its contract, of the sizes that `sizes` ensures.
 use Rattle.spec_shapes.specs.Boxes.{volume}
 use borrow.Author.Needs.{needs}
 use Rattle.shapes.proofs.box3.Box3.volume.Statement.{statement}

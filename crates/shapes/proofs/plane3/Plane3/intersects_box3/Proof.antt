@@ -1,5 +1,4 @@
--- `shapes::Plane3::intersects_box3` meets its contract: what each call ensures, put in.
--- Assumes nothing.
+-- `shapes::plane3::Plane3::intersects_box3` meets its contract: what each call ensures, put in.
 use Rattle.spec_shapes.specs.Planes.{meetsBox}
 use borrow.Author.Needs.{needs}
 use Rattle.shapes.proofs.plane3.Plane3.intersects_box3.Statement.{statement}

@@ -1,5 +1,4 @@
--- `shapes::Dots::part` meets its contract: at each return the tests before have failed and this one has passed.
--- Assumes nothing.
+-- `shapes::triangle3::Dots::part` meets its contract: at each return the tests before have failed and this one has passed.
 use lib.Ieee.{ofBits}
 use Rattle.spec_shapes.specs.Triangles.{part}
 use borrow.Author.Needs.{needs}

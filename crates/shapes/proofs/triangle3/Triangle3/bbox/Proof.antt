@@ -1,5 +1,4 @@
--- `shapes::Triangle3::bbox` meets its contract: what `smallest` and `largest` ensure, twice each.
--- Assumes nothing.
+-- `shapes::triangle3::Triangle3::bbox` meets its contract: what `smallest` and `largest` ensure, twice each.
 use Rattle.spec_shapes.specs.Triangles.{boxOf}
 use borrow.Author.Needs.{needs}
 use Rattle.shapes.proofs.triangle3.Triangle3.bbox.Statement.{statement}

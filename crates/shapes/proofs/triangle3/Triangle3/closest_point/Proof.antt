@@ -1,5 +1,4 @@
--- `shapes::Triangle3::closest_point` meets its contract: the dots, the part by them, and the point on that part.
--- Assumes nothing.
+-- `shapes::triangle3::Triangle3::closest_point` meets its contract: the dots, the part by them, and the point on that part.
 use Rattle.spec_shapes.specs.Triangles.{closestPoint}
 use borrow.Author.Needs.{needs}
 use Rattle.shapes.proofs.triangle3.Triangle3.closest_point.Statement.{statement}

@@ -1,5 +1,4 @@
--- `shapes::Triangle3::dots` meets its contract: what each `dot` ensures, of the differences that `minus` ensures.
--- Assumes nothing.
+-- `shapes::triangle3::Triangle3::dots` meets its contract: what each `dot` ensures, of the differences that `minus` ensures.
 use Rattle.spec_shapes.specs.Triangles.{dots}
 use borrow.Author.Needs.{needs}
 use Rattle.shapes.proofs.triangle3.Triangle3.dots.Statement.{statement}

@@ -1,5 +1,4 @@
--- `shapes::Triangle3::held` meets its contract: what each call ensures, put in.
--- Assumes nothing.
+-- `shapes::triangle3::Triangle3::held` meets its contract: what each call ensures, put in.
 use borrow.Author.Needs.{needs}
 use Rattle.shapes.proofs.triangle3.Triangle3.held.Statement.{statement}
 use Rattle.shapes.proofs.triangle3.Triangle3.held.Tie as tie

@@ -1,5 +1,4 @@
--- `shapes::Triangle3::held_point` meets its contract: what each call ensures, put in.
--- Assumes nothing.
+-- `shapes::triangle3::Triangle3::held_point` meets its contract: what each call ensures, put in.
 use Rattle.spec_shapes.specs.Triangles.{heldPoint}
 use borrow.Author.Needs.{needs}
 use Rattle.shapes.proofs.triangle3.Triangle3.held_point.Statement.{statement}

@@ -1,5 +1,4 @@
--- `shapes::Triangle3::measure` meets its contract: what `held_point` and `squared_distance` ensure.
--- Assumes nothing.
+-- `shapes::triangle3::Triangle3::measure` meets its contract: what `held_point` and `squared_distance` ensure.
 use Rattle.spec_shapes.specs.Triangles.{measured}
 use borrow.Author.Needs.{needs}
 use Rattle.shapes.proofs.triangle3.Triangle3.measure.Statement.{statement}

@@ -1,5 +1,4 @@
--- `shapes::Triangle3::point_in_face` meets its contract: what each call ensures, put in.
--- Assumes nothing.
+-- `shapes::triangle3::Triangle3::point_in_face` meets its contract: what each call ensures, put in.
 use lib.Ieee.{ofBits}
 use Rattle.spec_shapes.specs.Triangles.{facePoint}
 use borrow.Author.Needs.{needs}

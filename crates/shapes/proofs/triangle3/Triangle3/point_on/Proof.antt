@@ -1,5 +1,4 @@
--- `shapes::Triangle3::point_on` meets its contract, in each arm.
--- Assumes nothing.
+-- `shapes::triangle3::Triangle3::point_on` meets its contract, in each arm.
 use Rattle.spec_shapes.specs.Triangles.{pointOn}
 use borrow.Author.Needs.{needs}
 use Rattle.shapes.proofs.triangle3.Triangle3.point_on.Statement.{statement}

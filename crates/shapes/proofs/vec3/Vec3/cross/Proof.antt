@@ -1,5 +1,4 @@
--- `shapes::Vec3::cross` meets its contract, operation by operation.
--- Assumes nothing.
+-- `shapes::vec3::Vec3::cross` meets its contract, operation by operation.
 use mathlib.Core.Path.{refl}
 use Rattle.spec_shapes.specs.Points.{cross}
 use Rattle.shapes.proofs.vec3.Vec3.cross.Statement.{statement}

@@ -1,5 +1,4 @@
--- `shapes::Vec3::is_finite` meets its contract: what `is_finite` ensures, on each axis.
--- Assumes nothing.
+-- `shapes::vec3::Vec3::is_finite` meets its contract: what `is_finite` ensures, on each axis.
 use Rattle.spec_shapes.specs.Points.{isFinite}
 use borrow.Author.Needs.{needs}
 use Rattle.shapes.proofs.vec3.Vec3.is_finite.Statement.{statement}

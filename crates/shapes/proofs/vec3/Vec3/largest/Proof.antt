@@ -1,5 +1,4 @@
--- `shapes::Vec3::largest` meets its contract: what `max2` ensures, on each axis.
--- Assumes nothing.
+-- `shapes::vec3::Vec3::largest` meets its contract: what `max2` ensures, on each axis.
 use Rattle.spec_shapes.specs.Points.{largest}
 use borrow.Author.Needs.{needs}
 use Rattle.shapes.proofs.vec3.Vec3.largest.Statement.{statement}

@@ -1,5 +1,4 @@
--- `shapes::Vec3::plus_zero` meets its contract: what `plus_zero` ensures, on each axis.
--- Assumes nothing.
+-- `shapes::vec3::Vec3::plus_zero` meets its contract: what `plus_zero` ensures, on each axis.
 use Rattle.spec_shapes.specs.Points.{plusZero}
 use borrow.Author.Needs.{needs}
 use Rattle.shapes.proofs.vec3.Vec3.plus_zero.Statement.{statement}

@@ -1,5 +1,4 @@
--- `shapes::Vec3::smallest` meets its contract: what `min2` ensures, on each axis.
--- Assumes nothing.
+-- `shapes::vec3::Vec3::smallest` meets its contract: what `min2` ensures, on each axis.
 use Rattle.spec_shapes.specs.Points.{smallest}
 use borrow.Author.Needs.{needs}
 use Rattle.shapes.proofs.vec3.Vec3.smallest.Statement.{statement}

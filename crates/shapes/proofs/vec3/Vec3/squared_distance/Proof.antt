@@ -1,5 +1,4 @@
--- `shapes::Vec3::squared_distance` meets its contract: the dot of the difference that `minus` ensures.
--- Assumes nothing.
+-- `shapes::vec3::Vec3::squared_distance` meets its contract: the dot of the difference that `minus` ensures.
 use Rattle.spec_shapes.specs.Points.{squaredDistance}
 use borrow.Author.Needs.{needs}
 use Rattle.shapes.proofs.vec3.Vec3.squared_distance.Statement.{statement}

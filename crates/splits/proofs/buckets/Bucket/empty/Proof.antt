@@ -1,5 +1,4 @@
--- `splits::Bucket::empty` meets its contract: what `Box3::empty` ensures.
--- Assumes nothing.
+-- `splits::buckets::Bucket::empty` meets its contract: what `Box3::empty` ensures.
 use Rattle.spec_splits.specs.Buckets.{emptyBucket}
 use borrow.Author.Needs.{needs}
 use Rattle.splits.proofs.buckets.Bucket.empty.Statement.{statement}

@@ -1,5 +1,4 @@
--- `splits::Buckets::empty` meets its contract: what `Bucket::empty` ensures, twelve times.
--- Assumes nothing.
+-- `splits::buckets::Buckets::empty` meets its contract: what `Bucket::empty` ensures, twelve times.
 use mathlib.Core.Path.{ap}
 use lib.ListN.{replicate}
 use Rattle.spec_splits.specs.Buckets.{Bucket, emptyBuckets}

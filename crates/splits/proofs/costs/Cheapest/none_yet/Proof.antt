@@ -1,5 +1,4 @@
--- `splits::Cheapest::none_yet` meets its contract: one over zero is infinite.
--- Assumes nothing.
+-- `splits::costs::Cheapest::none_yet` meets its contract: 1 / 0 is infinite.
 use mathlib.Core.Path.{refl}
 use lib.Ieee.{ofBits, div}
 use Rattle.spec_splits.specs.Area.{noneYet}

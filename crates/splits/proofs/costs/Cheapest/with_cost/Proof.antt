@@ -1,5 +1,4 @@
--- `splits::Cheapest::with_cost` meets its contract: each arm returns what the test picks, and a number is equal to itself.
--- Assumes nothing.
+-- `splits::costs::Cheapest::with_cost` meets its contract: each arm returns what the test picks, and a number is equal to itself.
 use Rattle.spec_splits.specs.Area.{withCost}
 use Rattle.spec_splits.proofs.Area.{equal-to-itself}
 use borrow.Author.Needs.{needs}

@@ -1,5 +1,4 @@
--- `tree::Leaf::len` meets its contract: a walk of its MIR, by hand. The slice's length is read from the struct.
--- Assumes nothing.
+-- `tree::leaf_reader::Leaf::len` meets its contract: a walk of its MIR, by hand. The slice's length is read from the struct.
 use mathlib.Core.Path.{refl}
 use Prim.Native.Nat.{ℕ, _<_, _^_}
 use mathlib.Core.List.{[], _∷_}

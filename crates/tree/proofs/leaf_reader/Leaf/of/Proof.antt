@@ -1,7 +1,8 @@
--- `tree::Leaf::of` meets its contract: a walk of its MIR, by hand. `part_of` is called, and a `Leaf` is made of the slice that it returns, in the result's local. All that the proof knows of `part_of` is that it meets its contract.
--- A `&[u32]` is Copy, so what order owns is had twice: once for the callee, and once for the exit. What the part owns is all that the struct owns.
--- The part's machine value is what the call returned; what the part owns says that it is the slice's own.
--- Assumes nothing.
+-- `tree::leaf_reader::Leaf::of` meets its contract: a walk of its MIR, by hand.
+-- `part_of` is called, and a `Leaf` is made of the slice that it returns, in the result's local.
+-- All that the proof knows of `part_of` is that it meets its contract.
+-- A `&[u32]` is Copy, so what order owns is had twice: once for the callee, and once for the exit. What the slice owns is all that the struct owns.
+-- The machine value in the struct is what the call returned, and what it owns says that it is the slice's own.
 use mathlib.Core.Path.{_≡_, refl, sym, subst}
 use Prim.Native.Nat.{ℕ, _-_, _<_, _^_}
 use mathlib.Core.List.{List, [], _∷_}
