@@ -1035,27 +1035,28 @@ const ARCS: [u32; 1025] = [
     843314857,
 ];
 
-// Two entries in a row, wide enough for the products to come.
+// Two entries in a row, as u64: their products need it.
 struct Entries {
     from: u64,
     to: u64,
 }
 
-// The table. A constant array is laid out anew, entry by entry, wherever it is named: so whoever asks
-// for many angles names it once, here, and lends it to each.
+// The table. A constant array is laid out anew, entry by entry, wherever it is named.
+// So who computes many angles names it once, here, and lends it to each.
 pub fn arc_table() -> [u32; 1025]
     ensures { λ r. ⌜ r ≡ arcs ⌝ }
 {
     ARCS
 }
 
+// An entry as a u64.
 fn wide(entry: u32) -> u64
     ensures { λ r. ⌜ r ≡ entry ⌝ }
 {
     entry as u64
 }
 
-// The entry k and the next.
+// Entry k and the next one.
 fn entries_at(table: &[u32; 1025], k: usize) -> Entries
     requires { ⌜ now table ≡ arcs ⌝ }
     requires { ⌜ k < 1024 ⌝ }
@@ -1098,7 +1099,7 @@ fn units_of(t: f32) -> u64
     floats::cut(t * 1073741824.0) as u64
 }
 
-// An angle, or where `back` says so what it leaves of a turn.
+// The angle or, where `back` is set, what it leaves of the turn.
 fn mirrored(turn: u64, back: bool, a: u64) -> u64
     requires { ⌜ a ≤ turn ⌝ }
     ensures { λ r. ⌜ r ≡ Angle.mirrored turn back a ⌝ }
@@ -1106,7 +1107,7 @@ fn mirrored(turn: u64, back: bool, a: u64) -> u64
     if back { turn - a } else { a }
 }
 
-// The size of the angle, in units of 2^-30, before it is rounded.
+// The size of the angle in units of 2^-30, before it is rounded.
 fn angle_of(table: &[u32; 1025], n: f32, d: f32) -> u64
     requires { ⌜ now table ≡ arcs ⌝ }
     requires { ⌜ Angle.Askable n d ⌝ }
@@ -1117,7 +1118,7 @@ fn angle_of(table: &[u32; 1025], n: f32, d: f32) -> u64
     mirrored(3373259426, d < 0.0, mirrored(1686629713, steep, arc))
 }
 
-// a / 2^30, rounded once, with a sign. Only the first step rounds.
+// a / 2^30 with a sign. Only the first step rounds.
 fn rounded(negative: bool, a: u32) -> f32
     ensures { λ r. ⌜ r ≡ round binary32 negative a (2 ^ 30) ⌝ }
 {
@@ -1134,8 +1135,7 @@ pub fn arc_tangent(table: &[u32; 1025], n: f32, d: f32) -> f32
     rounded(n < 0.0, angle_of(table, n, d) as u32)
 }
 
-// The arc tangent of n / d where it may be asked for, and no number elsewhere, by the table that is
-// lent.
+// The arc tangent of n / d by the lent table, or a NaN where it has none.
 pub fn angle_by(table: &[u32; 1025], n: f32, d: f32) -> f32
     requires { ⌜ now table ≡ arcs ⌝ }
     ensures { λ r. ⌜ r ≡ Angle.angleOrNan binary32 n d ⌝ }
@@ -1147,7 +1147,7 @@ pub fn angle_by(table: &[u32; 1025], n: f32, d: f32) -> f32
     }
 }
 
-// The same, with a table of its own.
+// The arc tangent of n / d, or a NaN where it has none, with a table of its own.
 pub fn angle_or_nan(n: f32, d: f32) -> f32
     ensures { λ r. ⌜ r ≡ Angle.angleOrNan binary32 n d ⌝ }
 {

@@ -1,5 +1,4 @@
-// The square root of an f32, rounded once: the value nearest the exact root. Floating point guesses its
-// digits, and whole numbers test the guess.
+// The square root of an f32, rounded once: the f32 nearest the exact root. Floating point guesses its digits, and whole numbers test the guess.
 ghost use mathlib.Core.Path.{_≡_};
 ghost use Prim.Native.Nat.{_*_, _^_, _≤_, _<_};
 ghost use lib.Dec.{T};
@@ -7,8 +6,7 @@ ghost use lib.Ieee.{binary32};
 ghost use Rattle.spec_angles.specs.Root as Root;
 ghost use Rattle.spec_angles.specs.RootByBits.{unitsOf, Scaled, InFours};
 
-// The largest r whose square is at most n. The root lies from `r` on and below `r + step`, and each
-// turn halves that interval.
+// The largest r whose square is at most n. The root lies from `r` on and below `r + step`, and each turn halves that interval.
 fn whole_root(n: u64) -> u64
     requires { ⌜ n < 2 ^ 48 ⌝ }
     ensures { λ r. ⌜ r ≡ Root.wholeRoot 24 n ⌝ }
@@ -25,16 +23,14 @@ fn whole_root(n: u64) -> u64
     r
 }
 
-// A step of Heron's method: where g is near the root of x, this has about twice as many digits right.
+// A step of Heron's method: where g is near the root of x, the answer has about twice as many right digits.
 fn heron(x: f64, g: f64) -> f64 {
     0.5 * (g + x / g)
 }
 
-// A guess at the whole number nearest the root of n, by floating point. Nothing is proved of it but
-// its size: `nearest_root` tests it. Where n has 47 or 48 binary digits it is y * 2 ^ 46 with y from 1 to
-// 4: there the parabola, 2 ^ 23 * (0.5186 + 0.526 * y - 0.0395375 * y ^ 2), is within 0.6% of the root,
-// and two steps on within 0.002 of it. The sum with 2 ^ 52 rounds to a whole number, which stands in
-// its low bits.
+// A guess at the whole number nearest the root of n, by floating point. Only its size is proved: `nearest_root` tests it.
+// Where n has 47 or 48 binary digits it is y * 2 ^ 46 with y from 1 to 4. There the parabola, 2 ^ 23 * (0.5186 + 0.526 * y - 0.0395375 * y ^ 2),
+// is within 0.6% of the root, and two steps on within 0.002 of it. The sum with 2 ^ 52 rounds to a whole number, which stands in its low bits.
 fn guess(n: u64) -> u64
     ensures { λ r. ⌜ r < 2 ^ 25 ⌝ }
 {
@@ -48,10 +44,9 @@ fn guess(n: u64) -> u64
     }
 }
 
-// The whole number nearest the root of n: a guess that passes two tests, which only the nearest one
-// does. About 4 in 10,000 guesses fail them, where the root is within 0.002 of half way between two
-// whole numbers. There it is found by halving: it is above r + 1/2 where n is above r * r + r, and never
-// r + 1/2 itself, whose square is no whole number.
+// The whole number nearest the root of n: a guess that passes two tests, which only the nearest one does.
+// About 4 in 10,000 guesses fail them, where the root is within 0.002 of half way between two whole numbers. There it is found by halving:
+// the root is above r + 1/2 where n is above r * r + r, and never r + 1/2 itself, whose square is no whole number.
 fn nearest_root(n: u64) -> u64
     requires { ⌜ n < 2 ^ 48 ⌝ }
     ensures { λ r. ⌜ r ≡ Root.nearer n (Root.wholeRoot 24 n) ⌝ }
@@ -66,13 +61,13 @@ fn nearest_root(n: u64) -> u64
     if n - r * r > r { r + 1 } else { r }
 }
 
-// digits * 4 ^ scale, where digits has 47 or 48 binary digits: so its root has 24, as many as an f32.
+// digits * 4 ^ scale, where `digits` has 47 or 48 binary digits: so its root has 24, as an f32 has.
 struct ByFours {
     digits: u64,
     scale: u32,
 }
 
-// significand * 2 ^ power, so written.
+// significand * 2 ^ power, written so.
 fn by_fours(significand: u32, power: u32) -> ByFours
     requires { ⌜ (0 < significand) × (significand < 2 ^ 24) × (149 ≤ power) × (power < 403) ⌝ }
     ensures { λ r. ⌜ InFours significand power (r .digits) (r .scale) ⌝ }
@@ -86,8 +81,8 @@ fn by_fours(significand: u32, power: u32) -> ByFours
     }
 }
 
-// 2 ^ 149 times the number, in units of 2 ^ -149, that the bits of a positive f32 stand for. A
-// subnormal number has no leading digit, and counts as one with the exponent's field 1.
+// 2 ^ 149 times the number, in units of 2 ^ -149, that the bits of a positive f32 stand for.
+// A subnormal number has no leading digit, and counts as one with 1 in the field of its exponent.
 fn scaled(bits: u32) -> ByFours
     requires { ⌜ (0 < bits) × (bits < 0x7f80_0000) ⌝ }
     ensures { λ r. ⌜ Scaled (unitsOf bits) (r .digits) (r .scale) ⌝ }
@@ -112,7 +107,7 @@ pub fn root(x: f32) -> f32
     f32::from_bits(s.scale * 0x800000 + r as u32)
 }
 
-// The root of x where it has one, and no number elsewhere.
+// The root of x, or a NaN where it has none.
 pub fn root_or_nan(x: f32) -> f32
     ensures { λ r. ⌜ r ≡ Root.rootOrNan binary32 x ⌝ }
 {

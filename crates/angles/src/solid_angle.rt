@@ -1,4 +1,4 @@
-// The solid angle of a triangle from a point.
+// The solid angle of a triangle as seen from a point.
 ghost use mathlib.Core.Path.{_≡_};
 ghost use lib.Ieee.{binary32};
 ghost use Rattle.shapes.specs.Values as Values;
@@ -17,6 +17,7 @@ fn norm_of(a: Vec3) -> f32
     root_or_nan(a.dot(a))
 }
 
+// The triangle with q as the origin.
 fn seen_from(q: Vec3, t: Triangle3) -> Triangle3
     ensures { λ r. ⌜ Values.asTriangle r ≡ Winding.seenFrom binary32 (Values.asPoint q) (Values.asTriangle t) ⌝ }
 {
@@ -27,19 +28,21 @@ fn seen_from(q: Vec3, t: Triangle3) -> Triangle3
     }
 }
 
+// The numerator of the tangent of half the angle, for corners of length 1.
 fn numerator_of(t: Triangle3) -> f32
     ensures { λ r. ⌜ r ≡ Winding.numerator binary32 (Values.asTriangle t) ⌝ }
 {
     t.a.dot(t.b.minus(t.a).cross(t.c.minus(t.a)))
 }
 
+// The denominator of the tangent of half the angle, for corners of length 1.
 fn denominator_of(t: Triangle3) -> f32
     ensures { λ r. ⌜ r ≡ Winding.denominator binary32 (Values.asTriangle t) ⌝ }
 {
     1.0 + t.a.dot(t.b) + t.a.dot(t.c) + t.b.dot(t.c)
 }
 
-// The solid angle of a triangle whose corners are directions, of length 1, from the origin.
+// The solid angle, from the origin, of a triangle whose corners have length 1.
 fn unit_angle(table: &[u32; 1025], t: Triangle3) -> f32
     requires { ⌜ now table ≡ arcs ⌝ }
     ensures { λ r. ⌜ r ≡ Winding.unitAngle binary32 (Values.asTriangle t) ⌝ }
@@ -72,7 +75,7 @@ fn origin_angle(table: &[u32; 1025], t: Triangle3) -> f32
     )
 }
 
-// The solid angle of any triangle from q, by the table of arc tangents that is lent.
+// The solid angle of the triangle from q, by the lent table of arc tangents.
 pub fn solid_angle_by(table: &[u32; 1025], t: Triangle3, q: Vec3) -> f32
     requires { ⌜ now table ≡ arcs ⌝ }
     ensures { λ r. ⌜ r ≡ Winding.solidAngle binary32 (Values.asTriangle t) (Values.asPoint q) ⌝ }
@@ -80,7 +83,7 @@ pub fn solid_angle_by(table: &[u32; 1025], t: Triangle3, q: Vec3) -> f32
     origin_angle(table, seen_from(q, t))
 }
 
-// The same, with a table of its own.
+// The solid angle of the triangle from q, with a table of its own.
 pub fn solid_angle(t: Triangle3, q: Vec3) -> f32
     ensures { λ r. ⌜ r ≡ Winding.solidAngle binary32 (Values.asTriangle t) (Values.asPoint q) ⌝ }
 {

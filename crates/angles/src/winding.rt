@@ -1,4 +1,4 @@
-// The winding number of a list of triangles about a point, and about each point of a list.
+// The winding number of a triangle list about a point, and about each point of a list.
 ghost use mathlib.Core.Path.{_≡_};
 ghost use Prim.Native.Nat.{_≤_};
 ghost use lib.ListN.{length};
@@ -20,8 +20,7 @@ use lists::verdict::Verdict;
 use lists::verdict::room_refusal;
 use shapes::vec3::Vec3;
 
-// The sum of the triangles' solid angles, in the list's order, over 4 * PI, by the table of arc tangents
-// that is lent.
+// The sum of the triangles' solid angles, in the order of the list, over 4 * PI, by the lent table of arc tangents.
 pub fn winding_number_by(table: &[u32; 1025], triangles: &[f32], q: Vec3) -> f32
     requires { ⌜ now table ≡ arcs ⌝ }
     ensures { λ r. ⌜ r ≡ Windings.windingAbout binary32 (now (triangles .entry)) (Shapes.asPoint q) ⌝ }
@@ -37,7 +36,7 @@ pub fn winding_number_by(table: &[u32; 1025], triangles: &[f32], q: Vec3) -> f32
     sum / (4.0 * 3.14159274101257324)
 }
 
-// The same, with a table of its own.
+// The winding number about q, with a table of its own.
 pub fn winding_number(triangles: &[f32], q: Vec3) -> f32
     ensures { λ r. ⌜ r ≡ Windings.windingAbout binary32 (now (triangles .entry)) (Shapes.asPoint q) ⌝ }
 {
@@ -45,7 +44,7 @@ pub fn winding_number(triangles: &[f32], q: Vec3) -> f32
     winding_number_by(&table, triangles, q)
 }
 
-// A winding number a point, from the front of `out`. The table is laid out once for all of them.
+// Writes one winding number a point to the front of `out`. The table is laid out once for all of them.
 fn write_windings(triangles: &[f32], points: &[f32], out: &mut [f32])
     requires { ⌜ Reading.pointCount (now points) ≤ length (now out) ⌝ }
     ensures { λ _. ⌜ now (out .exit) ≡ Windings.written binary32 (now (triangles .entry)) (now (points .entry)) (now (out .entry)) ⌝ }
@@ -59,7 +58,7 @@ fn write_windings(triangles: &[f32], points: &[f32], out: &mut [f32])
     }
 }
 
-// The first of the tests 1 to 4, 6, 8 that refuses.
+// The first of the tests 1 to 4, 6 and 8 that refuses.
 fn winding_refusal(triangles: &[f32], points: &[f32], room: usize) -> Verdict
     ensures { λ r. ⌜ Values.asVerdict r ≡ Windings.windingRefusal (now (triangles .entry)) (now (points .entry)) room ⌝ }
 {
@@ -68,8 +67,7 @@ fn winding_refusal(triangles: &[f32], points: &[f32], room: usize) -> Verdict
         .or(points_refusal(points))
 }
 
-// The winding number of the triangles about each of the points: one f32 a point, from the front of
-// `out`. On a refusal `out` stays as it was.
+// Writes the winding number of the triangles about each point to the front of `out`, one f32 a point. A refusal changes nothing.
 pub fn winding(triangles: &[f32], points: &[f32], out: &mut [f32]) -> Verdict
     ensures verdict { λ r. ⌜ Values.asVerdict r ≡ Windings.windingRefusal (now (triangles .entry)) (now (points .entry)) (length (now (out .entry))) ⌝ }
     ensures windings { λ r. ⌜ now (out .exit) ≡ Windings.afterWinding binary32 (now (triangles .entry)) (now (points .entry)) (now (out .entry)) ⌝ }

@@ -1,5 +1,5 @@
-// gauge: reads records from standard input and prints the run. One byte more than is accepted is
-// read, so that a longer input is told from one that fits.
+// gauge: reads records from standard input and prints the run.
+// It reads one byte more than it accepts, so that it can tell a longer input from one that fits.
 
 fn main() {
     let mut input = [0u8; 32769];

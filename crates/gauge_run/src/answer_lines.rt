@@ -1,4 +1,4 @@
-// A line a point, from the six numbers of each answer.
+// One printed line a point, from the six words of its answer.
 ghost use mathlib.Core.Path.{_≡_};
 ghost use Prim.Native.Nat.{_+_, _*_, _≤_};
 ghost use lib.ListN.{length};
@@ -8,13 +8,14 @@ use printing::lines::Found;
 use printing::lines::put_found;
 use printing::lines::put_nothing;
 
+// A word as a usize.
 fn whole(word: u32) -> usize
     ensures { λ r. ⌜ r ≡ word ⌝ }
 {
     word as usize
 }
 
-// The line of point k, whose answer starts at 6 k.
+// Writes the line of point k, whose answer starts at word 6 k.
 fn put_answer_line(answers: &[u32], k: usize, out: &mut [u8], at: usize) -> usize
     requires { ⌜ (6 * k + 6 ≤ length (now answers)) × (at + 84 ≤ length (now out)) ⌝ }
     ensures { λ r. ⌜ Put at (wordsLine (now (answers .entry)) k) (now (out .entry)) (now (out .exit)) r ⌝ }
@@ -34,7 +35,7 @@ fn put_answer_line(answers: &[u32], k: usize, out: &mut [u8], at: usize) -> usiz
     put_found(out, at, k, found)
 }
 
-// The lines of all points, one behind the other.
+// Writes the lines of `count` points, one behind the other.
 pub fn put_answer_lines(answers: &[u32], count: usize, out: &mut [u8], at: usize) -> usize
     requires { ⌜ (6 * count ≤ length (now answers)) × (at + 84 * count ≤ length (now out)) ⌝ }
     ensures { λ r. ⌜ Put at (many (wordsLine (now (answers .entry))) count) (now (out .entry)) (now (out .exit)) r ⌝ }

@@ -1,4 +1,4 @@
-// Which of the tests refuses what the records hold.
+// The tests of a request: what the records of the input hold.
 ghost use mathlib.Core.Path.{_≡_};
 ghost use Rattle.lists.specs.Values.{asVerdict, asSettings};
 ghost use Rattle.spec_gauge.specs.Printed.{askedRefusal};

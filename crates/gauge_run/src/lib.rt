@@ -1,4 +1,4 @@
-// The printed run: what `gauge` prints of the bytes that came in. Each contract is an equation with a definition of `spec_gauge`.
+// What `gauge` prints for the bytes that came in. Each contract is an equation with a definition of `spec_gauge`.
 pub mod answer_lines;
 pub mod asked;
 pub mod run;

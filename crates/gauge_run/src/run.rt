@@ -1,5 +1,4 @@
-// A run, from the outside in: the length of the input, its layout, its lists, the tests, the tree,
-// the answers.
+// A run from the outside in: the length of the input, its layout, its lists, the tests, the tree, the answers.
 ghost use mathlib.Core.Path.{_≡_};
 ghost use mathlib.Core.List.{_++_};
 ghost use Prim.Native.Nat.{_+_, _*_, _≤_};
@@ -28,7 +27,7 @@ use records::layout::GaugeLayout;
 use records::layout::gauge_layout;
 use records::numbers::u32_at;
 
-// A line a point, by sure queries over a tree that passes the tree check.
+// Writes one line a point, by sure queries over a tree that passes the tree check.
 fn put_answers(
     triangles: &[f32],
     order: &[u32],
@@ -58,7 +57,7 @@ fn put_answers(
     put_answer_lines(&answers, point_count(points), out, at)
 }
 
-// The counts and the answers of what passed the tests. A build that refuses cannot come up.
+// Writes the counts and the answers of a request that passed the tests. A build that refuses cannot come up.
 fn put_run(
     triangles: &[f32],
     settings: Settings,
@@ -99,7 +98,7 @@ fn put_run(
     )
 }
 
-// A refusal's line, or the run.
+// Writes the line of a refusal, or the run.
 fn print_asked(
     triangles: &[f32],
     settings: Settings,
@@ -117,7 +116,7 @@ fn print_asked(
     put_run(triangles, settings, points, distance, out)
 }
 
-// What is printed for records of so many triangles and points.
+// Writes what is printed for records of `count` triangles and `touched` points.
 fn print_laid(input: &[u8], count: usize, touched: usize, out: &mut [u8]) -> usize
     requires { ⌜ (36 + 36 * count + 12 * touched ≡ length (now input)) × (length (now input) ≤ mostBytes) ⌝ }
     requires { ⌜ mostPrinted ≤ length (now out) ⌝ }
@@ -140,7 +139,7 @@ fn print_laid(input: &[u8], count: usize, touched: usize, out: &mut [u8]) -> usi
     )
 }
 
-// What gauge prints for this input: into `out` from its front, and how many bytes.
+// Writes what `gauge` prints for this input to the front of `out` and answers how many bytes that is.
 pub fn print(input: &[u8], out: &mut [u8]) -> usize
     requires { ⌜ mostPrinted ≤ length (now out) ⌝ }
     ensures { λ r. ⌜ Put 0 (printed (now (input .entry))) (now (out .entry)) (now (out .exit)) r ⌝ }

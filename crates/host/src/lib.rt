@@ -1,4 +1,4 @@
-// What a C host links (include/gauge.h): each function is the proved one behind it, under its C name.
+// What a C host links (include/gauge.h). Each function is the proved one behind it, under its C name. A refusal changes no lent byte.
 ghost use mathlib.Core.Path.{_≡_};
 ghost use Prim.Native.Nat.{_/_};
 ghost use lib.ListN.{length};
@@ -15,6 +15,7 @@ use host_ask::calls::winding_points;
 use host_build::build::build_image;
 use host_build::most::image_most;
 
+// The maximum size of an image of that many triangles, or 0 where no such list passes.
 #[no_mangle]
 pub extern "C" fn gauge_image_most(triangles: usize) -> u64
     ensures { λ r. ⌜ r ≡ imageMost triangles ⌝ }
@@ -22,6 +23,7 @@ pub extern "C" fn gauge_image_most(triangles: usize) -> u64
     image_most(triangles)
 }
 
+// Builds the tree over the triangles and writes its image to the front of `image`. The status is the size of the image.
 #[no_mangle]
 pub extern "C" fn gauge_build(
     strategy: usize,
@@ -35,6 +37,7 @@ pub extern "C" fn gauge_build(
     build_image(strategy, leaf_minimum, maximum_depth, triangles, image)
 }
 
+// Whether an image can be queried. The status is its triangle count.
 #[no_mangle]
 pub extern "C" fn gauge_check(image: &[u8]) -> u64
     ensures { λ r. ⌜ r ≡ told (checkVerdict (now (image .entry))) (triangleCount (contents (now (image .entry)) .triangles)) ⌝ }
@@ -42,6 +45,7 @@ pub extern "C" fn gauge_check(image: &[u8]) -> u64
     check_image(image)
 }
 
+// Writes the sure query's answer at each point. The status is the number of points.
 #[no_mangle]
 pub extern "C" fn gauge_sure(image: &[u8], points: &[u8], distance: f32, answers: &mut [u8]) -> u64
     ensures told { λ r. ⌜ r ≡ told (queryVerdict (now (image .entry)) (now (points .entry)) distance (length (now (answers .entry)))) (length (now (points .entry)) / 12) ⌝ }
@@ -50,6 +54,7 @@ pub extern "C" fn gauge_sure(image: &[u8], points: &[u8], distance: f32, answers
     sure_points(image, points, distance, answers)
 }
 
+// Writes the source query's answer at each point. The status is the number of points.
 #[no_mangle]
 pub extern "C" fn gauge_source(
     image: &[u8],
@@ -63,6 +68,7 @@ pub extern "C" fn gauge_source(
     source_points(image, points, distance, answers)
 }
 
+// Writes the winding number about each point. The status is the number of points.
 #[no_mangle]
 pub extern "C" fn gauge_winding(image: &[u8], points: &[u8], windings: &mut [u8]) -> u64
     ensures told { λ r. ⌜ r ≡ told (windingVerdict (now (image .entry)) (now (points .entry)) (length (now (windings .entry)))) (length (now (points .entry)) / 12) ⌝ }

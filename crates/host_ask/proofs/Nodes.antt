@@ -1,4 +1,4 @@
--- What the test of the node count says, where it was asked and whether it refuses.
+-- What the test of the node count says in both cases.
 use Prim.Native.Nat.{ℕ, _≤_, _<_}
 use mathlib.Core.Path.{_≡_, refl, sym, ap, _∙_}
 use mathlib.Core.Bool.{Bool, true, false}
@@ -15,11 +15,14 @@ module _ (nodes : ℕ) (v : Verdict) (b : Bool) (is : v ≡ nodesRefusal nodes) 
   tested : b ≡ ltb 8191 nodes
   tested = told ∙ ap refuses is ∙ refuses-if (ltb 8191 nodes)
 
+  -- a count that is refused is refused with 7
   pub nodes-stop : b ≡ true → v ≡ refused 7 0
   nodes-stop t = is ∙ ap (λ (more : Bool). refusedIf more 7 0) (sym tested ∙ t)
 
+  -- a count that is refused exceeds the nodes of any tree
   pub nodes-many : b ≡ true → 8191 < nodes
   nodes-many t = ltb-true 8191 nodes (sym tested ∙ t)
 
+  -- nodes of a count that passes have room in the local lists
   pub nodes-few : b ≡ false → nodes ≤ 8191
   nodes-few f = ltb-false 8191 nodes (sym tested ∙ f)

@@ -1,5 +1,4 @@
-// A query over an image, from the outside in: its layout, its triangles, its tree. What is loaded
-// stands in local lists, once.
+// A query over an image from the outside in: its layout, its triangles, its tree. What is loaded stands in local lists, once.
 ghost use mathlib.Core.Path.{_≡_};
 ghost use Prim.Native.Nat.{_≤_};
 ghost use lib.ListN.{length};
@@ -24,7 +23,7 @@ use records::entries::read_f32s;
 use records::layout::ImageLayout;
 use records::layout::image_layout;
 
-// Tests 7, 8 and 9, and the answers.
+// Loads the tree, makes the tests 7, 8 and 9, and writes the answers.
 fn ask_tree(
     query: Query,
     image: &[u8],
@@ -60,7 +59,7 @@ fn ask_tree(
     )
 }
 
-// Tests 2 to 6 over the triangles, and then the tree.
+// Makes the tests 2 to 6 over the triangles, and goes on to the tree.
 fn ask_triangles(
     query: Query,
     image: &[u8],
@@ -95,7 +94,7 @@ fn ask_triangles(
     )
 }
 
-// Of an image of so many triangles and nodes: nothing is loaded where the count is refused.
+// Loads the triangles of an image of `count` triangles and `nodes` nodes. Nothing is loaded where the count is refused.
 fn ask_laid(
     query: Query,
     image: &[u8],
@@ -128,7 +127,7 @@ fn ask_laid(
     )
 }
 
-// Test 10, and then what the image holds.
+// Makes test 10 and the others, and writes the answers, 24 bytes a point. A refusal changes nothing.
 pub fn ask(query: Query, image: &[u8], points: &[u8], distance: f32, answers: &mut [u8]) -> Verdict
     ensures verdict { λ r. ⌜ asVerdict r ≡ queryVerdict (now (image .entry)) (now (points .entry)) distance (length (now (answers .entry))) ⌝ }
     ensures answers { λ r. ⌜ now (answers .exit) ≡ afterBytes (asVerdict r) (answerBytes (answerIn (asQuery query) (contents (now (image .entry))) distance) (now (points .entry))) (now (answers .entry)) ⌝ }

@@ -1,4 +1,4 @@
-// The calls: what comes in is judged first, and a call that refuses changes no lent byte.
+// The calls of a C host over an image. What comes in is tested first, and a call that refuses changes no lent byte.
 ghost use mathlib.Core.Path.{_≡_};
 ghost use Prim.Native.Nat.{_/_};
 ghost use lib.ListN.{length};
@@ -17,7 +17,7 @@ use queries::query::Query;
 use records::layout::ImageLayout;
 use records::layout::image_layout;
 
-// What is done tells a count.
+// The status of a verdict: the count, where it passed.
 fn tell_count(verdict: Verdict, count: usize) -> u64
     requires { ⌜ InPlace (asVerdict verdict) ⌝ }
     ensures { λ r. ⌜ r ≡ told (asVerdict verdict) count ⌝ }
@@ -38,7 +38,8 @@ fn triangles_held(image: &[u8]) -> usize
     }
 }
 
-// Whether an image can be asked: tests 10, 2 to 5 and 7. It is asked at no points, so 6, 8 and 9 pass.
+// Whether an image can be queried: tests 10, 2 to 5 and 7. The status is its triangle count.
+// It is a query at no points, so 6, 8 and 9 pass.
 pub fn check_image(image: &[u8]) -> u64
     ensures { λ r. ⌜ r ≡ told (checkVerdict (now (image .entry))) (triangleCount (contents (now (image .entry)) .triangles)) ⌝ }
 {
@@ -47,7 +48,7 @@ pub fn check_image(image: &[u8]) -> u64
     tell_count(verdict, triangles_held(image))
 }
 
-// A query at each point, 24 bytes an answer: tests 10 and 2 to 9.
+// A query at each point, 24 bytes an answer: tests 10 and 2 to 9. The status is the number of points.
 fn query_points(query: Query, image: &[u8], points: &[u8], distance: f32, answers: &mut [u8]) -> u64
     ensures told { λ r. ⌜ r ≡ told (queryVerdict (now (image .entry)) (now (points .entry)) distance (length (now (answers .entry)))) (length (now (points .entry)) / 12) ⌝ }
     ensures answers { λ _. ⌜ now (answers .exit) ≡ afterBytes (queryVerdict (now (image .entry)) (now (points .entry)) distance (length (now (answers .entry)))) (answerBytes (answerIn (asQuery query) (contents (now (image .entry))) distance) (now (points .entry))) (now (answers .entry)) ⌝ }
@@ -56,7 +57,8 @@ fn query_points(query: Query, image: &[u8], points: &[u8], distance: f32, answer
     tell_count(verdict, points.len() / 12)
 }
 
-// The nearest surface point to each point, the lowest triangle number among equals.
+// Writes the sure query's answer at each point: the nearest surface point, the lowest triangle number among equals.
+// The status is the number of points.
 pub fn sure_points(image: &[u8], points: &[u8], distance: f32, answers: &mut [u8]) -> u64
     ensures told { λ r. ⌜ r ≡ told (queryVerdict (now (image .entry)) (now (points .entry)) distance (length (now (answers .entry)))) (length (now (points .entry)) / 12) ⌝ }
     ensures answers { λ _. ⌜ now (answers .exit) ≡ afterBytes (queryVerdict (now (image .entry)) (now (points .entry)) distance (length (now (answers .entry)))) (answerBytes (answerIn sure (contents (now (image .entry))) distance) (now (points .entry))) (now (answers .entry)) ⌝ }
@@ -64,7 +66,7 @@ pub fn sure_points(image: &[u8], points: &[u8], distance: f32, answers: &mut [u8
     query_points(Query::Sure, image, points, distance, answers)
 }
 
-// What the Rust's search answers at each point.
+// Writes what the search of the Rust answers at each point. The status is the number of points.
 pub fn source_points(image: &[u8], points: &[u8], distance: f32, answers: &mut [u8]) -> u64
     ensures told { λ r. ⌜ r ≡ told (queryVerdict (now (image .entry)) (now (points .entry)) distance (length (now (answers .entry)))) (length (now (points .entry)) / 12) ⌝ }
     ensures answers { λ _. ⌜ now (answers .exit) ≡ afterBytes (queryVerdict (now (image .entry)) (now (points .entry)) distance (length (now (answers .entry)))) (answerBytes (answerIn source (contents (now (image .entry))) distance) (now (points .entry))) (now (answers .entry)) ⌝ }
@@ -72,7 +74,7 @@ pub fn source_points(image: &[u8], points: &[u8], distance: f32, answers: &mut [
     query_points(Query::Source, image, points, distance, answers)
 }
 
-// The winding number about each point, an f32 in four bytes: tests 10, 2 to 4, 6 and 8.
+// Writes the winding number about each point, an f32 in four bytes: tests 10, 2 to 4, 6 and 8. The status is the number of points.
 pub fn winding_points(image: &[u8], points: &[u8], out: &mut [u8]) -> u64
     ensures told { λ r. ⌜ r ≡ told (windingVerdict (now (image .entry)) (now (points .entry)) (length (now (out .entry)))) (length (now (points .entry)) / 12) ⌝ }
     ensures windings { λ _. ⌜ now (out .exit) ≡ afterBytes (windingVerdict (now (image .entry)) (now (points .entry)) (length (now (out .entry)))) (windingBytes (contents (now (image .entry)) .triangles) (now (points .entry))) (now (out .entry)) ⌝ }

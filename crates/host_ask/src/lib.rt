@@ -1,4 +1,5 @@
-// An image asked by a C host at the bytes of points: loaded, tested, answered. Each contract is an equation with a definition of `spec_host`.
+// Answers a C host's queries over an image: the image is loaded, tested, and queried at the bytes of points.
+// Each contract is an equation with a definition of `spec_host`.
 pub mod ask;
 pub mod calls;
 pub mod point_queries;

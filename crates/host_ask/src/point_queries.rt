@@ -40,7 +40,7 @@ fn late_refusal(
         .or(distance_refusal(distance))
 }
 
-// The answers at all points, from the front of the bytes.
+// Writes the answers at all points to the front of the bytes.
 fn put_answers(
     query: Query,
     triangles: &[f32],
@@ -76,7 +76,7 @@ fn put_answers(
     }
 }
 
-// A refusal changes nothing.
+// Makes the tests 7, 8 and 9, and writes the answers. A refusal changes nothing.
 pub fn ask_lists(
     query: Query,
     triangles: &[f32],

@@ -24,8 +24,7 @@ fn wound_refusal(triangles: &[f32], points: &[u8], room: usize) -> Verdict
         .or(point_bytes_refusal(points))
 }
 
-// The winding number about each point, from the front of the bytes. The table of arc tangents is laid
-// out once for all of them.
+// Writes the winding number about each point to the front of the bytes. The table of arc tangents is laid out once for all of them.
 fn put_windings(triangles: &[f32], points: &[u8], out: &mut [u8])
     requires { ⌜ 4 * (length (now points) / 12) ≤ length (now out) ⌝ }
     ensures { λ _. ⌜ now (out .exit) ≡ over 0 (windingBytes (now (triangles .entry)) (now (points .entry))) (now (out .entry)) ⌝ }
@@ -40,7 +39,7 @@ fn put_windings(triangles: &[f32], points: &[u8], out: &mut [u8])
     }
 }
 
-// A refusal changes nothing.
+// Makes the tests, and writes the winding numbers. A refusal changes nothing.
 pub fn wind_lists(triangles: &[f32], points: &[u8], out: &mut [u8]) -> Verdict
     ensures verdict { λ r. ⌜ asVerdict r ≡ woundRefusal (now (triangles .entry)) (now (points .entry)) (length (now (out .entry))) ⌝ }
     ensures windings { λ r. ⌜ now (out .exit) ≡ afterBytes (asVerdict r) (windingBytes (now (triangles .entry)) (now (points .entry))) (now (out .entry)) ⌝ }

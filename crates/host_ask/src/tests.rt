@@ -19,7 +19,7 @@ pub fn count_refusal(count: usize) -> Verdict
     refused_if(count == 0, 2, 0).or(refused_if(limits::MOST_TRIANGLES < count, 3, 0))
 }
 
-// The first of the tests 2 to 6 that refuses. The rooms are in bytes: 24 an answer, 12 a point.
+// The first of the tests 2 to 6 that refuses. `answers` and `points` are lengths in bytes: 24 an answer, 12 a point.
 pub fn early_refusal(
     triangles: &[f32],
     settings: Settings,
@@ -33,7 +33,7 @@ pub fn early_refusal(
         .or(room_refusal(answers / 24, points / 12))
 }
 
-// 7, by the count alone.
+// 7, by the count alone: no tree has that many nodes.
 pub fn nodes_refusal(nodes: usize) -> Verdict
     ensures { λ r. ⌜ asVerdict r ≡ nodesRefusal nodes ⌝ }
 {

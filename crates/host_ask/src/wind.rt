@@ -1,4 +1,4 @@
-// Winding numbers over an image: its layout, its triangles, and nothing of its tree.
+// Winding numbers over an image: its layout and its triangles are read, and nothing of its tree.
 ghost use mathlib.Core.Path.{_≡_};
 ghost use lib.ListN.{length};
 ghost use Rattle.spec_records.specs.Layouts.{version1, imageSize};
@@ -14,6 +14,8 @@ use records::entries::read_f32s;
 use records::layout::ImageLayout;
 use records::layout::image_layout;
 
+// Loads the triangles of an image of `count` triangles and `nodes` nodes, and writes the winding numbers.
+// Nothing is loaded where the count is refused.
 fn wind_laid(image: &[u8], count: usize, nodes: usize, points: &[u8], out: &mut [u8]) -> Verdict
     requires { ⌜ imageSize version1 count nodes ≡ length (now image) ⌝ }
     ensures verdict { λ r. ⌜ asVerdict r ≡ woundRefusal (imageIn version1 (now (image .entry)) count nodes .triangles) (now (points .entry)) (length (now (out .entry))) ⌝ }
@@ -29,7 +31,7 @@ fn wind_laid(image: &[u8], count: usize, nodes: usize, points: &[u8], out: &mut 
     wind_lists(&triangles[..numbers], points, out)
 }
 
-// Test 10, and then what the image holds.
+// Makes test 10 and the others, and writes the winding numbers. A refusal changes nothing.
 pub fn wind(image: &[u8], points: &[u8], out: &mut [u8]) -> Verdict
     ensures verdict { λ r. ⌜ asVerdict r ≡ windingVerdict (now (image .entry)) (now (points .entry)) (length (now (out .entry))) ⌝ }
     ensures windings { λ r. ⌜ now (out .exit) ≡ afterBytes (asVerdict r) (windingBytes (contents (now (image .entry)) .triangles) (now (points .entry))) (now (out .entry)) ⌝ }

@@ -1,4 +1,4 @@
-// The build, from the outside in: the bytes, the list, the image.
+// The build from the outside in: the bytes, the list, the image.
 ghost use lib.ListN.{length};
 ghost use Rattle.lists.specs.Values.{asSettings};
 ghost use Rattle.spec_host.specs.Build.{numbersOf, builtImage, listRefusal, bytesRefusal, ImagePut};
@@ -14,7 +14,7 @@ use lists::settings::Settings;
 use lists::tests::triangle_count;
 use lists::verdict::Verdict;
 
-// Builds into lists with room for the most triangles, so that the build tests 1 to 5.
+// Builds the tree in local lists with room for the maximum of triangles, so that only the tests 1 to 5 can refuse the build, and writes its image.
 fn build_list(settings: Settings, triangles: &[f32], image: &mut [u8]) -> u64
     ensures { λ r. ⌜ ImagePut (listRefusal (now (triangles .entry)) (asSettings settings) (length (now (image .entry)))) (builtImage (now (triangles .entry)) (asSettings settings)) (now (image .entry)) r (now (image .exit)) ⌝ }
 {
@@ -47,8 +47,8 @@ fn build_list(settings: Settings, triangles: &[f32], image: &mut [u8]) -> u64
     }
 }
 
-// Builds the tree over the triangles in the bytes, 36 a triangle, and puts its image at the front of
-// `image`. Tests 1 to 6; what is told is a refusal, or how many bytes the image has.
+// Builds the tree over the triangles in the bytes, 36 a triangle, and writes its image to the front of `image`.
+// The status is the number of bytes of the image, or the first of the tests 1 to 6 that refuses. A refusal changes nothing.
 pub fn build_image(
     strategy: usize,
     leaf_minimum: usize,

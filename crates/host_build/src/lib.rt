@@ -1,4 +1,4 @@
-// An image built for a C host from the bytes of a triangle list, and how large it is at most.
+// Builds an image for a C host from the bytes of a triangle list, and says how large it can be.
 // Each contract is an equation with a definition of `spec_host`.
 pub mod build;
 pub mod most;

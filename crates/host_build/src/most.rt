@@ -1,10 +1,10 @@
-// How large an image is at most, so that a host can lend room that always does.
+// The largest size of an image, so that a host can lend room that always suffices.
 ghost use mathlib.Core.Path.{_≡_};
 ghost use Rattle.spec_host.specs.Build.{imageMost};
 use image::size::image_size;
 use lists::limits;
 
-// Of so many triangles; 0 where no list of so many passes.
+// The maximum size of the image of a list of `triangles` triangles, or 0 where no such list passes.
 pub fn image_most(triangles: usize) -> u64
     ensures { λ r. ⌜ r ≡ imageMost triangles ⌝ }
 {

@@ -1,4 +1,4 @@
-// An image put for a C host, where there is room for it.
+// Writes an image for a C host where there is room for it.
 ghost use lib.ListN.{length};
 ghost use Rattle.spec_records.specs.Layouts.{version1};
 ghost use Rattle.spec_lists.specs.Refusals.{roomRefusal};
@@ -13,7 +13,7 @@ use lists::settings::Settings;
 use lists::tests::triangle_count;
 use lists::verdict::Verdict;
 
-// Of a tree in lists: test 6.
+// Writes the image of a tree in lists to the front of `image`. The status is its number of bytes, or the refusal 6, which changes nothing.
 pub fn put_built(
     settings: Settings,
     triangles: &[f32],

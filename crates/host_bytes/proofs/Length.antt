@@ -1,4 +1,4 @@
--- A refusal by the number of bytes is the build's, it can be told, and where there is none the bytes are whole triangles and few.
+-- The tests by the length alone: a refusal is the build's and fits a status, and bytes that pass are whole triangles, few enough to be read.
 use Prim.Native.Nat.{ℕ, _*_, _%_, _≤_}
 use mathlib.Core.Path.{_≡_, refl, _∙_}
 use mathlib.Core.Bool.{Bool, true, false, not}
@@ -16,6 +16,7 @@ use Rattle.spec_host.proofs.Told.{at-zero, no-test, then-test}
 use Rattle.spec_host.proofs.Build.{bytes-ragged, bytes-many}
 use Rattle.host_bytes.specs.Length.{lengthRefusal}
 
+-- a refusal by the length is the refusal of the build
 pub length-refused : (s : List ℕ) (settings : Settings) (given : ℕ) {number place : ℕ} → lengthRefusal s ≡ refused number place → bytesRefusal s settings given ≡ refused number place
 unfolding lengthRefusal raggedBytes firstRefusal
 length-refused s settings given {number} {place} e = go (eqb (length s % 36) 0) refl (ltb (36 * mostTriangles) (length s)) refl e
@@ -32,9 +33,11 @@ in-place s =
     then-test _ _ (at-zero (not (eqb (length s % 36) 0)) 1 (omega arith) (omega arith))
     (λ _. then-test _ [] (at-zero (ltb (36 * mostTriangles) (length s)) 3 (omega arith) (omega arith)) (λ _. no-test))
 
+-- a refusal by the length fits a status
 pub length-told : (s : List ℕ) {number place : ℕ} → lengthRefusal s ≡ refused number place → Placed number place
 length-told s e = rw e at (in-place s)
 
+-- bytes that pass are whole triangles, and a local list has room for their numbers
 pub length-passed : (s : List ℕ) → lengthRefusal s ≡ passes → (length s % 36 ≡ 0) × (length s ≤ 147456)
 unfolding lengthRefusal raggedBytes
 length-passed s e =

@@ -1,4 +1,4 @@
--- Which numbers of bytes are no triangle list that passes.
+-- The tests of a triangle list in bytes by its length alone. They come before anything is read.
 use Prim.Native.Nat.{ℕ, _*_}
 use mathlib.Core.List.{List, [], _∷_}
 use lib.Dec.{ltb}
@@ -7,6 +7,6 @@ use Rattle.spec_lists.specs.Limits.{mostTriangles}
 use Rattle.spec_lists.specs.Refusals.{Verdict, firstRefusal, refusedIf}
 use Rattle.spec_host.specs.Build.{raggedBytes}
 
--- 1: no multiple of 36 bytes; 3: more than the most triangles have
+-- 1: no multiple of 36 bytes; 3: more bytes than the maximum of triangles has
 unfoldable pub lengthRefusal : List ℕ → Verdict
 lengthRefusal s = firstRefusal (raggedBytes s ∷ refusedIf (ltb (36 * mostTriangles) (length s)) 3 0 ∷ [])

@@ -1,5 +1,4 @@
-// What is answered at a point, as bytes: six numbers, or a winding number. Each contract is an equation with a
-// definition of `spec_asked` or `spec_records`.
+// Writes an answer as bytes: six words, or a winding number.
 ghost use mathlib.Core.Path.{_≡_};
 ghost use Prim.Native.Nat.{_+_, _≤_};
 ghost use lib.ListN.{length};
@@ -15,6 +14,7 @@ use records::numbers::put_u32;
 use walks::answer::Answer;
 use walks::words::put_answer;
 
+// Writes the six words of the answer, 24 bytes from `at` on.
 pub fn put_answer_bytes(out: &mut [u8], at: usize, answer: Answer)
     requires { ⌜ at + 24 ≤ length (now out) ⌝ }
     ensures { λ _. ⌜ now (out .exit) ≡ over at (wordBytes (sixWords binary32 (asAnswer answer))) (now (out .entry)) ⌝ }
@@ -24,6 +24,7 @@ pub fn put_answer_bytes(out: &mut [u8], at: usize, answer: Answer)
     put_u32s(&six, 0, 6, out, at);
 }
 
+// Writes the bits of the winding number, four bytes from `at` on.
 pub fn put_winding_bytes(out: &mut [u8], at: usize, winding: f32)
     requires { ⌜ at + 4 ≤ length (now out) ⌝ }
     ensures { λ _. ⌜ now (out .exit) ≡ over at (little 4 (toBits binary32 winding)) (now (out .entry)) ⌝ }

@@ -1,4 +1,4 @@
-// What crosses the border to C as bytes and numbers: the one number that a call answers, triangles, points, answers.
+// What crosses the border to C as bytes and numbers: the status that a call returns, triangles, points, answers.
 // Each contract is an equation with a definition of `spec_host`.
 pub mod answers;
 pub mod points;

@@ -1,5 +1,4 @@
-// Points as bytes, twelve a point: which bytes are refused, and how a point is read. Each contract is an equation with
-// a definition of `spec_asked`, `spec_lists` or `spec_host`.
+// Points as bytes, twelve a point: which bytes are refused, and how a point is read.
 ghost use mathlib.Core.Path.{_≡_};
 ghost use Prim.Native.Nat.{_+_, _*_, _≤_};
 ghost use lib.ListN.{length, getD};
@@ -18,6 +17,7 @@ use lists::verdict::refused_if;
 use records::numbers::u32_at;
 use shapes::vec3::Vec3;
 
+// Number i of the bytes.
 fn number_in(bytes: &[u8], i: usize) -> f32
     requires { ⌜ 4 * i + 4 ≤ length (now bytes) ⌝ }
     ensures { λ r. ⌜ r ≡ getD (numbersOf (now (bytes .entry))) i nan ⌝ }
@@ -25,7 +25,7 @@ fn number_in(bytes: &[u8], i: usize) -> f32
     from_bits(u32_at(bytes, 4 * i))
 }
 
-// The index of the first number that is no coordinate, or how many numbers there are.
+// The index of the first number that is no coordinate, or the number of numbers.
 fn first_bad_in(bytes: &[u8]) -> usize
     ensures { λ r. ⌜ r ≡ firstBad (numbersOf (now (bytes .entry))) ⌝ }
 {
@@ -40,7 +40,7 @@ fn first_bad_in(bytes: &[u8]) -> usize
     i
 }
 
-// 8: the bytes are no whole points, else a coordinate is bad.
+// 8: the bytes are no whole points, or a number is no coordinate.
 pub fn point_bytes_refusal(bytes: &[u8]) -> Verdict
     ensures { λ r. ⌜ asVerdict r ≡ pointBytesRefusal (now (bytes .entry)) ⌝ }
 {
@@ -49,7 +49,7 @@ pub fn point_bytes_refusal(bytes: &[u8]) -> Verdict
     ragged.or(refused_if(at < bytes.len() / 4, 8, at))
 }
 
-// Point number k.
+// Point k of the bytes.
 pub fn point_in(bytes: &[u8], k: usize) -> Vec3
     requires { ⌜ 12 * k + 12 ≤ length (now bytes) ⌝ }
     ensures { λ r. ⌜ asPoint r ≡ pointAt (numbersOf (now (bytes .entry))) (3 * k) ⌝ }

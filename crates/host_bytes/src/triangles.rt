@@ -1,4 +1,4 @@
-// A triangle list in bytes: the tests that need no number of it, and its numbers.
+// A triangle list in bytes: the tests by its length alone, and its numbers.
 ghost use mathlib.Core.Path.{_≡_};
 ghost use Prim.Native.Nat.{_/_, _≤_};
 ghost use lib.ListN.{length};
@@ -11,7 +11,7 @@ use lists::verdict::Verdict;
 use lists::verdict::refused_if;
 use records::entries::read_f32s;
 
-// Of a triangle list that passes test 3.
+// The bytes of the longest triangle list that passes test 3.
 const MOST_BYTES: usize = 36 * MOST_TRIANGLES;
 
 // 1 and 3, by the number of bytes alone.
@@ -21,7 +21,7 @@ pub fn length_refusal(bytes: &[u8]) -> Verdict
     refused_if(bytes.len() % 36 != 0, 1, 0).or(refused_if(MOST_BYTES < bytes.len(), 3, 0))
 }
 
-// Its numbers, to the front of a list that has room for them.
+// Leaves the numbers of the bytes at the front of the list.
 pub fn read_triangles(bytes: &[u8], list: &mut [f32])
     requires { ⌜ length (now bytes) / 4 ≤ length (now list) ⌝ }
     ensures { λ _. ⌜ now (list .exit) ≡ over 0 (numbersOf (now (bytes .entry))) (now (list .entry)) ⌝ }

@@ -1,4 +1,4 @@
--- A node's links, read as two lists of entries.
+-- The links of a node stand in bytes as a kind and two numbers, and are read in two steps.
 use mathlib.Core.Path.{_≡_}
 use mathlib.Core.List.{List}
 use Prim.Native.Nat.{ℕ, _+_, _*_, _≤_}
@@ -11,6 +11,7 @@ use Rattle.spec_records.specs.Entries.{numbersIn}
 use Rattle.spec_records.specs.Layouts.{version1}
 use Rattle.spec_image.specs.Image.{linksIn}
 
+-- the kind and then the two numbers, written to the list, are the node's links
 pub links-over : (s : List ℕ) (start i : ℕ) (old mid out : List ℕ) → 3 * i + 3 ≤ length old
     → mid ≡ over (3 * i) (numbersIn 2 s (start + 30 * i) 1) old → out ≡ over (3 * i + 1) (numbersIn 2 s (start + 30 * i + 2) 2) mid
     → out ≡ over (3 * i) (linksIn version1 s start i) old

@@ -1,4 +1,4 @@
--- What was read, put together: the answer, and lists that a refusal leaves as they were.
+-- What reading an image answers and leaves, put together from its steps.
 use mathlib.Core.Path.{_≡_, sym, ap, _∙_}
 use mathlib.Core.List.{List}
 use mathlib.Core.Bool.{Bool, true, _&&_}
@@ -19,12 +19,13 @@ use Rattle.records.specs.declared.layout.ImageLayout.{ImageLayout}
 use Rattle.records.specs.declared.layout.ImageLayout.the-variants.{Right, Wrong}
 use Rattle.image.specs.Values.{ListsRead}
 
--- nothing is changed on a refusal
+-- a refusal leaves the lists as they were
 pub unchanged : (number place : ℕ) (s : List ℕ) (t : List Float) (o l : List ℕ) (b : List Float) → ListsRead (filledBy version1 s (refused number place)) t o l b t o l b
 unchanged number place s t o l b = record { triangles = sym (over-none 0 t); order = sym (over-none 0 o); links = sym (over-none 0 l); boxes = sym (over-none 0 b) }
 
 -- ---- what the layout's answer says
 module _ {r : ImageLayout} (s : List ℕ) (laid : imageLaid r ≡ laidOut (imageWants version1) s 0) where
+  -- a wrong layout is refused with 10, at the offset of the wrong record
   pub answer-wrong : {at : ℕ} (rooms : Rooms) → r ≡ Wrong at → refused 10 at ≡ imageRead version1 s rooms
   unfolding imageRead
   answer-wrong rooms off = rw (← laid, off)
@@ -33,9 +34,11 @@ module _ {r : ImageLayout} (s : List ℕ) (laid : imageLaid r ≡ laidOut (image
     spans : laidOut (imageWants version1) s 0 ≡ bodies (imageSpans version1 t n)
     spans = sym laid ∙ ap imageLaid right
 
+    -- the counts that the layout answers fix the length of the image, so each record lies within the bytes
     pub image-long : imageSize version1 t n ≡ length s
     image-long = image-is version1 s t n spans .long
 
+    -- with the layout right the rooms decide
     pub answer-by-room : (rooms : Rooms) → imageRead version1 s rooms ≡ byRoom s rooms t n
     unfolding imageRead imageSpans
     answer-by-room rooms =
@@ -50,6 +53,7 @@ pub record Enough (r : Rooms) (t n : ℕ) : Type 0 where
   pub links : 3 * n ≤ r .links
   pub boxes : 6 * n ≤ r .boxes
 
+-- rooms that pass the test hold each list
 pub enough : (r : Rooms) (t n : ℕ) → roomFor r t n ≡ true → Enough r t n
 enough r t n e =
     let a : Bool = leb (9 * t) (r .triangles) in

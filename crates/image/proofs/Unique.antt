@@ -1,4 +1,4 @@
--- What reading and writing an image answer is fixed by what it stands for.
+-- No two answers of reading or writing an image stand for the same of the definitions.
 use mathlib.Core.Path.{_≡_, refl, sym, ap, _∙_}
 use Rattle.spec_image.specs.Reading as Reading
 use Rattle.spec_image.specs.Writing as Writing
@@ -18,6 +18,7 @@ read-is : (a : ImageRead) → backRead (answerOf a) ≡ a
 read-is (Refused number place) = refl
 read-is (Read settings triangles nodes) = refl
 
+-- what the answer of reading stands for fixes it
 pub read-unique : (a b : ImageRead) → answerOf a ≡ answerOf b → a ≡ b
 read-unique a b e = sym (read-is a) ∙ ap backRead e ∙ read-is b
 
@@ -30,5 +31,6 @@ written-is : (a : ImageWritten) → backWritten (asWritten a) ≡ a
 written-is (Written.Refused number place) = refl
 written-is (Written.Bytes bytes) = refl
 
+-- what the answer of writing stands for fixes it
 pub written-unique : (a b : ImageWritten) → asWritten a ≡ asWritten b → a ≡ b
 written-unique a b e = sym (written-is a) ∙ ap backWritten e ∙ written-is b

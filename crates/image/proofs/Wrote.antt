@@ -1,4 +1,4 @@
--- What was written, put together: the answer, and bytes that a refusal leaves as they were.
+-- What writing an image answers and leaves, put together from its steps.
 use mathlib.Core.Path.{_≡_, sym, ap, _∙_}
 use Prim.Native.Nat.{ℕ, _≤_}
 use mathlib.Core.List.{List}
@@ -17,6 +17,7 @@ use Rattle.image.specs.Values.{WrittenIs}
 use Rattle.image.specs.declared.write.ImageWritten.the-variants as Written
 
 module _ (x : Image) (out : List ℕ) {v : Verdict} (tests : asVerdict v ≡ writeRefusal version1 x (length out)) where
+  -- a refusal leaves the bytes as they were
   pub wrote-nothing : {number place : ℕ} → v ≡ Refused number place → WrittenIs x (Written.Refused number place) out out
   unfolding imageWritten bytesAfter
   wrote-nothing {number} {place} e =
@@ -30,9 +31,11 @@ module _ (x : Image) (out : List ℕ) {v : Verdict} (tests : asVerdict v ≡ wri
     good : Good x
     good = write-passed version1 x (length out) passed .0
 
+    -- where the tests pass, the image is complete and the bytes have room for it
     pub can-put : Complete x × imageSize version1 (length (x .order)) (x .nodes) ≤ length out
     can-put = (good-complete x good, rw (good-count x good) (write-passed version1 x (length out) passed .1))
 
+    -- where the tests pass, the image stands at the front of the bytes
     pub wrote-image : {n : ℕ} {out′ : List ℕ} → Put 0 (imageBytes version1 x) out out′ n → n ≡ imageSize version1 (length (x .order)) (x .nodes) → WrittenIs x (Written.Bytes n) out out′
     unfolding imageWritten bytesAfter
     wrote-image p size = record { answer = rw (passed, size, good-count x good); filled = rw passed (p .written) }

@@ -1,4 +1,4 @@
--- The image's values in the terms of `spec_image`, and what the calls leave in the lent lists.
+-- The image and the answers of the code as the definitions' own, and what the calls leave in the lent lists. The contracts compare by these.
 use Prim.Native.Nat.{ℕ}
 use mathlib.Core.List.{List}
 use lib.Ieee.{Float}
@@ -33,7 +33,7 @@ pub record TreeFilled (x : Image) (o l : List ℕ) (b : List Float) (o′ l′ :
   pub links : l′ ≡ over 0 (x .links) l
   pub boxes : b′ ≡ over 0 (x .boxes) b
 
--- and its triangles
+-- the image's triangles and its tree stand at the front of the lent lists, and all else is as it was
 pub record ListsRead (x : Image) (t : List Float) (o l : List ℕ) (b t′ : List Float) (o′ l′ : List ℕ) (b′ : List Float) : Type 0 where
   pub triangles : t′ ≡ over 0 (x .triangles) t
   pub order : o′ ≡ over 0 (x .order) o
@@ -60,7 +60,7 @@ answerOf (Read settings triangles nodes) = Reading.holds (asSettings settings) t
 abbrev pub roomsIn : List Float → List ℕ → List ℕ → List Float → Reading.Rooms
 roomsIn t o l b = record { triangles = length t; order = length o; links = length l; boxes = length b }
 
--- layout, then room, then the lists
+-- what reading an image answers and leaves: the layout, then the room, then the lists
 pub record ReadIs (s : List ℕ) (r : ImageRead) (t : List Float) (o l : List ℕ) (b t′ : List Float) (o′ l′ : List ℕ) (b′ : List Float) : Type 0 where
   pub answer : answerOf r ≡ Reading.imageRead version1 s (roomsIn t o l b)
   pub filled : ListsRead (Reading.filledBy version1 s (answerOf r)) t o l b t′ o′ l′ b′
@@ -69,7 +69,7 @@ abbrev pub asWritten : ImageWritten → Writing.ImageWritten
 asWritten (Written.Refused number place) = Writing.refused number place
 asWritten (Written.Bytes bytes) = Writing.wrote bytes
 
--- the tests, then the bytes
+-- what writing an image answers and leaves: the tests, then the bytes
 pub record WrittenIs (x : Image) (r : ImageWritten) (out out′ : List ℕ) : Type 0 where
   pub answer : asWritten r ≡ Writing.imageWritten version1 x (length out)
   pub filled : out′ ≡ Writing.bytesAfter version1 x out

@@ -1,4 +1,4 @@
-// What an image holds: its settings, its triangles, its tree.
+// Reads an image whose layout is right: its settings, its triangles, its tree.
 ghost use mathlib.Core.Path.{_≡_};
 ghost use Prim.Native.Nat.{_+_, _*_, _≤_};
 ghost use lib.ListN.{length};
@@ -12,7 +12,7 @@ use records::entries::read_f32s;
 use records::entries::read_u16s;
 use records::numbers::u16_at;
 
-// The numbers of record 1, which stands at the front.
+// The settings in record 1, which stands at the front.
 pub fn settings_of(bytes: &[u8]) -> Settings
     requires { ⌜ 14 ≤ length (now bytes) ⌝ }
     ensures { λ r. ⌜ asSettings r ≡ settingsIn (now (bytes .entry)) ⌝ }
@@ -24,7 +24,7 @@ pub fn settings_of(bytes: &[u8]) -> Settings
     }
 }
 
-// One node of those that stand from `start` on, into its places.
+// Leaves the links and the box of one node in their lists. The nodes stand from byte `start` on.
 fn read_node(bytes: &[u8], start: usize, node: usize, links: &mut [u32], boxes: &mut [f32])
     requires { ⌜ start + 30 * node + 30 ≤ length (now bytes) ⌝ }
     requires { ⌜ (3 * node + 3 ≤ length (now links)) × (6 * node + 6 ≤ length (now boxes)) ⌝ }
@@ -37,6 +37,7 @@ fn read_node(bytes: &[u8], start: usize, node: usize, links: &mut [u32], boxes: 
     read_f32s(bytes, at + 6, 6, boxes, 6 * node);
 }
 
+// Leaves the links and boxes of all nodes at the front of their lists.
 fn read_nodes(bytes: &[u8], start: usize, nodes: usize, links: &mut [u32], boxes: &mut [f32])
     requires { ⌜ start + 30 * nodes ≤ length (now bytes) ⌝ }
     requires { ⌜ (3 * nodes ≤ length (now links)) × (6 * nodes ≤ length (now boxes)) ⌝ }
@@ -50,7 +51,7 @@ fn read_nodes(bytes: &[u8], start: usize, nodes: usize, links: &mut [u32], boxes
     }
 }
 
-// The order and the nodes of an image of so many triangles and nodes, into lists that have room for them.
+// Leaves the order and the nodes of an image of `count` triangles and `nodes` nodes at the front of the lists.
 pub fn read_tree(
     bytes: &[u8],
     count: usize,
@@ -70,7 +71,7 @@ pub fn read_tree(
     read_nodes(bytes, fourth, nodes, links, boxes);
 }
 
-// And its triangles.
+// Leaves the triangles, the order and the nodes of such an image at the front of the lists.
 pub fn read_lists(
     bytes: &[u8],
     count: usize,

@@ -1,4 +1,4 @@
-// The image of a drawing and its tree: bytes put, lists read, the writer and the reader with their tests.
+// The image of a drawing and its tree: records put, lists read, and the writer and the reader with their tests.
 // Each contract is an equation with a definition of `spec_image`.
 pub mod get;
 pub mod put;

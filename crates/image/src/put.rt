@@ -1,4 +1,4 @@
-// The records of an image, each put behind the other.
+// Writes the records of an image, one behind the other. What writes answers the index behind what it wrote.
 ghost use mathlib.Core.Path.{_≡_};
 ghost use Prim.Native.Nat.{_+_, _*_, _≤_};
 ghost use lib.ListN.{length};
@@ -17,6 +17,7 @@ use records::entries::put_u16s;
 use records::numbers::put_u16;
 use records::numbers::put_u32;
 
+// Writes the header of a record: the size of its body, and its kind.
 fn put_header(out: &mut [u8], at: usize, size: usize, kind: usize) -> usize
     requires { ⌜ at + 6 ≤ length (now out) ⌝ }
     ensures { λ r. ⌜ Put at (header size kind) (now (out .entry)) (now (out .exit)) r ⌝ }
@@ -26,6 +27,7 @@ fn put_header(out: &mut [u8], at: usize, size: usize, kind: usize) -> usize
     put_u16(out, next, kind)
 }
 
+// Writes record 1, the settings, to the front.
 fn put_settings(settings: Settings, out: &mut [u8]) -> usize
     requires { ⌜ 14 ≤ length (now out) ⌝ }
     ensures { λ r. ⌜ Put 0 (recordOf 1 (settingsBytes version1 (asSettings settings))) (now (out .entry)) (now (out .exit)) r ⌝ }
@@ -38,6 +40,7 @@ fn put_settings(settings: Settings, out: &mut [u8]) -> usize
     put_u16(out, c, settings.maximum_depth)
 }
 
+// Writes record 2, the triangles.
 fn put_triangles(triangles: &[f32], out: &mut [u8], at: usize) -> usize
     requires { ⌜ at + 6 + 4 * length (now triangles) ≤ length (now out) ⌝ }
     ensures { λ r. ⌜ Put at (recordOf 2 (floatBytes binary32 (now (triangles .entry)) 0 (length (now (triangles .entry))))) (now (out .entry)) (now (out .exit)) r ⌝ }
@@ -47,6 +50,7 @@ fn put_triangles(triangles: &[f32], out: &mut [u8], at: usize) -> usize
     put_f32s(triangles, 0, triangles.len(), out, body)
 }
 
+// Writes record 3, the order.
 fn put_order(order: &[u32], out: &mut [u8], at: usize) -> usize
     requires { ⌜ at + 6 + 2 * length (now order) ≤ length (now out) ⌝ }
     ensures { λ r. ⌜ Put at (recordOf 3 (numberBytes 2 (now (order .entry)) 0 (length (now (order .entry))))) (now (out .entry)) (now (out .exit)) r ⌝ }
@@ -56,7 +60,7 @@ fn put_order(order: &[u32], out: &mut [u8], at: usize) -> usize
     put_u16s(order, 0, order.len(), out, body)
 }
 
-// Its kind, left and right, and its box.
+// Writes the kind, left and right of a node, and its box.
 fn put_node(links: &[u32], boxes: &[f32], node: usize, out: &mut [u8], at: usize) -> usize
     requires { ⌜ (3 * node + 3 ≤ length (now links)) × (6 * node + 6 ≤ length (now boxes)) ⌝ }
     requires { ⌜ at + 30 ≤ length (now out) ⌝ }
@@ -68,6 +72,7 @@ fn put_node(links: &[u32], boxes: &[f32], node: usize, out: &mut [u8], at: usize
     put_f32s(boxes, 6 * node, 6, out, bounds)
 }
 
+// Writes all nodes.
 fn put_nodes(links: &[u32], boxes: &[f32], nodes: usize, out: &mut [u8], at: usize) -> usize
     requires { ⌜ (3 * nodes ≤ length (now links)) × (6 * nodes ≤ length (now boxes)) ⌝ }
     requires { ⌜ at + 30 * nodes ≤ length (now out) ⌝ }
@@ -83,8 +88,7 @@ fn put_nodes(links: &[u32], boxes: &[f32], nodes: usize, out: &mut [u8], at: usi
     next
 }
 
-// The image of a tree that has passed the tests, into bytes that have room for it. It answers how many
-// bytes it wrote; those behind them stay as they were.
+// Writes the image of a tree that passed the tests to the front of `out` and answers how many bytes it has. The bytes behind them stay as they were.
 pub fn put_image(
     settings: Settings,
     triangles: &[f32],

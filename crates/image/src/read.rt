@@ -1,4 +1,4 @@
-// Reading an image: layout first, then room, then the lists.
+// Reading an image: its layout is tested first, then the lengths of the lent lists.
 ghost use mathlib.Core.Path.{_≡_};
 ghost use Prim.Native.Nat.{_*_, _<_, _^_};
 ghost use Rattle.spec_image.specs.Reading.{roomFor};
@@ -30,6 +30,7 @@ pub enum ImageRead {
     },
 }
 
+// Whether the lists have room for that many triangles and nodes.
 fn has_room(rooms: Rooms, triangles: usize, nodes: usize) -> bool
     requires { ⌜ (9 * triangles < 2 ^ 64) × (6 * nodes < 2 ^ 64) ⌝ }
     ensures { λ r. ⌜ r ≡ roomFor (roomsOf rooms) triangles nodes ⌝ }
@@ -40,8 +41,9 @@ fn has_room(rooms: Rooms, triangles: usize, nodes: usize) -> bool
         & (6 * nodes <= rooms.boxes)
 }
 
-// 10 where the layout is wrong, then 6 where a list has too little room; no other test. A refusal
-// changes nothing, and entries past those used stay as they were.
+// Leaves the lists of the image at the front of the lent ones and answers its settings and counts.
+// 10 refuses a wrong layout, then 6 a list with too little room. Nothing else is tested: the tree check is a call of its own.
+// A refusal changes nothing.
 pub fn read_image(
     bytes: &[u8],
     triangles: &mut [f32],

@@ -1,4 +1,4 @@
-// How many bytes an image has, and whether so many have room for it.
+// How many bytes an image has, and whether the lent bytes have room for it.
 ghost use mathlib.Core.Path.{_≡_};
 ghost use Prim.Native.Nat.{_≤_, _<_, _^_};
 ghost use lib.Dec.{ltb};
@@ -9,7 +9,7 @@ ghost use Rattle.lists.specs.Values.{asVerdict};
 use lists::verdict::Verdict;
 use lists::verdict::refused_if;
 
-// How many bytes the image of so many triangles and nodes has.
+// How many bytes the image of that many triangles and nodes has.
 pub fn image_size(triangles: usize, nodes: usize) -> usize
     requires { ⌜ imageSize version1 triangles nodes < 2 ^ 64 ⌝ }
     ensures { λ r. ⌜ r ≡ imageSize version1 triangles nodes ⌝ }
@@ -17,7 +17,7 @@ pub fn image_size(triangles: usize, nodes: usize) -> usize
     32 + 38 * triangles + 30 * nodes
 }
 
-// A node count of any size, however large, is asked for: it is held to the room before it is multiplied.
+// Whether `given` bytes are too few. The node count may be any number, so it is compared with the room before it is multiplied.
 fn is_short(given: usize, triangles: usize, nodes: usize) -> bool
     requires { ⌜ (given < 2 ^ 63) × (triangles ≤ mostTriangles) ⌝ }
     ensures { λ r. ⌜ r ≡ ltb given (imageSize version1 triangles nodes) ⌝ }
@@ -28,7 +28,7 @@ fn is_short(given: usize, triangles: usize, nodes: usize) -> bool
     given < image_size(triangles, nodes)
 }
 
-// 6: so many bytes are fewer than the image has.
+// 6: `given` bytes are fewer than the image has.
 pub fn image_room_refusal(given: usize, triangles: usize, nodes: usize) -> Verdict
     requires { ⌜ (given < 2 ^ 63) × (triangles ≤ mostTriangles) ⌝ }
     ensures { λ r. ⌜ asVerdict r ≡ Refusals.roomRefusal given (imageSize version1 triangles nodes) ⌝ }

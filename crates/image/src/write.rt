@@ -20,7 +20,7 @@ pub enum ImageWritten {
     Bytes(usize),
 }
 
-// 1 to 7.
+// The first of the tests 1 to 7 that refuses.
 fn write_refusal(
     settings: Settings,
     triangles: &[f32],
@@ -46,8 +46,8 @@ fn write_refusal(
     ))
 }
 
-// The image of a tree in lent lists, from the front of `out`; what stands behind it in `out` stays as it
-// was, and on a refusal all of it.
+// Writes the image of a tree in lent lists to the front of `out` and answers how many bytes it has. The bytes behind them stay as they were.
+// A refusal changes nothing.
 pub fn write_image(
     strategy: usize,
     leaf_minimum: usize,

@@ -1,4 +1,4 @@
--- The crate's values in the terms of `spec_printing`.
+-- What was found for a point, as the definitions' own. A contract compares by it.
 use Rattle.spec_printing.specs.Printed as printed
 use Rattle.printing.specs.declared.lines.Found.{Found}
 

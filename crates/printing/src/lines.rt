@@ -1,4 +1,4 @@
-// Lines: words and numbers with one space between, and a line feed.
+// Lines: words and numbers with one space between them, and a line feed.
 ghost use mathlib.Core.Path.{_≡_};
 ghost use mathlib.Core.List.{[], _∷_};
 ghost use Prim.Native.Nat.{_+_, _≤_};
@@ -9,6 +9,7 @@ ghost use Rattle.printing.specs.Values.{foundOf};
 use crate::numbers::put_decimal;
 use crate::numbers::put_hex;
 
+// Writes one byte.
 fn put_byte(out: &mut [u8], at: usize, byte: u8) -> usize
     requires { ⌜ at + 1 ≤ length (now out) ⌝ }
     ensures { λ r. ⌜ Put at (byte ∷ []) (now (out .entry)) (now (out .exit)) r ⌝ }
@@ -18,6 +19,7 @@ fn put_byte(out: &mut [u8], at: usize, byte: u8) -> usize
     at + 1
 }
 
+// Writes the bytes of the word.
 fn put_word(out: &mut [u8], at: usize, word: &[u8]) -> usize
     requires { ⌜ at + length (now word) ≤ length (now out) ⌝ }
     ensures { λ r. ⌜ Put at (now (word .entry)) (now (out .entry)) (now (out .exit)) r ⌝ }
@@ -30,6 +32,7 @@ fn put_word(out: &mut [u8], at: usize, word: &[u8]) -> usize
     at + i
 }
 
+// Writes a space and the number in decimal.
 fn put_spaced_decimal(out: &mut [u8], at: usize, n: usize) -> usize
     requires { ⌜ at + 21 ≤ length (now out) ⌝ }
     ensures { λ r. ⌜ Put at (spacedDecimal n) (now (out .entry)) (now (out .exit)) r ⌝ }
@@ -39,6 +42,7 @@ fn put_spaced_decimal(out: &mut [u8], at: usize, n: usize) -> usize
     put_decimal(out, next, n)
 }
 
+// Writes a space and the number in hex.
 fn put_spaced_hex(out: &mut [u8], at: usize, n: u32) -> usize
     requires { ⌜ at + 9 ≤ length (now out) ⌝ }
     ensures { λ r. ⌜ Put at (spacedHex n) (now (out .entry)) (now (out .exit)) r ⌝ }
@@ -48,7 +52,7 @@ fn put_spaced_hex(out: &mut [u8], at: usize, n: u32) -> usize
     put_hex(out, next, n)
 }
 
-// A word, and a number behind it.
+// Writes a word and a number behind it.
 fn put_named(out: &mut [u8], at: usize, word: &[u8], n: usize) -> usize
     requires { ⌜ at + length (now word) + 21 ≤ length (now out) ⌝ }
     ensures { λ r. ⌜ Put at (named (now (word .entry)) n) (now (out .entry)) (now (out .exit)) r ⌝ }
@@ -58,6 +62,7 @@ fn put_named(out: &mut [u8], at: usize, word: &[u8], n: usize) -> usize
     put_spaced_decimal(out, next, n)
 }
 
+// Writes the line of a refusal.
 pub fn put_refused(out: &mut [u8], at: usize, number: usize, place: usize) -> usize
     requires { ⌜ at + 50 ≤ length (now out) ⌝ }
     ensures { λ r. ⌜ Put at (refusedLine number place) (now (out .entry)) (now (out .exit)) r ⌝ }
@@ -68,6 +73,7 @@ pub fn put_refused(out: &mut [u8], at: usize, number: usize, place: usize) -> us
     put_byte(out, b, b'\n')
 }
 
+// Writes the line of a tree: its triangles, nodes and depth.
 pub fn put_counts(out: &mut [u8], at: usize, triangles: usize, nodes: usize, depth: usize) -> usize
     requires { ⌜ at + 85 ≤ length (now out) ⌝ }
     ensures { λ r. ⌜ Put at (countsLine triangles nodes depth) (now (out .entry)) (now (out .exit)) r ⌝ }
@@ -79,6 +85,7 @@ pub fn put_counts(out: &mut [u8], at: usize, triangles: usize, nodes: usize, dep
     put_byte(out, c, b'\n')
 }
 
+// Writes the line of a point at which nothing was found.
 pub fn put_nothing(out: &mut [u8], at: usize, point: usize) -> usize
     requires { ⌜ at + 29 ≤ length (now out) ⌝ }
     ensures { λ r. ⌜ Put at (nothingLine point) (now (out .entry)) (now (out .exit)) r ⌝ }
@@ -89,7 +96,7 @@ pub fn put_nothing(out: &mut [u8], at: usize, point: usize) -> usize
     put_byte(out, b, b'\n')
 }
 
-// What was found for a point: the triangle's number, and the surface point and its squared distance as bits.
+// What was found for a point: the number of the triangle, and the bits of the surface point and its squared distance.
 pub struct Found {
     pub triangle: usize,
     pub x: u32,
@@ -98,6 +105,7 @@ pub struct Found {
     pub squared: u32,
 }
 
+// Writes the line of a point at which this was found.
 pub fn put_found(out: &mut [u8], at: usize, point: usize, found: Found) -> usize
     requires { ⌜ at + 84 ≤ length (now out) ⌝ }
     ensures { λ r. ⌜ Put at (foundLine point (foundOf found)) (now (out .entry)) (now (out .exit)) r ⌝ }

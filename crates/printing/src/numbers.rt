@@ -1,11 +1,11 @@
-// Numbers in decimal and in hex, written into a lent list of bytes. Each contract is an equation with a
-// definition of `spec_printing`; what writes answers the place behind what it wrote.
+// Numbers in decimal and in hex.
 ghost use mathlib.Core.Path.{_≡_};
 ghost use Prim.Native.Nat.{_+_, _≤_, _<_};
 ghost use lib.ListN.{length};
 ghost use Rattle.spec_tables.specs.Tables.{Put};
 ghost use Rattle.spec_printing.specs.Printed.{digit, digits, width, decimal, hex};
 
+// The digit as a character.
 fn digit_of(d: usize) -> u8
     requires { ⌜ d < 16 ⌝ }
     ensures { λ r. ⌜ r ≡ digit d ⌝ }
@@ -16,7 +16,7 @@ fn digit_of(d: usize) -> u8
     (87 + d) as u8
 }
 
-// The lowest `count` digits of n in a base, from the last one backwards.
+// Writes the lowest `count` digits of n in a base, from the last one backwards.
 fn put_digits(out: &mut [u8], at: usize, base: usize, count: usize, n: usize) -> usize
     requires { ⌜ at + count ≤ length (now out) ⌝ }
     requires { ⌜ (0 < base) × (base ≤ 16) ⌝ }
@@ -46,6 +46,7 @@ fn width_of(n: usize) -> usize
     count
 }
 
+// Writes n in decimal, without leading zeros.
 pub fn put_decimal(out: &mut [u8], at: usize, n: usize) -> usize
     requires { ⌜ at + 20 ≤ length (now out) ⌝ }
     ensures { λ r. ⌜ Put at (decimal n) (now (out .entry)) (now (out .exit)) r ⌝ }
@@ -54,7 +55,7 @@ pub fn put_decimal(out: &mut [u8], at: usize, n: usize) -> usize
     put_digits(out, at, 10, width_of(n), n)
 }
 
-// Eight digits.
+// Writes n in hex, eight digits.
 pub fn put_hex(out: &mut [u8], at: usize, n: u32) -> usize
     requires { ⌜ at + 8 ≤ length (now out) ⌝ }
     ensures { λ r. ⌜ Put at (hex n) (now (out .entry)) (now (out .exit)) r ⌝ }

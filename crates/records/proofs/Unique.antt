@@ -1,4 +1,4 @@
--- What the layout of an image and that of an input tell is fixed by the spans of their bodies.
+-- No two layouts of the code stand for the same of the definitions.
 use mathlib.Core.Path.{_≡_, refl, sym, ap, ap₂, _∙_}
 use mathlib.Core.List.{List, [], _∷_}
 use Prim.Native.Nat.{ℕ, zero, suc, _*_, _/_}
@@ -33,6 +33,7 @@ image-is (image.Right triangles nodes) = ap₂ image.Right (trianglesCounted tri
     nodesCounted n = omega arith
 image-is (image.Wrong at) = refl
 
+-- what the layout of an image stands for fixes it
 pub image-unique : (a b : ImageLayout) → imageLaid a ≡ imageLaid b → a ≡ b
 image-unique a b e = sym (image-is a) ∙ ap backImage e ∙ image-is b
 
@@ -49,5 +50,6 @@ gauge-is (gauge.Right triangles points) = ap₂ gauge.Right (trianglesCounted tr
     pointsCounted n = omega arith
 gauge-is (gauge.Wrong at) = refl
 
+-- what the layout of an input stands for fixes it
 pub gauge-unique : (a b : GaugeLayout) → gaugeLaid a ≡ gaugeLaid b → a ≡ b
 gauge-unique a b e = sym (gauge-is a) ∙ ap backGauge e ∙ gauge-is b

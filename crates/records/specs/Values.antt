@@ -1,4 +1,4 @@
--- What is found of records, as the definitions' own.
+-- Bodies and layouts of the code as the definitions' own. The contracts compare by these.
 use Prim.Native.Nat.{ℕ}
 use mathlib.Core.Bool.{Bool, cond}
 use Rattle.records.specs.declared.bodies.Body.{Body}
@@ -10,7 +10,7 @@ use Rattle.records.specs.declared.layout.ImageLayout.the-variants as ima
 use Rattle.records.specs.declared.layout.GaugeLayout.{GaugeLayout}
 use Rattle.records.specs.declared.layout.GaugeLayout.the-variants as gauge
 
--- of a record that is right, the size of its body
+-- the body that a record of this size has, if it is right
 abbrev pub bodyIf : Bool → ℕ → Body
 bodyIf right size = cond right (body.Right size) body.Wrong
 

@@ -1,5 +1,4 @@
-// One record: whether it stands at a place as it is wanted there. Each contract is an equation with a
-// definition of `spec_records`.
+// Whether a record of a wanted kind and size stands at an index of the bytes.
 ghost use mathlib.Core.Path.{_≡_};
 ghost use Prim.Native.Nat.{_<_};
 ghost use Rattle.spec_records.specs.Records.{exactly, whole, sizeAt, isRecord, isRight};
@@ -14,7 +13,7 @@ pub enum Body {
     Wrong,
 }
 
-// A record of this kind, whole.
+// The body of a record of this kind that lies within the bytes.
 pub fn body_at(bytes: &[u8], at: usize, kind: u32) -> Body
     ensures { λ r. ⌜ r ≡ bodyIf (isRecord kind (now (bytes .entry)) at) (sizeAt (now (bytes .entry)) at) ⌝ }
 {
@@ -35,7 +34,7 @@ pub fn body_at(bytes: &[u8], at: usize, kind: u32) -> Body
     Body::Right(size)
 }
 
-// Its body holds whole entries of this size.
+// The body of such a record that holds whole entries of this size.
 pub fn whole_body(bytes: &[u8], at: usize, kind: u32, entry: usize) -> Body
     requires { ⌜ 0 < entry ⌝ }
     ensures { λ r. ⌜ r ≡ bodyIf (isRight kind (whole entry) (now (bytes .entry)) at) (sizeAt (now (bytes .entry)) at) ⌝ }
@@ -49,7 +48,7 @@ pub fn whole_body(bytes: &[u8], at: usize, kind: u32, entry: usize) -> Body
     Body::Right(size)
 }
 
-// Whether its body has exactly this size.
+// Whether such a record stands there with a body of exactly this size.
 pub fn has_body(bytes: &[u8], at: usize, kind: u32, wanted: usize) -> bool
     ensures { λ r. ⌜ r ≡ isRight kind (exactly wanted) (now (bytes .entry)) at ⌝ }
 {
@@ -59,7 +58,7 @@ pub fn has_body(bytes: &[u8], at: usize, kind: u32, wanted: usize) -> bool
     size == wanted
 }
 
-// Whether record 1 stands at the front, of version 1.
+// Whether record 1 of version 1 stands at the front.
 pub fn has_settings(bytes: &[u8]) -> bool
     ensures { λ r. ⌜ r ≡ isRight 1 (settingsRight version1) (now (bytes .entry)) 0 ⌝ }
 {

@@ -1,5 +1,4 @@
-// Lists of numbers: `count` entries from `from` on written from `at` on, and `count` entries that
-// stand in bytes from `start` on stored from `at` on.
+// Lists of numbers in bytes. Writing takes `count` entries from index `from` on; reading takes `count` entries from byte `start` on.
 ghost use mathlib.Core.Path.{_≡_};
 ghost use Prim.Native.Nat.{_+_, _*_, _≤_};
 ghost use lib.ListN.{length};
@@ -13,13 +12,14 @@ use crate::numbers::u32_at;
 use floats::bits_of;
 use floats::from_bits;
 
+// An entry as a usize.
 fn whole(entry: u32) -> usize
     ensures { λ r. ⌜ r ≡ entry ⌝ }
 {
     entry as usize
 }
 
-// Two bytes each, the lowest of the entry.
+// Writes two bytes an entry, its lowest, from byte `at` on.
 pub fn put_u16s(entries: &[u32], from: usize, count: usize, out: &mut [u8], at: usize) -> usize
     requires { ⌜ (from + count ≤ length (now entries)) × (at + 2 * count ≤ length (now out)) ⌝ }
     ensures { λ r. ⌜ Put at (numberBytes 2 (now (entries .entry)) from count) (now (out .entry)) (now (out .exit)) r ⌝ }
@@ -34,6 +34,7 @@ pub fn put_u16s(entries: &[u32], from: usize, count: usize, out: &mut [u8], at: 
     next
 }
 
+// Writes four bytes an entry from byte `at` on.
 pub fn put_u32s(entries: &[u32], from: usize, count: usize, out: &mut [u8], at: usize) -> usize
     requires { ⌜ (from + count ≤ length (now entries)) × (at + 4 * count ≤ length (now out)) ⌝ }
     ensures { λ r. ⌜ Put at (numberBytes 4 (now (entries .entry)) from count) (now (out .entry)) (now (out .exit)) r ⌝ }
@@ -48,7 +49,7 @@ pub fn put_u32s(entries: &[u32], from: usize, count: usize, out: &mut [u8], at: 
     next
 }
 
-// A NaN is written as 7FC00000.
+// Writes the four bytes of each number from byte `at` on. A NaN is written as 7FC00000.
 pub fn put_f32s(entries: &[f32], from: usize, count: usize, out: &mut [u8], at: usize) -> usize
     requires { ⌜ (from + count ≤ length (now entries)) × (at + 4 * count ≤ length (now out)) ⌝ }
     ensures { λ r. ⌜ Put at (floatBytes binary32 (now (entries .entry)) from count) (now (out .entry)) (now (out .exit)) r ⌝ }
@@ -63,6 +64,7 @@ pub fn put_f32s(entries: &[f32], from: usize, count: usize, out: &mut [u8], at: 
     next
 }
 
+// Leaves the entries, two bytes each, in `out` from index `at` on.
 pub fn read_u16s(bytes: &[u8], start: usize, count: usize, out: &mut [u32], at: usize)
     requires { ⌜ (start + 2 * count ≤ length (now bytes)) × (at + count ≤ length (now out)) ⌝ }
     ensures { λ _. ⌜ now (out .exit) ≡ over at (numbersIn 2 (now (bytes .entry)) start count) (now (out .entry)) ⌝ }
@@ -74,7 +76,7 @@ pub fn read_u16s(bytes: &[u8], start: usize, count: usize, out: &mut [u32], at: 
     }
 }
 
-// Every pattern of a NaN is read as the NaN.
+// Leaves the numbers, four bytes each, in `out` from index `at` on. Every pattern of a NaN is read as the one NaN.
 pub fn read_f32s(bytes: &[u8], start: usize, count: usize, out: &mut [f32], at: usize)
     requires { ⌜ (start + 4 * count ≤ length (now bytes)) × (at + count ≤ length (now out)) ⌝ }
     ensures { λ _. ⌜ now (out .exit) ≡ over at (floatsIn binary32 (now (bytes .entry)) start count) (now (out .entry)) ⌝ }

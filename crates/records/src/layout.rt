@@ -1,4 +1,4 @@
-// The records of an image and of `gauge`'s input, one behind the other, and nothing behind the last.
+// The records of an image and of an input of `gauge`, one behind the other, with nothing behind the last.
 ghost use mathlib.Core.Path.{_≡_};
 ghost use Rattle.spec_records.specs.Records.{laidOut};
 ghost use Rattle.spec_records.specs.Layouts.{version1, imageWants, gaugeWants};
@@ -20,6 +20,7 @@ pub enum GaugeLayout {
     Wrong(usize),
 }
 
+// The layout of an image.
 pub fn image_layout(bytes: &[u8]) -> ImageLayout
     ensures { λ r. ⌜ imageLaid r ≡ laidOut (imageWants version1) (now (bytes .entry)) 0 ⌝ }
 {
@@ -48,6 +49,7 @@ pub fn image_layout(bytes: &[u8]) -> ImageLayout
     }
 }
 
+// The layout of an input of `gauge`.
 pub fn gauge_layout(bytes: &[u8]) -> GaugeLayout
     ensures { λ r. ⌜ gaugeLaid r ≡ laidOut gaugeWants (now (bytes .entry)) 0 ⌝ }
 {

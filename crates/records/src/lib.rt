@@ -1,4 +1,6 @@
-// Numbers in bytes, one record, the layout of records. Each contract is an equation with a definition of `spec_records`.
+// Numbers in bytes, one record, and the layout of the records of an image and of an input.
+// Each contract is an equation with a definition of `spec_records`.
+// What writes answers the index behind what it wrote.
 pub mod bodies;
 pub mod entries;
 pub mod layout;

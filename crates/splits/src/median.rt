@@ -80,7 +80,7 @@ fn are_both_large(bounds: &[f32], part: &[u32], cut: usize, parent: Box3) -> boo
     false
 }
 
-// Cuts in the middle. Where its plane meets every box, or both children are large, it cuts nowhere.
+// Cuts in the middle. Where the plane there cuts or touches every box, or both children are large, it cuts nowhere.
 pub fn median_split(bounds: &[f32], part: &[u32], axis: Axis, parent: Box3) -> Split
     requires { ⌜ 2 ≤ length (now part) ⌝ }
     requires { ⌜ Splits.Boxed binary32 (now bounds) (now part) ⌝ }

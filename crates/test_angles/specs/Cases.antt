@@ -1,4 +1,4 @@
--- The cases of the list: ours, theirs, and whether the two are near enough.
+-- The cases of the list: our answer, theirs, and whether the two are near enough.
 use mathlib.Core.Bool.{Bool, false, cond, _&&_, _||_}
 use mathlib.Core.List.{List}
 use Prim.Native.Nat.{ℕ, _+_, _/_}
@@ -20,18 +20,18 @@ pub record Compared : Type 0 where
 unfoldable pub wordsOf : (kind : ℕ) → ℕ
 wordsOf kind = cond (eqb kind 0) 2 (cond (eqb kind 1) 4 13)
 
--- within `most` of each other, or both no number
+-- within `most` of each other, or both a NaN
 unfoldable pub near : (ours theirs most : Float) → Bool
 near ours theirs most = le (abs (sub binary32 ours theirs)) most || (ne ours ours && ne theirs theirs)
 
--- ours, and bit for bit equal to theirs
+-- right where ours is equal to theirs bit for bit
 unfoldable pub rootCase : List ℕ → ℕ → Compared
 rootCase s at =
     let ours = rootOrNan binary32 (numberAt s at) in
     let theirs = wordAt s (place at 1 1) in
     record { right = eqb (toBits binary32 ours) theirs; ours = ours; theirs = theirs }
 
--- theirs is a size in units of 2 ^ -30, of which 1024 are 2 ^ -20, and 1 where it is below zero
+-- theirs is a size in units of 2 ^ -30, of which 1024 are 2 ^ -20, and `below` is 1 where it is below zero
 unfoldable pub nearUnits : (ours : Float) (units below : ℕ) → Bool
 nearUnits ours units below =
     let found = cut (mul binary32 (abs ours) (ofBits binary32 0x4e80_0000)) in
@@ -46,7 +46,7 @@ angleCase s at =
 unfoldable pub triangleOf : List ℕ → ℕ → Triangle
 triangleOf s at = record { a = pointAt s at; b = pointAt s (place at 1 3); c = pointAt s (place at 1 6) }
 
--- within 2 ^ -19
+-- right where ours is within 2 ^ -19 of theirs
 unfoldable pub solidCase : List ℕ → ℕ → Compared
 solidCase s at =
     let ours = solidAngle binary32 (triangleOf s at) (pointAt s (place at 1 9)) in

@@ -1,4 +1,4 @@
--- The program's values as the definitions' own.
+-- The case of the code as the definitions' own. The contracts compare by it.
 use Rattle.test_angles.specs.Cases.{Compared}
 use Rattle.test_angles.specs.declared.cases.Case.{Case}
 

@@ -29,6 +29,6 @@ pointAt s at = record { x = numberAt s (place at 1 0); y = numberAt s (place at 
 unfoldable pub meshWords : List ℕ → ℕ → ℕ
 meshWords s at = place (place 2 9 (sizeAt s at)) 4 (sizeAt s (place at 1 1))
 
--- the numbers from `at` on: more than a mesh has
+-- the 720 numbers from `at` on: no mesh has more
 unfoldable pub numbersFrom : List ℕ → ℕ → List Float
 numbersFrom s at = many (λ i. numberAt s (place at 1 i) ∷ []) 720

@@ -1,4 +1,4 @@
-// One case of each kind, ours beside theirs.
+// One case of each kind: our answer beside the list's.
 ghost use mathlib.Core.Path.{_≡_};
 ghost use Rattle.shapes.specs.Values.{asTriangle};
 ghost use Rattle.test_angles.specs.Cases as Cases;
@@ -12,7 +12,7 @@ use angles::root::root_or_nan;
 use angles::solid_angle::solid_angle;
 use shapes::triangle3::Triangle3;
 
-// Theirs is the word that the list has, and `right` says that ours is near enough.
+// `theirs` is the word that the list has, and `right` says that ours is near enough.
 pub struct Case {
     pub right: bool,
     pub ours: f32,
@@ -32,7 +32,7 @@ pub fn words_of(kind: usize) -> usize
     13
 }
 
-// Within `most` of each other, or both no number.
+// Whether the two are within `most` of each other, or both a NaN.
 pub fn is_near(ours: f32, theirs: f32, most: f32) -> bool
     ensures { λ r. ⌜ r ≡ Cases.near ours theirs most ⌝ }
 {
@@ -51,7 +51,7 @@ fn root_case(block: &[u8], at: usize) -> Case
     }
 }
 
-// Theirs is a whole number of units of 2^-30: 2^-20 is 1024 of them.
+// Whether ours is within 2^-20 of theirs, which is a whole number of units of 2^-30: 1024 of them.
 fn is_near_units(ours: f32, units: u32, below_zero: u32) -> bool
     ensures { λ r. ⌜ r ≡ Cases.nearUnits ours units «below_zero» ⌝ }
 {
@@ -99,7 +99,7 @@ fn solid_case(block: &[u8], at: usize) -> Case
     }
 }
 
-// Kind 0 is a root, 1 an angle, 2 a solid angle.
+// The case of this kind from the word `at` on. Kind 0 is a root, 1 an angle, 2 a solid angle.
 pub fn case_at(block: &[u8], kind: usize, at: usize) -> Case
     ensures { λ r. ⌜ asCompared r ≡ Cases.caseAt (now (block .entry)) kind at ⌝ }
 {

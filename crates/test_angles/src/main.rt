@@ -1,8 +1,7 @@
-// Replays roots and angles of Rust's own, and the oracle's solid angles and winding numbers, from the
-// list on standard input (tests/oracle/angles.rs made it, and says how it is laid out). Prints how
-// many there are of each and how many differ, and before that the first ten that do. Roots must be
-// equal bit for bit, angles within 2^-20, solid angles, which are twice an angle, within 2^-19, and
-// the winding number of n triangles within n * 2^-20.
+// Replays roots and angles of Rust's own, and the oracle's solid angles and winding numbers, from the list on standard input
+// (tests/oracle/angles.rs made it, and says how it is laid out). Prints the first ten cases that differ, and for each kind how many cases there are
+// and how many differ. Roots must be equal bit for bit, angles within 2^-20, solid angles, which are twice an angle, within 2^-19,
+// and the winding number of n triangles within n * 2^-20.
 ghost use Prim.Native.Nat.{_<_, _≤_};
 
 mod cases;
@@ -39,7 +38,7 @@ fn print_difference(at: usize, ours: f32, theirs: u32) {
 }
 
 impl Tally {
-    // One case more, from the word `at` on.
+    // One case more was compared. It stands from the word `at` on.
     fn counted(self, right: bool, at: usize, ours: f32, theirs: u32) -> Tally {
         let cases = one_more(self.cases);
         if right {
@@ -58,7 +57,7 @@ impl Tally {
     }
 }
 
-// The cases of one kind, from the word `at` on.
+// Replays the cases of one kind from the word `at` on.
 fn replay_section(block: &[u8], kind: usize, at: usize, count: usize) -> Tally {
     let mut tally = Tally {
         cases: 0,
@@ -72,7 +71,7 @@ fn replay_section(block: &[u8], kind: usize, at: usize, count: usize) -> Tally {
     tally
 }
 
-// The winding numbers `ours` of a mesh beside theirs, which stand from the word `at` on.
+// Compares the winding numbers `ours` of a mesh with theirs, which stand from the word `at` on.
 fn replay_windings(
     block: &[u8],
     at: usize,
@@ -93,7 +92,7 @@ fn replay_windings(
     now
 }
 
-// Up to 80 triangles and 16 points. Nothing may be refused, and the entry past those used must stay.
+// Replays a mesh of up to 80 triangles and 16 points. Nothing may be refused, and the entry past those used must stay.
 fn replay_small_mesh(
     block: &[u8],
     at: usize,
@@ -128,7 +127,7 @@ fn replay_mesh(block: &[u8], at: usize, tally: Tally) -> Tally {
     tally.counted(false, at, 0.0, 0)
 }
 
-// The meshes, each behind the one before it.
+// Replays the meshes, each behind the one before it.
 fn replay_meshes(block: &[u8], first: usize, count: usize) -> Tally {
     let mut tally = Tally {
         cases: 0,

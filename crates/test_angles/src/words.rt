@@ -1,4 +1,4 @@
-// The list as words, u32 little-endian: a word past the end reads as 0.
+// The list as words, u32 little-endian. A word past the end reads as 0, so that a list that is cut short stops no replay.
 ghost use mathlib.Core.Path.{_≡_};
 ghost use lib.ListN.{length};
 ghost use Rattle.shapes.specs.Values.{asPoint};
@@ -6,6 +6,7 @@ ghost use Rattle.test_angles.specs.Words as Words;
 use shapes::vec3::Vec3;
 use test_words::pattern_at;
 
+// The word at this index.
 pub fn word_at(block: &[u8], index: usize) -> u32
     ensures { λ r. ⌜ r ≡ Words.wordAt (now (block .entry)) index ⌝ }
 {
@@ -15,7 +16,7 @@ pub fn word_at(block: &[u8], index: usize) -> u32
     0
 }
 
-// A count, at most 16384.
+// The word as a count, at most 16384.
 pub fn size_at(block: &[u8], index: usize) -> usize
     ensures { λ r. ⌜ r ≡ Words.sizeAt (now (block .entry)) index ⌝ }
 {
@@ -23,6 +24,7 @@ pub fn size_at(block: &[u8], index: usize) -> usize
     if size < 16384 { size as usize } else { 16384 }
 }
 
+// The word as a number.
 pub fn number_at(block: &[u8], index: usize) -> f32
     ensures { λ r. ⌜ r ≡ Words.numberAt (now (block .entry)) index ⌝ }
 {
@@ -42,6 +44,7 @@ pub fn place(at: usize, size: usize, i: usize) -> usize
     16384
 }
 
+// The point in three words.
 pub fn point_of(block: &[u8], at: usize) -> Vec3
     ensures { λ r. ⌜ asPoint r ≡ Words.pointAt (now (block .entry)) at ⌝ }
 {
@@ -61,7 +64,7 @@ pub fn mesh_words(block: &[u8], at: usize) -> usize
     place(place(2, 9, triangles), 4, points)
 }
 
-// The numbers from `at` on: more than a mesh has.
+// The 720 numbers from `at` on: no mesh has more.
 pub fn numbers_from(block: &[u8], at: usize) -> [f32; 720]
     ensures { λ r. ⌜ r ≡ Words.numbersFrom (now (block .entry)) at ⌝ }
     ensures { λ r. ⌜ length r ≡ 720 ⌝ }

@@ -1,4 +1,4 @@
-// Trees of up to 4,096 triangles that are made by a rule of numbers, as counts and digests.
+// Trees of up to 4,096 triangles that a rule of numbers makes, printed as counts and digests.
 use build::calls::Built;
 
 struct Case {

@@ -1,4 +1,4 @@
-// What the build answers for two triangles in rooms that just do, and in rooms of which one is one entry short.
+// What the build answers for two triangles with rooms that just suffice, and with one room an entry short.
 use build::calls::Built;
 use build::calls::build;
 
@@ -24,7 +24,7 @@ fn put_built(built: Built) {
     io::write_all(1, b"\n");
 }
 
-// T0 and T1 of the printed run.
+// Builds T0 and T1 of the printed run.
 fn built_in(order: &mut [u32], links: &mut [u32], boxes: &mut [f32]) -> Built {
     let triangles = [
         0.0,

@@ -1,6 +1,5 @@
-// Prints what the tree check says of a tree over two triangles and of the same lists with one entry
-// changed, and of trees of 64 and 65 levels. The file `stdout` beside src/ was written by hand: only
-// the tree itself and the one of 64 levels are accepted.
+// Prints what the tree check says of a tree over two triangles, of the same lists with one entry changed, and of trees of 64 and 65 levels.
+// The file `stdout` beside src/ was written by hand: only the tree itself and the one of 64 levels are accepted.
 ghost use Prim.Native.Nat.{_<_, _≤_};
 use lists::verdict::Verdict;
 use tree::calls::check;
@@ -177,7 +176,7 @@ fn put_verdict(verdict: Verdict) {
     }
 }
 
-// All triangles are the origin, and so are all boxes.
+// Prints what the check says of a comb. All triangles are the origin, and so are all boxes.
 fn put_comb(n: usize)
     requires { ⌜ (0 < n) × (n ≤ 65) ⌝ }
 {

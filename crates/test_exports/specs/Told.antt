@@ -14,26 +14,27 @@ use Rattle.spec_build.specs.Build.{Built, made, notMade, BuildIs}
 use Rattle.spec_search.specs.Sure.{limitOf, sureWalk}
 use Rattle.spec_angles.specs.Winding.{solidAngle}
 
--- 1 where it passed
+-- 1 where it passed, else 0
 abbrev pub onePassed : Verdict → ℕ
 onePassed passes = 1
 onePassed (refused number place) = 0
 
--- 0 where the lists are refused
+-- the depth that is read off the lists, 0 where they are refused
 abbrev pub depthRead : DepthFound → ℕ
 depthRead (deep depth) = depth
 depthRead (notDeep number place) = 0
 
--- 0 for a refusal
+-- the nodes of a build, 0 for a refusal
 abbrev pub nodesTold : Built → ℕ
 nodesTold (made nodes depth) = nodes
 nodesTold (notMade number place) = 0
 
+-- the depth of a build, 0 for a refusal
 abbrev pub depthTold : Built → ℕ
 depthTold (made nodes depth) = depth
 depthTold (notMade number place) = 0
 
--- a build, of whose answer one number is told
+-- a build, of whose answer the call returns one number
 pub record BuildTold (told : Built → ℕ) (f : Format) (triangles : List Float) (s : Settings) (order links : List ℕ) (boxes : List Float) (r : ℕ) (order′ links′ : List ℕ) (boxes′ : List Float) : Type 0 where
   pub answer : Built
   pub built : BuildIs f triangles s order links boxes answer order′ links′ boxes′
@@ -47,7 +48,7 @@ measuredFirst f triangles order links boxes nodes points distance =
     (cond (leb 3 (length points)) (sureWalk f triangles order links boxes nodes (pointAt points 0) (limitOf f distance) .measured) 0)
     0)
 
--- the solid angle of one triangle from one point; no number where there are more or fewer
+-- the solid angle of one triangle from one point, a NaN where there are more or fewer
 unfoldable pub angleOfOne : Format → (triangle point : List Float) → Float
 angleOfOne f triangle point =
     cond (eqb (length triangle) 9) (cond (eqb (length point) 3) (solidAngle f (triangleAt triangle 0) (pointAt point 0)) nan) nan

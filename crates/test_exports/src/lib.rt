@@ -23,6 +23,7 @@ use tree::check::is_accepted;
 use walks::answer::Asked;
 use walks::sure::search;
 
+// 1 where the verdict is a pass, else 0.
 fn one_passed(verdict: Verdict) -> u32
     ensures { λ r. ⌜ r ≡ Told.onePassed (Lists.asVerdict verdict) ⌝ }
 {
@@ -32,6 +33,7 @@ fn one_passed(verdict: Verdict) -> u32
     }
 }
 
+// The depth that is read off the lists, 0 where they are refused.
 fn depth_read(found: DepthFound) -> usize
     ensures { λ r. ⌜ r ≡ Told.depthRead (Found.asDepthFound found) ⌝ }
 {
@@ -40,7 +42,7 @@ fn depth_read(found: DepthFound) -> usize
         DepthFound::Refused { .. } => 0,
     }
 }
-
+// The nodes of a build, 0 for a refusal.
 fn nodes_told(built: Built) -> usize
     ensures { λ r. ⌜ r ≡ Told.nodesTold (Builds.asBuilt built) ⌝ }
 {
@@ -50,6 +52,7 @@ fn nodes_told(built: Built) -> usize
     }
 }
 
+// The depth of a build, 0 for a refusal.
 fn depth_told(built: Built) -> usize
     ensures { λ r. ⌜ r ≡ Told.depthTold (Builds.asBuilt built) ⌝ }
 {
@@ -59,7 +62,7 @@ fn depth_told(built: Built) -> usize
     }
 }
 
-// How many nodes were built, 0 for a refusal.
+// Builds a tree and answers how many nodes it has, 0 for a refusal.
 #[no_mangle]
 pub extern "C" fn timing_build(
     triangles: &[f32],
@@ -84,7 +87,7 @@ pub extern "C" fn timing_build(
     nodes_told(built)
 }
 
-// The depth that the build tells, 0 for a refusal.
+// Builds a tree and answers its depth, 0 for a refusal.
 #[no_mangle]
 pub extern "C" fn timing_depth(
     triangles: &[f32],
@@ -109,7 +112,7 @@ pub extern "C" fn timing_depth(
     depth_told(built)
 }
 
-// 1 where the query was answered.
+// Writes the sure query's answers. 1 where the query was answered, else 0.
 #[no_mangle]
 pub extern "C" fn timing_sure(
     triangles: &[f32],
@@ -137,6 +140,7 @@ pub extern "C" fn timing_sure(
     one_passed(verdict)
 }
 
+// Writes the source query's answers. 1 where the query was answered, else 0.
 #[no_mangle]
 pub extern "C" fn timing_source(
     triangles: &[f32],
@@ -164,6 +168,7 @@ pub extern "C" fn timing_source(
     one_passed(verdict)
 }
 
+// 1 where the check passes, else 0.
 #[no_mangle]
 pub extern "C" fn timing_check(
     triangles: &[f32],
@@ -192,7 +197,7 @@ pub extern "C" fn timing_depth_read(
     let found = tree::calls::depth(triangles, order, links, boxes, nodes);
     depth_read(found)
 }
-
+// How many triangles the sure search measures for one point.
 fn measured_at(
     triangles: &[f32],
     order: &[u32],
@@ -213,7 +218,7 @@ fn measured_at(
     sought.measured
 }
 
-// How many triangles the sure search measures for the first point.
+// How many triangles the sure search measures for the first point, 0 where the lists are refused or there is no point.
 #[no_mangle]
 pub extern "C" fn timing_measured(
     triangles: &[f32],
@@ -239,7 +244,7 @@ pub extern "C" fn timing_measured(
     0
 }
 
-// 1 where the winding numbers were written.
+// Writes the winding numbers. 1 where they were written, else 0.
 #[no_mangle]
 pub extern "C" fn timing_winding(triangles: &[f32], points: &[f32], windings: &mut [f32]) -> u32
     ensures passed { λ r. ⌜ r ≡ Told.onePassed (Windings.windingRefusal (now (triangles .entry)) (now (points .entry)) (length (now (windings .entry)))) ⌝ }
@@ -249,7 +254,7 @@ pub extern "C" fn timing_winding(triangles: &[f32], points: &[f32], windings: &m
     one_passed(verdict)
 }
 
-// The solid angle of one triangle from one point; no number where there are more or fewer.
+// The solid angle of one triangle from one point, a NaN where there are more or fewer.
 #[no_mangle]
 pub extern "C" fn timing_solid(triangle: &[f32], point: &[f32]) -> f32
     ensures { λ r. ⌜ r ≡ Told.angleOfOne binary32 (now (triangle .entry)) (now (point .entry)) ⌝ }

@@ -1,5 +1,5 @@
-// Prints what the functions of `floats` give at the values where they could go wrong. The file
-// `stdout` beside src/ is made by tests/floats/generate.rs, in Rust.
+// Prints what the functions of `floats` give at the values where they could go wrong.
+// The file `stdout` beside src/ is made by tests/floats/generate.rs, in Rust.
 
 const EACH: [u32; 24] = [
     0x0000_0000,
@@ -54,8 +54,7 @@ fn put_end() {
     io::write_all(1, b"\n");
 }
 
-// The pattern, the number read from it, that plus zero, its magnitude, whether it is finite, and
-// the number cut to whole.
+// Prints the pattern, the number read from it, that plus zero, its magnitude, whether it is finite, and its whole number.
 fn put_each(pattern: u32) {
     let x = floats::from_bits(pattern);
     put_word(pattern);
@@ -67,7 +66,7 @@ fn put_each(pattern: u32) {
     put_end();
 }
 
-// Two patterns, and the smaller and the larger of their numbers.
+// Prints two patterns, and the smaller and the larger of their numbers.
 fn put_pair(first: u32, second: u32) {
     let a = floats::from_bits(first);
     let b = floats::from_bits(second);
@@ -78,7 +77,7 @@ fn put_pair(first: u32, second: u32) {
     put_end();
 }
 
-// Three patterns, and the third's number held between the first's and the second's.
+// Prints three patterns, and the third's number held between the first's and the second's.
 fn put_held(lo: u32, hi: u32, x: u32) {
     put_word(lo);
     put_word(hi);

@@ -1,5 +1,5 @@
-// Prints what gauge prints for each of many inputs, which stand one behind the other on standard
-// input, each behind its length (tests/gauge made the list, and what must be printed).
+// Prints what gauge prints for each of many inputs. They stand one behind the other on standard input, each behind its length
+// (tests/gauge made the list, and what must be printed).
 
 fn print_one(input: &[u8]) -> bool {
     let mut out = [0u8; 229405];
@@ -7,7 +7,7 @@ fn print_one(input: &[u8]) -> bool {
     io::write_all(1, &out[..size])
 }
 
-// The next input, if there is one that fits.
+// Prints for the next input, if there is one that fits.
 fn print_next() -> bool {
     let mut head = [0u8; 4];
     let got = io::read_full(0, &mut head);

@@ -1,7 +1,7 @@
-// Builds an image for each case on standard input, as a C host would, and prints what is told, in hex, and
-// the lent bytes. A case is strategy, leaf minimum, maximum depth and how many bytes are lent, two bytes each, the
-// length of the triangles' bytes, in four, and these; tests/records/generate.rs made the cases and, by a
-// reading of its own, `stdout`.
+// Builds an image for each case on standard input, as a C host would, and prints the status, in hex, and the lent bytes.
+// A case is the strategy, the leaf minimum, the maximum depth and the number of lent bytes, two bytes each, the length of the triangles' bytes,
+// in four,
+// and these. tests/records/generate.rs made the cases and, by a reading of its own, `stdout`.
 ghost use Prim.Native.Nat.{_+_, _≤_};
 ghost use lib.ListN.{length};
 
@@ -12,7 +12,7 @@ fn put_told(told: u64) {
     io::write_all(1, &line);
 }
 
-// Into these bytes, which hold nothing yet.
+// Builds into these bytes, which hold nothing yet.
 fn put_lent(
     strategy: usize,
     leaf_minimum: usize,

@@ -1,7 +1,6 @@
-// Prints what each case on standard input is: as an image, as `gauge`'s input, and, where the image
-// reader takes it, whether putting what was read gives the same bytes, and what the writer says. A case
-// is its length, in four bytes, and its bytes; tests/records/generate.rs made the cases and, by a reading
-// of its own, `stdout`.
+// Prints what each case on standard input is, as an image and as an input of `gauge`. Where the image reader takes it, prints whether writing
+// what was read gives the same bytes, and what the writer says. A case is its length, in four bytes, and its bytes.
+// tests/records/generate.rs made the cases and, by a reading of its own, `stdout`.
 ghost use mathlib.Core.Path.{_≡_};
 ghost use Prim.Native.Nat.{_*_, _≤_};
 ghost use lib.ListN.{length};
@@ -65,7 +64,7 @@ fn put_same(same: bool) {
     }
 }
 
-// The writer is lent fewer bytes than the largest image that is read has.
+// Writes with the tests. The writer is lent fewer bytes than the largest image that is read has.
 fn write_tested(
     bytes: &[u8],
     settings: Settings,
@@ -115,7 +114,7 @@ fn write_again(
     write_tested(bytes, settings, triangles, order, links, boxes, nodes);
 }
 
-// There is room for four triangles and seven nodes.
+// Reads the image, with room for four triangles and seven nodes, and writes it again.
 fn put_contents(bytes: &[u8]) {
     let mut triangles = [0.0; 36];
     let mut order = [0; 4];

@@ -48,7 +48,7 @@ fn put_entry(entry: EntryFound) {
     }
 }
 
-// The leaf's triangles, and that there is nothing behind them.
+// Prints the leaf's triangles, and that there is nothing behind them.
 fn put_entries(
     triangles: &[f32],
     order: &[u32],
@@ -104,7 +104,7 @@ fn put_leaf(
     }
 }
 
-// Each leaf is sought behind the one before it.
+// Prints each leaf, sought behind the one before it.
 fn put_leaves(
     triangles: &[f32],
     order: &[u32],
@@ -186,7 +186,7 @@ fn with_triangles(bytes: &[u8], head: Head) {
     with_order(bytes, 4 * size, head, triangles);
 }
 
-// The body of the case with this head, from standard input.
+// Reads the body of the case with this head from standard input, and prints its leaves.
 fn run_body(head: Head) {
     let size = 40 * (head.triangles % 25) + 36 * (head.nodes % 48);
     let mut all = [0u8; 2700];
@@ -197,7 +197,7 @@ fn run_body(head: Head) {
     with_triangles(body, head);
 }
 
-// The next case, if there is one that fits.
+// Runs the next case, if there is one that fits.
 fn run_next() {
     let mut bytes = [0u8; 8];
     if io::read_full(0, &mut bytes) < 8 {

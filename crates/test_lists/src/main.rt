@@ -1,5 +1,5 @@
-// Prints what the tests of lists, settings and rooms say of inputs at the edges of what passes. The file
-// `stdout` beside src/ was written by hand from the table of refusals.
+// Prints what the tests of lists, settings and rooms say of inputs at the edges of what passes.
+// The file `stdout` beside src/ was written by hand from the table of refusals.
 ghost use Prim.Native.Nat.{_≤_, _<_};
 use lists::settings::Settings;
 use lists::settings::settings_refusal;
@@ -28,7 +28,7 @@ fn put_verdict(v: Verdict) {
     }
 }
 
-// A triangle list of so many zeros.
+// A triangle list of `length` zeros.
 fn put_length(length: usize)
     requires { ⌜ length ≤ 36873 ⌝ }
 {
@@ -57,7 +57,7 @@ fn put_first_points(numbers: [f32; 6], length: usize)
     put_verdict(points_refusal(&numbers[..length]));
 }
 
-// So many numbers of points, all zeros but for a NaN at this place.
+// A point list of `length` numbers, all zeros but for a NaN at this place.
 fn put_points(length: usize, place: usize)
     requires { ⌜ length ≤ 6 ⌝ }
     requires { ⌜ place < 6 ⌝ }

@@ -1,6 +1,6 @@
-// Replays what the Rust answers for boxes, planes and closest points (tests/oracle/shapes.rs made
-// the list on standard input): prints how many cases there are and how many words differ, and the
-// first ten that do. A case is 62 words: two triangles, a point, then the answers.
+// Replays what the Rust answers for boxes, planes and closest points (tests/oracle/shapes.rs made the list on standard input).
+// Prints the first ten words that differ, how many cases there are and how many words differ.
+// A case is 62 words: two triangles, a point, then the answers.
 ghost use Prim.Native.Nat.{_<_};
 use shapes::box3::Box3;
 use shapes::plane3::Plane3;
@@ -167,7 +167,7 @@ fn words_at(block: &[u8], at: usize) -> [u32; 62] {
     words
 }
 
-// The cases of one block.
+// Replays the cases of one block.
 fn replay_block(block: &[u8], tally: Tally) -> Tally {
     let mut now = tally;
     for k in 0..264 {
@@ -179,7 +179,7 @@ fn replay_block(block: &[u8], tally: Tally) -> Tally {
     now
 }
 
-// The next block of standard input: 264 cases, or what is left.
+// Replays the next block of standard input: 264 cases, or what remains.
 fn replay_next(tally: Tally) -> Tally {
     let mut block = [0u8; 65472];
     let n = io::read_full(0, &mut block);

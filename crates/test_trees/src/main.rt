@@ -1,6 +1,5 @@
-// Replays trees and source answers of the Rust, and sure answers of a plain scan
-// (tests/oracle/trees.rs made the list on standard input): prints how many cases, trees and points
-// there are and how many words differ, and the first ten that do.
+// Replays trees and source answers of the Rust, and sure answers of a plain scan (tests/oracle/trees.rs made the list on standard input).
+// Prints the first ten words that differ, how many cases, trees and points there are and how many words differ.
 use build::calls::Built;
 use lists::verdict::Verdict;
 use test_words::fill_floats;
@@ -141,7 +140,7 @@ impl Tally {
         }
     }
 
-    // The words of ours beside those of the case from a place on.
+    // Compares our words with those of the case from a place on.
     fn words(self, what: &[u8], ours: &[u32], bytes: &[u8], from: usize) -> Tally {
         let mut now = self;
         let mut at = from;
@@ -189,7 +188,7 @@ fn compare_tree(
     linked.floats(b"boxes", &boxes[..numbers], bytes, places.boxes)
 }
 
-// The tree that is built of the case's triangles and settings, beside the Rust's.
+// Compares the tree that is built of the case's triangles and settings with the Rust's.
 fn built_tree(
     bytes: &[u8],
     head: Head,
@@ -237,7 +236,7 @@ fn built(bytes: &[u8], head: Head, places: Places, triangles: &[f32], tally: Tal
     )
 }
 
-// Both queries over the tree that stands in the case.
+// Compares both queries over the tree that stands in the case.
 fn with_boxes(
     bytes: &[u8],
     head: Head,
@@ -351,7 +350,7 @@ fn with_triangles(bytes: &[u8], head: Head, places: Places, tally: Tally) -> Tal
     with_points(bytes, head, places, triangles, grown)
 }
 
-// The body of the case with this head, from standard input.
+// Reads the body of the case with this head from standard input, and replays it.
 fn replay_body(head: Head, tally: Tally) -> Tally {
     let places = places_of(head);
     let size = body_size(head, places);
@@ -372,7 +371,7 @@ fn replay_body(head: Head, tally: Tally) -> Tally {
     }
 }
 
-// The next case, if there is one that fits.
+// Replays the next case, if there is one that fits.
 fn replay_next(tally: Tally) -> Tally {
     let mut bytes = [0u8; 32];
     let got = io::read_full(0, &mut bytes);

@@ -11,11 +11,11 @@ use Rattle.spec_records.specs.Little.{littleAt}
 unfoldable pub wordAt : List ℕ → ℕ → ℕ
 wordAt s at = cond (leb (at + 4) (length s)) (littleAt 4 s at) 0
 
--- the sum, where neither is so large that it could wrap; else the first
+-- the sum, or the first where one of the two is so large that the sum could overflow
 unfoldable pub more : ℕ → ℕ → ℕ
 more n by = cond (ltb n 1000000000) (cond (ltb by 1000000000) (n + by) n) n
 
--- so many words from a place on
+-- n words from a place on
 unfoldable pub numbersFrom : List ℕ → ℕ → ℕ → List ℕ
 numbersFrom s from n = many (λ i. wordAt s (more from (4 * i)) ∷ []) n
 

@@ -1,10 +1,10 @@
-// The words of a stored case, for the programs that replay cases: numbers and floats of four bytes each, the lowest byte
-// first. Nothing is asked of the case or the place, so that a case that is cut short stops no replay.
+// The words of a stored case, for the programs that replay cases: numbers and floats of four bytes each, the lowest byte first.
+// The functions need nothing of the case or the place, so that a case that is cut short stops no replay.
 ghost use mathlib.Core.Path.{_≡_};
 ghost use lib.ListN.{length};
 ghost use Rattle.test_words.specs.Words as Words;
 
-// The sum, where neither is so large that it could wrap; else the first.
+// The sum, or n where one of the two is so large that the sum could overflow.
 pub fn more(n: usize, by: usize) -> usize
     ensures { λ r. ⌜ r ≡ Words.more n by ⌝ }
 {
@@ -16,7 +16,7 @@ pub fn more(n: usize, by: usize) -> usize
     n
 }
 
-// A word of the case, as a pattern: 0 past its end.
+// The word from byte `at` on, or 0 past the end.
 pub fn pattern_at(bytes: &[u8], at: usize) -> u32
     ensures { λ r. ⌜ r ≡ Words.wordAt (now (bytes .entry)) at ⌝ }
 {
@@ -29,6 +29,7 @@ pub fn pattern_at(bytes: &[u8], at: usize) -> u32
     records::numbers::u32_at(bytes, at)
 }
 
+// Fills `out` with the numbers of the words from byte `from` on.
 pub fn fill_floats(bytes: &[u8], from: usize, out: &mut [f32])
     ensures { λ _. ⌜ now (out .exit) ≡ Words.floatsFrom (now (bytes .entry)) from (length (now (out .entry))) ⌝ }
 {
@@ -39,6 +40,7 @@ pub fn fill_floats(bytes: &[u8], from: usize, out: &mut [f32])
     }
 }
 
+// Fills `out` with the words from byte `from` on.
 pub fn fill_numbers(bytes: &[u8], from: usize, out: &mut [u32])
     ensures { λ _. ⌜ now (out .exit) ≡ Words.numbersFrom (now (bytes .entry)) from (length (now (out .entry))) ⌝ }
 {

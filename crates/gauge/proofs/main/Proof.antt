@@ -1,5 +1,5 @@
--- `gauge::main` meets its contract: what was printed is within the list that it was printed into.
--- An array's length is had by the law of `replicate`: computed, it costs by the length.
+-- `gauge::main` meets its contract: what was printed lies within the array that it was printed into.
+-- The length of an array comes from the law of `replicate`: computing it would cost as much as it is long.
 use mathlib.Core.Path.{sym}
 use Prim.Native.Nat.{ℕ}
 use native.Mathlib.Nat.{le-of-eq}

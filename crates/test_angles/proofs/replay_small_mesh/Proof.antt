@@ -1,4 +1,4 @@
--- `test_angles::replay_small_mesh` is safe and ends: each part is within its array.
+-- `test_angles::replay_small_mesh` is safe and ends: each slice is within its array.
 use mathlib.Core.Path.{sym}
 use Prim.Native.Nat.{_*_}
 use native.Mathlib.Omega.{arith}

@@ -1,4 +1,4 @@
--- `test_exports::measured_at` tells how many triangles the sure search measures.
+-- `test_exports::measured_at` meets its contract: the walk answers how many triangles it measured.
 use mathlib.Core.Path.{ap}
 use Rattle.spec_search.specs.Answers.{Answer}
 use Rattle.spec_search.specs.Walk.{Sought}

@@ -1,4 +1,4 @@
--- `test_exports::timing_check` tells whether the check passed.
+-- `test_exports::timing_check` meets its contract: the number says whether the check passed.
 use mathlib.Core.Path.{ap, _∙_}
 use Rattle.test_exports.specs.Told.{onePassed}
 use borrow.Author.Needs.{needs}

@@ -1,4 +1,4 @@
--- `test_exports::timing_measured` calls the search only where its lists passed.
+-- `test_exports::timing_measured` meets its contract: it searches only where the lists passed.
 use mathlib.Core.Path.{_≡_, _∙_, sym, ap}
 use mathlib.Core.Bool.{Bool}
 use Rattle.spec_lists.specs.Refusals.{Verdict, refuses}

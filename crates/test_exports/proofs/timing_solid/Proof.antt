@@ -1,4 +1,4 @@
--- `test_exports::timing_solid` tells the angle of one triangle from one point, and no number else.
+-- `test_exports::timing_solid` meets its contract: the angle of one triangle from one point, else a NaN.
 use mathlib.Core.Path.{_∙_}
 use lib.Ieee.{ofBits, div}
 use borrow.Author.Needs.{needs}

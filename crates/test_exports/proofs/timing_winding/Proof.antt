@@ -1,4 +1,4 @@
--- `test_exports::timing_winding` writes the winding numbers, and tells whether there are any.
+-- `test_exports::timing_winding` meets its contract: the winding numbers are written, and the number says whether there are any.
 use mathlib.Core.Path.{ap, _∙_}
 use Rattle.test_exports.specs.Told.{onePassed}
 use borrow.Author.Needs.{needs}

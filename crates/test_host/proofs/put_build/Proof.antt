@@ -1,4 +1,4 @@
--- `test_host::put_build` meets its contract: the bytes that are lent are so many.
+-- `test_host::put_build` meets its contract: the lent slice lies in its array.
 use mathlib.Core.Path.{sym}
 use lib.Seq.{length-take-le}
 use borrow.Author.Needs.{needs}

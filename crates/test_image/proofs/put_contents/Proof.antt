@@ -1,4 +1,4 @@
--- `test_image::put_contents` meets its contract: the parts that are written again end within the lists.
+-- `test_image::put_contents` meets its contract: the slices that are written again end within the lists.
 use native.Mathlib.Omega.{arith}
 use lib.ListN.{length-take}
 use borrow.Author.Needs.{needs}

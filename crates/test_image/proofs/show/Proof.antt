@@ -1,4 +1,4 @@
--- `test_image::show` meets its contract: the part ends within the line.
+-- `test_image::show` meets its contract: the slice ends within the line.
 use native.Mathlib.Omega.{arith}
 use lib.ListN.{length-take}
 use borrow.Author.Needs.{needs}

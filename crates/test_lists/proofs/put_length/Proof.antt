@@ -1,4 +1,4 @@
--- `test_lists::put_length` is safe and ends: the part of the array has the length that is asked.
+-- `test_lists::put_length` is safe and ends: the array has that many numbers.
 use native.Mathlib.Omega.{arith}
 use lib.ListN.{length-take}
 use borrow.Author.Needs.{needs}

@@ -1,4 +1,4 @@
--- `angles::arc_tangent::angle_of` meets its contract.
+-- `angles::arc_tangent::angle_of` meets its contract: the ratio, its units, their arc, and the arc mirrored into its quadrant.
 use mathlib.Core.Path.{_≡_, refl}
 use mathlib.Core.Bool.{Bool}
 use Prim.Native.Nat.{ℕ, _^_, _≤_}

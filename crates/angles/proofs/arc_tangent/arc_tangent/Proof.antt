@@ -1,4 +1,4 @@
--- `angles::arc_tangent::arc_tangent` meets its contract.
+-- `angles::arc_tangent::arc_tangent` meets its contract: the size of the angle, rounded once, with the sign of n.
 use mathlib.Core.Path.{refl}
 use native.Mathlib.Omega.{arith}
 use lib.Ieee.{binary32, ofBits}

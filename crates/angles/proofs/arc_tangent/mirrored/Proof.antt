@@ -1,4 +1,4 @@
--- `angles::arc_tangent::mirrored` meets its contract.
+-- `angles::arc_tangent::mirrored` meets its contract: each arm is a case of the definition.
 use borrow.Author.Needs.{needs}
 use Rattle.spec_angles.specs.Angle.{mirrored}
 use Rattle.angles.proofs.arc_tangent.mirrored.Statement.{statement}

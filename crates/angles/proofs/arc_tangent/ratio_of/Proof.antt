@@ -1,4 +1,4 @@
--- `angles::arc_tangent::ratio_of` meets its contract.
+-- `angles::arc_tangent::ratio_of` meets its contract: the smaller magnitude is divided by the larger.
 use mathlib.Core.Path.{_≡_}
 use mathlib.Core.Bool.{true, false}
 use lib.Ieee.{Float, binary32, lt, div}

@@ -1,4 +1,4 @@
--- `angles::winding::winding` meets its contract: a refusal leaves the list as it was, and where there is none the list is written.
+-- `angles::winding::winding` meets its contract: a refusal leaves the list as it was, and otherwise the list is written.
 use lib.Ieee.{binary32}
 use mathlib.Core.Path.{_∙_, sym}
 use Rattle.spec_lists.proofs.Verdicts.{did-pass}

@@ -1,5 +1,5 @@
 -- `angles::winding::winding_number_by` meets its contract. The invariant: `sum` is that of the first t solid angles.
--- The measure is how many are left.
+-- The measure is the number of triangles that remain.
 use Prim.Native.Nat.{_-_}
 use native.Mathlib.Omega.{arith}
 use lib.Ieee.{binary32, ofBits}

@@ -1,4 +1,5 @@
--- `angles::winding::write_windings` meets its contract. The invariant: the first k winding numbers stand in `out`. The measure is how many are left.
+-- `angles::winding::write_windings` meets its contract. The invariant: the first k winding numbers stand in `out`.
+-- The measure is the number of points that remain.
 use Prim.Native.Nat.{_-_}
 use native.Mathlib.Omega.{arith}
 use lib.Ieee.{binary32}

@@ -1,4 +1,4 @@
--- `gauge_run::answer_lines::put_answer_line` meets its contract: the first of the six numbers says which line it is.
+-- `gauge_run::answer_lines::put_answer_line` meets its contract: the first of the six words says which line it is.
 use denote.Ref.{now}
 use native.Mathlib.Omega.{arith}
 use Rattle.spec_tables.proofs.Tables.{put-same}

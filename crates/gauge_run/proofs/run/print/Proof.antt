@@ -1,4 +1,4 @@
--- `gauge_run::run::print` meets its contract: too long, laid out wrong, or what its records ask for.
+-- `gauge_run::run::print` meets its contract: the input is too long, or laid out wrong, or a request.
 use denote.Ref.{now}
 use mathlib.Core.Path.{sym, ap, _∙_}
 use Rattle.spec_tables.proofs.Tables.{put-same}

@@ -1,4 +1,4 @@
--- `gauge_run::run::print_asked` meets its contract: the refusal's line, or the run.
+-- `gauge_run::run::print_asked` meets its contract: the line of a refusal, or the run.
 use mathlib.Core.Path.{sym, ap, _∙_}
 use Rattle.spec_tables.proofs.Tables.{put-same}
 use Rattle.lists.specs.Values.{asVerdict}

@@ -1,4 +1,4 @@
--- `host_ask::ask::ask_laid` meets its contract: the count, and the triangles.
+-- `host_ask::ask::ask_laid` meets its contract: the count, then the triangles.
 use mathlib.Core.Path.{sym, _∙_}
 use native.Mathlib.Omega.{arith}
 use lib.Seq.{length-take-le}

@@ -1,4 +1,4 @@
--- `host_ask::ask::ask_triangles` meets its contract: the tests before the tree, a count of nodes that no tree has, and the tree.
+-- `host_ask::ask::ask_triangles` meets its contract: the tests before the tree, a node count that no tree has, and the tree.
 use mathlib.Core.Path.{sym, _∙_}
 use lib.ListN.{length}
 use Rattle.spec_records.specs.Layouts.{version1}

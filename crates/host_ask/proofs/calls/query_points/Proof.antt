@@ -1,4 +1,4 @@
--- `host_ask::calls::query_points` meets its contract: the query, told.
+-- `host_ask::calls::query_points` meets its contract: the verdict of the query as a status.
 use mathlib.Core.Path.{ap, _∙_}
 use Prim.Native.Nat.{_/_}
 use native.Mathlib.Omega.{arith}

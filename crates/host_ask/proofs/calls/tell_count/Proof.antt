@@ -1,4 +1,4 @@
--- `host_ask::calls::tell_count` meets its contract: a refusal is told whatever the count.
+-- `host_ask::calls::tell_count` meets its contract: the status of a refusal does not depend on the count.
 use mathlib.Core.Path.{sym, _∙_}
 use Rattle.lists.specs.Values.{asVerdict}
 use Rattle.spec_host.proofs.RequestsTold.{told-refused, told-done}

@@ -1,4 +1,4 @@
--- `host_ask::calls::winding_points` meets its contract: the winding numbers, told.
+-- `host_ask::calls::winding_points` meets its contract: the verdict of the winding numbers as a status.
 use mathlib.Core.Path.{ap, _∙_}
 use Prim.Native.Nat.{_/_}
 use native.Mathlib.Omega.{arith}

@@ -1,5 +1,4 @@
--- `host_ask::point_queries::ask_lists` meets its contract:
--- a refusal leaves the bytes as they were, and where there is none each point's answer is written.
+-- `host_ask::point_queries::ask_lists` meets its contract: a refusal leaves the bytes as they were, and otherwise each answer is written.
 use mathlib.Core.Path.{sym, _∙_}
 use Rattle.spec_lists.proofs.Verdicts.{did-pass}
 use Rattle.spec_host.proofs.PointBytes.{as-it-was, as-written}

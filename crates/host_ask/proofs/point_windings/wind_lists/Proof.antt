@@ -1,5 +1,4 @@
--- `host_ask::point_windings::wind_lists` meets its contract:
--- a refusal leaves the bytes as they were, and where there is none each winding number is written.
+-- `host_ask::point_windings::wind_lists` meets its contract: a refusal leaves the bytes as they were, and otherwise each winding number is written.
 use mathlib.Core.Path.{sym, _∙_}
 use lib.ListN.{length}
 use Rattle.spec_lists.proofs.Verdicts.{did-pass}

@@ -1,4 +1,4 @@
--- `host_ask::wind::wind` meets its contract: the layout, and then what the image holds.
+-- `host_ask::wind::wind` meets its contract: the layout, then what the image holds.
 use Rattle.lists.specs.Values.{asVerdict}
 use mathlib.Core.Path.{refl, sym, ap, _∙_}
 use lib.ListN.{length}

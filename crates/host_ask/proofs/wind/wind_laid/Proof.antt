@@ -1,4 +1,4 @@
--- `host_ask::wind::wind_laid` meets its contract: the count, and the triangles.
+-- `host_ask::wind::wind_laid` meets its contract: the count, then the triangles.
 use Rattle.lists.specs.Values.{asVerdict}
 use mathlib.Core.Path.{sym, ap, _∙_}
 use mathlib.Core.List.{List}

@@ -1,4 +1,4 @@
--- `host_build::build::build_image` meets its contract: bytes that hold no list, or the list that they hold.
+-- `host_build::build::build_image` meets its contract: the length refuses the bytes, or they hold a list.
 use mathlib.Core.Path.{refl, sym, ap, _∙_}
 use native.Mathlib.Omega.{arith}
 use lib.Seq.{length-take-le}

@@ -1,4 +1,4 @@
--- `host_build::build::build_list` meets its contract: the lists that are lent to the build have room, so what is left is to put what it made.
+-- `host_build::build::build_list` meets its contract: the lists that are lent to the build have room, so it remains to write what it made.
 use denote.Ref.{now}
 use mathlib.Core.Path.{_≡_, _∙_, sym}
 use mathlib.Core.List.{List}

@@ -1,4 +1,4 @@
--- `host_build::most::image_most` meets its contract: none and too many have no image.
+-- `host_build::most::image_most` meets its contract: no triangles and too many have no image.
 use borrow.Author.Tests.{le-leb, lt-leb}
 use native.Mathlib.Omega.{arith}
 use Rattle.spec_lists.specs.Limits.{mostTriangles}

@@ -1,4 +1,4 @@
--- `host_build::put::put_built` meets its contract: the room is tested, then the image is put.
+-- `host_build::put::put_built` meets its contract: the room is tested, then the image is written.
 use native.Mathlib.Omega.{arith}
 use Rattle.spec_lists.proofs.Passed.{room-passes}
 use Rattle.spec_host.proofs.Build.{room-short, put-nothing, put-all}

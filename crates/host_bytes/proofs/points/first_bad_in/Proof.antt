@@ -1,5 +1,5 @@
 -- `host_bytes::points::first_bad_in` meets its contract.
--- The invariant: the index, and how many good numbers there are from there on, give the answer.
+-- The invariant: the answer is the index and the number of coordinates from there on.
 use mathlib.Core.Path.{_≡_, sym, ap, _∙_}
 use Prim.Native.Nat.{_+_, _-_}
 use native.Mathlib.Omega.{arith}

@@ -1,4 +1,4 @@
--- `host_bytes::points::number_in` meets its contract: the number of four bytes.
+-- `host_bytes::points::number_in` meets its contract: the number that the four bytes stand for.
 use mathlib.Core.Path.{sym, ap, _∙_}
 use native.Mathlib.Omega.{arith}
 use lib.Ieee.{binary32, ofBits}

@@ -1,4 +1,4 @@
--- `host_bytes::told::tell_refusal` meets its contract: an 8 has the top bit, any other number the top byte.
+-- `host_bytes::told::tell_refusal` meets its contract: an 8 sets the top bit, any other number the top byte.
 use native.Mathlib.Omega.{arith}
 use borrow.Author.Tests.{ne-eqb}
 use Prim.Native.Nat.{_<_, _^_}

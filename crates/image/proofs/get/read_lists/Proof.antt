@@ -1,4 +1,4 @@
--- `image::get::read_lists` meets its contract: the triangles, and the tree.
+-- `image::get::read_lists` meets its contract: the triangles, then the tree.
 use Rattle.spec_image.specs.Image.{imageIn}
 use borrow.Author.Needs.{needs}
 use Rattle.image.proofs.get.read_lists.Statement.{statement}

@@ -1,4 +1,4 @@
--- `image::size::is_short` meets its contract: more nodes than a thirtieth of the room do not fit, and fewer can be multiplied.
+-- `image::size::is_short` meets its contract: more nodes than a thirtieth of the room do not fit, and fewer can be multiplied without overflow.
 use native.Mathlib.Omega.{arith}
 use mathlib.Core.Path.{sym}
 use borrow.Author.Tests.{lt-ltb}

@@ -1,4 +1,4 @@
--- `image::write::write_refusal` meets its contract: two tests, then, over triangles that passed, two more.
+-- `image::write::write_refusal` meets its contract: two tests and then, for triangles that passed, two more.
 use Rattle.spec_lists.proofs.Verdicts.{ends, or-test, row-stops, row-goes-on, row-passed}
 use Rattle.spec_lists.proofs.Passed.{triangles-passed}
 use Rattle.spec_image.specs.Writing.{writeRefusal}

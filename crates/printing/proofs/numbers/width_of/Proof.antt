@@ -1,4 +1,4 @@
--- `printing::numbers::width_of` meets its contract: what was counted, and the width of what is left, are one more than the width.
+-- `printing::numbers::width_of` meets its contract. The invariant: the digits counted and the width of what remains are one more than the width.
 use mathlib.Core.Path.{_≡_}
 use Prim.Native.Nat.{_+_}
 use native.Mathlib.Omega.{arith}

@@ -1,4 +1,4 @@
--- `records::bodies::has_body` meets its contract: of a record that is there its size decides.
+-- `records::bodies::has_body` meets its contract: where the record is there its size decides.
 use mathlib.Core.Path.{sym}
 use denote.Ref.{now}
 use Rattle.spec_records.specs.Records.{exactly}

@@ -1,4 +1,4 @@
--- `records::bodies::has_settings` meets its contract: of settings of the right size the version decides.
+-- `records::bodies::has_settings` meets its contract: where settings of the right size are there the version decides.
 use mathlib.Core.Path.{sym, ap, _∙_}
 use Prim.Native.Nat.{ℕ}
 use native.Mathlib.Omega.{arith}

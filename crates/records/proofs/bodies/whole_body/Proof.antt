@@ -1,4 +1,4 @@
--- `records::bodies::whole_body` meets its contract: of a record that is there its size decides.
+-- `records::bodies::whole_body` meets its contract: where the record is there its size decides.
 use Prim.Native.Nat.{_%_}
 use borrow.Author.Tests.{eq-eqb, ne-eqb}
 use denote.Ref.{now}

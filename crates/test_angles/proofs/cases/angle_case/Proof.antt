@@ -1,4 +1,4 @@
--- `test_angles::cases::angle_case` meets its contract.
+-- `test_angles::cases::angle_case` meets its contract: what each call ensures, put in.
 use Rattle.test_angles.specs.Cases.{angleCase}
 use borrow.Author.Needs.{needs}
 use Rattle.test_angles.proofs.cases.angle_case.Statement.{statement}

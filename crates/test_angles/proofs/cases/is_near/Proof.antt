@@ -1,4 +1,4 @@
--- `test_angles::cases::is_near` meets its contract.
+-- `test_angles::cases::is_near` meets its contract: its tests are those of the definition.
 use Rattle.test_angles.specs.Cases.{near}
 use borrow.Author.Needs.{needs}
 use Rattle.test_angles.proofs.cases.is_near.Statement.{statement}

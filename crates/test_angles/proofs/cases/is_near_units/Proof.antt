@@ -1,4 +1,4 @@
--- `test_angles::cases::is_near_units` meets its contract.
+-- `test_angles::cases::is_near_units` meets its contract: its tests are those of the definition.
 use mathlib.Core.Path.{_≡_}
 use mathlib.Core.Bool.{false, _&&_}
 use Prim.Native.Nat.{ℕ, _+_, _/_, _≤_, _<_}

@@ -1,4 +1,4 @@
--- `test_angles::cases::solid_case` meets its contract.
+-- `test_angles::cases::solid_case` meets its contract: what each call ensures, put in.
 use Rattle.test_angles.specs.Cases.{solidCase}
 use borrow.Author.Needs.{needs}
 use Rattle.test_angles.proofs.cases.solid_case.Statement.{statement}

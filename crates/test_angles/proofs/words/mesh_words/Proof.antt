@@ -1,4 +1,4 @@
--- `test_angles::words::mesh_words` meets its contract.
+-- `test_angles::words::mesh_words` meets its contract: what each call ensures, put in.
 use Rattle.test_angles.specs.Words.{meshWords}
 use borrow.Author.Needs.{needs}
 use Rattle.test_angles.proofs.words.mesh_words.Statement.{statement}

@@ -1,4 +1,4 @@
--- `test_angles::words::number_at` meets its contract.
+-- `test_angles::words::number_at` meets its contract: the number of the word.
 use Rattle.test_angles.specs.Words.{numberAt}
 use borrow.Author.Needs.{needs}
 use Rattle.test_angles.proofs.words.number_at.Statement.{statement}

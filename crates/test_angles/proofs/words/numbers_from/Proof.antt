@@ -1,4 +1,5 @@
--- `test_angles::words::numbers_from` meets its contract. The invariant: the first i numbers stand in the array. The measure is how many are left.
+-- `test_angles::words::numbers_from` meets its contract. The invariant: the first i numbers stand in the array.
+-- The measure is the number of those that remain.
 use Prim.Native.Nat.{_-_}
 use mathlib.Core.List.{[], _∷_}
 use native.Mathlib.Omega.{arith}

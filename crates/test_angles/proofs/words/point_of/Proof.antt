@@ -1,4 +1,4 @@
--- `test_angles::words::point_of` meets its contract.
+-- `test_angles::words::point_of` meets its contract: what `number_at` ensures of each coordinate.
 use Rattle.test_angles.specs.Words.{pointAt}
 use borrow.Author.Needs.{needs}
 use Rattle.test_angles.proofs.words.point_of.Statement.{statement}

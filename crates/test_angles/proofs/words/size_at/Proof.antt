@@ -1,4 +1,4 @@
--- `test_angles::words::size_at` meets its contract.
+-- `test_angles::words::size_at` meets its contract: its test is that of the definition.
 use mathlib.Core.Path.{_≡_}
 use mathlib.Core.Bool.{cond}
 use Prim.Native.Nat.{ℕ, _≤_, _<_}

@@ -1,5 +1,5 @@
 -- `tree::leaf_reader::entry_of` meets its contract: a walk of its MIR, by hand.
--- A `Leaf` that one call returns is held in a local and passed to the next.
+-- A `Leaf` that one call returns is kept in a local and passed to the next.
 -- All that the proof knows of `of` and of `entry` is that each meets its contract.
 -- The machine value that `of` returns is stored and passed on as it is.
 -- In a local of a body MIR erases the lifetime of the struct's type, so the value is shown to have the type at `erased`:

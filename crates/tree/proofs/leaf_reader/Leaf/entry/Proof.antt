@@ -1,7 +1,7 @@
 -- `tree::leaf_reader::Leaf::entry` meets its contract: a walk of its MIR, by hand.
 -- The struct is taken apart, and `entry_at` is called on the slice and the number.
 -- All that the proof knows of `entry_at` is that it meets its contract.
--- The struct is Copy: what it owns is had twice, one copy is kept whole for the exit, and of the other what part owns goes to the callee,
+-- The struct is Copy: what it owns is had twice, one copy is kept whole for the exit, and of the other what the slice owns goes to the callee,
 -- beside the lifetime's token, which comes back.
 use mathlib.Core.Path.{_≡_, refl}
 use Prim.Native.Nat.{ℕ, _<_, _^_}
