@@ -42,6 +42,7 @@ fn depth_read(found: DepthFound) -> usize
         DepthFound::Refused { .. } => 0,
     }
 }
+
 // The nodes of a build, 0 for a refusal.
 fn nodes_told(built: Built) -> usize
     ensures { λ r. ⌜ r ≡ Told.nodesTold (Builds.asBuilt built) ⌝ }
@@ -197,6 +198,7 @@ pub extern "C" fn timing_depth_read(
     let found = tree::calls::depth(triangles, order, links, boxes, nodes);
     depth_read(found)
 }
+
 // How many triangles the sure search measures for one point.
 fn measured_at(
     triangles: &[f32],

@@ -1,4 +1,4 @@
--- `test_exports::timing_depth_read` answers the depth that the call answers.
+-- `test_exports::timing_depth_read` meets its contract: the number is the depth that the call answers.
 use mathlib.Core.Path.{ap, _∙_}
 use Rattle.test_exports.specs.Told.{depthRead}
 use borrow.Author.Needs.{needs}
