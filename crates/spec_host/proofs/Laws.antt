@@ -1,4 +1,5 @@
--- A call answers on an image that was written as the list call on the lists that it was written from, and its status is decoded without loss.
+-- A call answers on an image that was written as the list call on the lists that it was written from, what was written passes the
+-- check, and the status of a call is decoded without loss.
 use mathlib.Core.Path.{_≡_, refl, sym, ap, _∙_}
 use mathlib.Core.Bool.{true}
 use mathlib.Core.List.{List, _∷_}
@@ -6,21 +7,33 @@ use Prim.Native.Nat.{ℕ, _/_, _%_, _^_, _<_}
 use native.Mathlib.Omega.{arith}
 use borrow.Author.Tests.{eq-eqb}
 use lib.Dec.{eqb}
-use lib.ListN.{length}
-use lib.Ieee.{Float}
+use lib.ListN.{length, take}
+use lib.Ieee.{Float, binary32}
+use Rattle.spec_tables.specs.Tables.{over}
+use Rattle.spec_tables.proofs.Pieces.{take-over}
 use Rattle.spec_records.specs.Little.{Bytes}
 use Rattle.spec_records.specs.Records.{bodies, laidOut}
 use Rattle.spec_records.specs.Layouts.{version1, imageWants, imageSpans}
 use Rattle.spec_image.specs.Image.{Image, imageBytes}
 use Rattle.spec_image.specs.Stored.{Storable, used}
+use Rattle.spec_image.specs.Writing.{exactSize, writeRefusal}
 use Rattle.spec_image.proofs.Written.{written-laid, written-read}
-use Rattle.spec_lists.specs.Refusals.{Verdict, passes, refused, firstRefusal, trianglesRefusal, settingsRefusal, pointsRefusal}
+use Rattle.spec_image.proofs.Writing.{Good, used-good, write-passed}
+use Rattle.spec_image.proofs.Kept.{floats-fit, good-storable, good-long}
+use Rattle.spec_lists.specs.Reading.{boxAt, triangleCount}
+use Rattle.spec_lists.specs.Passed.{AllFit}
+use Rattle.spec_lists.specs.Refusals.{Verdict, passes, refused, firstRefusal, trianglesRefusal, Settings, settingsRefusal, pointsRefusal}
+use Rattle.spec_lists.proofs.Verdicts.{all-pass, then-passes}
+use Rattle.spec_lists.proofs.Passed.{triangles-passed, triangles-pass, settings-passed, settings-pass}
+use Rattle.spec_tree.specs.Accepted.{accepted}
+use Rattle.spec_tree.specs.Refusals.{treeRefusal}
+use Rattle.spec_tree.proofs.Accepted.{listed-accepted}
 use Rattle.spec_search.specs.Calls.{queryRefusal}
 use Rattle.spec_angles.specs.Windings.{windingRefusal}
 use Rattle.spec_host.specs.Told.{told, Heard}
 use Rattle.spec_host.proofs.Told.{told-heard}
-use Rattle.spec_host.specs.Build.{numbersOf}
-use Rattle.spec_host.proofs.Build.{numbers-long}
+use Rattle.spec_host.specs.Build.{numbersOf, imageOver, builtImage, listRefusal, bytesRefusal, ImagePut}
+use Rattle.spec_host.proofs.Build.{built-good, numbers-long}
 use Rattle.spec_host.specs.PointBytes.{pointBytesRefusal}
 use Rattle.spec_host.specs.Requests.{contents, checkedRefusal, askedRefusal, woundRefusal, checkVerdict, queryVerdict, windingVerdict}
 use Rattle.spec_host.proofs.PointBytes.{points-count}
@@ -50,6 +63,43 @@ module _ (x : Image) (ok : Storable version1 x) where
   written-asked points distance room =
       sym (inner-decides written (length (x .order)) (x .nodes) laid (λ y. askedRefusal y points distance room) (askedRefusal (used x) points distance room)
       (ap (λ (y : Image). askedRefusal y points distance room) (sym (written-read version1 x ok))))
+
+-- ---- what the writer accepts passes the check of the image that it writes
+good-checked : (x : Image) → Good x → checkedRefusal x ≡ passes
+unfolding checkedRefusal treeRefusal
+good-checked x g =
+    let yes : accepted (boxAt (x .triangles)) (triangleCount (x .triangles)) (x .order) (x .links) (x .boxes) (x .nodes) ≡ true =
+    listed-accepted (boxAt (x .triangles)) (triangleCount (x .triangles)) (x .order) (x .links) (x .boxes) (x .nodes) (g .tree) (g .listing) in
+    then-passes _ (triangles-pass (x .triangles) (g .triangles), (settings-pass (x .settings) (g .settings), (rw yes, tt)))
+
+good-passes : (x : Image) → Good x → AllFit binary32 (x .triangles) → checkVerdict (imageBytes version1 x) ≡ passes
+good-passes x g fit = written-checked x (good-storable x g fit) ∙ good-checked (used x) (used-good x g)
+
+-- what the writer accepts passes the check, once it is written
+pub written-passes : (x : Image) (given : ℕ) → AllFit binary32 (x .triangles) → writeRefusal version1 x given ≡ passes → checkVerdict (imageBytes version1 x) ≡ passes
+written-passes x given fit accepts = good-passes x (write-passed version1 x given accepts .0) fit
+
+-- ---- so does an image that the host builds
+module _ (s : List ℕ) (settings : Settings) (given : ℕ) (accepts : bytesRefusal s settings given ≡ passes) where
+  built : Good (builtImage (numbersOf s) settings)
+  unfolding bytesRefusal listRefusal
+  built =
+      let p = all-pass _ (all-pass _ accepts .1 .0) in
+      built-good (numbersOf s) settings (triangles-passed (numbersOf s) (p .0)) (settings-passed settings (p .1 .0))
+
+  -- the image that the host builds passes the check
+  pub built-passes : checkVerdict (imageBytes version1 (builtImage (numbersOf s) settings)) ≡ passes
+  unfolding imageOver
+  built-passes = good-passes (builtImage (numbersOf s) settings) built (floats-fit s 0 (length s / 4))
+
+  -- and so do the bytes that the call leaves, as many as its status says
+  pub put-passes : {old new : List ℕ} {answer : ℕ} → ImagePut (bytesRefusal s settings given) (builtImage (numbersOf s) settings) old answer new
+      → checkVerdict (take answer new) ≡ passes
+  put-passes {old} {new} {answer} p =
+      let x : Image = builtImage (numbersOf s) settings in
+      let told-is : answer ≡ exactSize version1 x = rw accepts at (p .told-is) in
+      let bytes-are : new ≡ over 0 (imageBytes version1 x) old = rw accepts at (p .bytes-are) in
+      rw (told-is, bytes-are, take-over (exactSize version1 x) (imageBytes version1 x) old (good-long x built)) built-passes
 
 -- ---- the status is decoded
 module _ (image points : List ℕ) (ok : Bytes image) (fits : length points < 2 ^ 63) (few : length points / 12 < 2 ^ 56) (room : ℕ) where

@@ -14,7 +14,7 @@ use Rattle.spec_numbers.specs.Plain.{Plain}
 use Rattle.spec_numbers.proofs.Order.{finite-number}
 use Rattle.spec_records.specs.Little.{littleAt, Bytes}
 use Rattle.spec_records.specs.Entries.{floatsIn, NoNan}
-use Rattle.spec_records.specs.Records.{wrong, bodies, exactly, whole, sizeAt, isRight, laidOut}
+use Rattle.spec_records.specs.Records.{Layout, wrong, bodies, exactly, whole, sizeAt, isRight, laidOut}
 use Rattle.spec_records.specs.Layouts.{version1, settingsRight, imageWants, imageSize, imageSpans}
 use Rattle.spec_records.proofs.Records.{RightRecord, right-parts, reach-start, reach-on, reach-wrong, reach-end, reach-extra}
 use Rattle.spec_records.proofs.Layouts.{exactly-right, settings-right, whole-size, tree-wanted, image-spans}
@@ -29,7 +29,7 @@ use Rattle.spec_tree.proofs.Trees.{links-length, boxes-length}
 use Rattle.spec_tree.proofs.Order.{permutes-entries}
 use Rattle.spec_image.specs.Image.{Image, imageBytes, settingsIn, imageIn}
 use Rattle.spec_image.specs.Stored.{Storable, used}
-use Rattle.spec_image.specs.Reading.{Rooms, refused, holds, roomFor, byRoom, judged, imageRead}
+use Rattle.spec_image.specs.Reading.{Rooms, refused, holds, roomFor, byRoom, sizeOf, judged, imageRead}
 use Rattle.spec_image.specs.Writing.{exactSize, writeRefusal, bytesAfter}
 use Rattle.spec_image.proofs.Sizes.{length-image}
 use Rattle.spec_image.proofs.Listed.{Each, each-by-place, each-taken, links-below, boxes-plain}
@@ -86,13 +86,15 @@ module _ (x : Image) (g : Good x) (fit : AllFit binary32 (x .triangles)) where
         fewNodes = omega (arith, good-nodes x g);
       }
 
+-- an image that the writer accepts has exactly the bytes that it says
+pub good-long : (x : Image) → Good x → length (imageBytes version1 x) ≡ exactSize version1 x
+good-long x g = length-image version1 x (good-complete x g) ∙ ap (λ (k : ℕ). imageSize version1 k (x .nodes)) (good-count x g)
+
 -- ---- written
 -- what the writer accepts stands, as an image, at the front of the lent bytes
 pub written-front : (x : Image) (out : List ℕ) → writeRefusal version1 x (length out) ≡ passes → take (exactSize version1 x) (bytesAfter version1 x out) ≡ imageBytes version1 x
 unfolding bytesAfter
-written-front x out accepted =
-    let good = write-passed version1 x (length out) accepted .0 in
-    rw accepted (take-over (exactSize version1 x) (imageBytes version1 x) out (length-image version1 x (good-complete x good) ∙ ap (λ (k : ℕ). imageSize version1 k (x .nodes)) (good-count x good)))
+written-front x out accepted = rw accepted (take-over (exactSize version1 x) (imageBytes version1 x) out (good-long x (write-passed version1 x (length out) accepted .0)))
 
 -- ---- written, then read
 module _ (x : Image) (given : ℕ) (fit : AllFit binary32 (x .triangles)) (accepted : writeRefusal version1 x given ≡ passes) where
@@ -158,9 +160,9 @@ module _ (s : List ℕ) where
 never-held : (number place t n : ℕ) (settings : Settings) → refused number place ≡ holds settings t n → ⊥
 never-held number place t n settings e = let z : _≡_ {A = ℕ} 0 1 = cc in omega arith
 
-held-counts : (b : Bool) (first second : Settings) (t n t′ n′ : ℕ) → cond b (holds first t′ n′) (refused 6 0) ≡ holds second t n → (t′ ≡ t) × (n′ ≡ n)
-held-counts true first second t n t′ n′ e = (cc, cc)
-held-counts false first second t n t′ n′ e = absurd (never-held 6 0 t n second e)
+held-parts : (b : Bool) (first second : Settings) (t n t′ n′ : ℕ) → cond b (holds first t′ n′) (refused 6 0) ≡ holds second t n → (first ≡ second) × (t′ ≡ t) × (n′ ≡ n)
+held-parts true first second t n t′ n′ e = (cc, cc, cc)
+held-parts false first second t n t′ n′ e = absurd (never-held 6 0 t n second e)
 
 read-laid : (s : List ℕ) (r : Rooms) (settings : Settings) (t n : ℕ) → imageRead version1 s r ≡ holds settings t n → laidOut (imageWants version1) s 0 ≡ bodies (imageSpans version1 t n)
 unfolding imageRead imageSpans
@@ -172,8 +174,17 @@ read-laid s r settings t n e = go (laid s)
         let a : 36 * t′ / 36 ≡ t′ = omega arith in
         let b : 30 * n′ / 30 ≡ n′ = omega arith in
         let k : byRoom s r (36 * t′ / 36) (30 * n′ / 30) ≡ holds settings t n = ap (judged version1 s r) (sym w) ∙ e in
-        let same = held-counts (roomFor r (36 * t′ / 36) (30 * n′ / 30)) (settingsIn s) settings t n (36 * t′ / 36) (30 * n′ / 30) k in
-        w ∙ ap (λ (j : ℕ). bodies (imageSpans version1 j n′)) (sym a ∙ same .0) ∙ ap (λ (j : ℕ). bodies (imageSpans version1 t j)) (sym b ∙ same .1)
+        let same = held-parts (roomFor r (36 * t′ / 36) (30 * n′ / 30)) (settingsIn s) settings t n (36 * t′ / 36) (30 * n′ / 30) k in
+        w ∙ ap (λ (j : ℕ). bodies (imageSpans version1 j n′)) (sym a ∙ same .1) ∙ ap (λ (j : ℕ). bodies (imageSpans version1 t j)) (sym b ∙ same .2)
+
+-- and the settings that are answered are the image's
+pub read-settings : (s : List ℕ) (r : Rooms) (settings : Settings) (t n : ℕ) → imageRead version1 s r ≡ holds settings t n → settingsIn s ≡ settings
+unfolding imageRead
+read-settings s r settings t n e = go (laidOut (imageWants version1) s 0) e
+  where
+    go : (y : Layout) → judged version1 s r y ≡ holds settings t n → settingsIn s ≡ settings
+    go (wrong at) w = absurd (never-held 10 at t n settings w)
+    go (bodies bs) w = held-parts (roomFor r (sizeOf bs 1 / 36) (sizeOf bs 3 / 30)) (settingsIn s) settings t n _ _ w .0
 
 -- ---- read, then written
 module _ (s : List ℕ) (ok : Bytes s) (r : Rooms) (settings : Settings) (t n : ℕ) (read : imageRead version1 s r ≡ holds settings t n) (given : ℕ)

@@ -2,7 +2,9 @@
 use mathlib.Core.Path.{_≡_, sym, ap, _∙_}
 use mathlib.Core.Bool.{Bool, true}
 use Prim.Native.Nat.{ℕ, _+_, _*_, _≤_}
+use native.Mathlib.Nat.{le-refl}
 use lib.ListN.{length}
+use lib.Seq.{take-take}
 use Rattle.spec_records.specs.Layouts.{Shape}
 use Rattle.spec_lists.specs.Reading.{triangleCount, boxAt}
 use Rattle.spec_lists.specs.Refusals.{passes}
@@ -15,7 +17,7 @@ use Rattle.spec_tree.specs.Refusals.{treeRefusal}
 use Rattle.spec_tree.proofs.Order.{permutes-length}
 use Rattle.spec_tree.proofs.Accepted.{accepted-listed, listed-accepted, listing-most, listing-links, listing-boxes}
 use Rattle.spec_image.specs.Image.{Image}
-use Rattle.spec_image.specs.Stored.{Complete}
+use Rattle.spec_image.specs.Stored.{Complete, used}
 use Rattle.spec_image.specs.Writing.{exactSize, writeRefusal}
 
 -- the lists are good, and are the listing of this tree
@@ -44,6 +46,23 @@ module _ (x : Image) (g : Good x) where
   -- a good tree over n triangles has at most 2n - 1 nodes
   pub good-nodes : x .nodes + 1 ≤ 2 * n
   good-nodes = listing-most (boxAt (x .triangles)) n (x .order) (x .links) (x .boxes) (x .nodes) (g .tree) (g .listing)
+
+-- they are as good without what stands behind the nodes' links and boxes
+pub used-good : (x : Image) → Good x → Good (used x)
+used-good x g = record {
+  triangles = g .triangles;
+  settings = g .settings;
+  tree = g .tree;
+  listing = record {
+    order-is = g .listing .order-is;
+    permuted = g .listing .permuted;
+    filled = g .listing .filled;
+    nodes-are = g .listing .nodes-are;
+    links-are = take-take (3 * x .nodes) (3 * x .nodes) (x .links) (le-refl _) ∙ g .listing .links-are;
+    boxes-are = take-take (6 * x .nodes) (6 * x .nodes) (x .boxes) (le-refl _) ∙ g .listing .boxes-are;
+    shallow = g .listing .shallow;
+  };
+}
 
 -- ---- the tests pass exactly where the lists are good and there is room
 module _ (sh : Shape) (x : Image) (given : ℕ) where
