@@ -20,7 +20,7 @@ use Rattle.spec_tree.specs.Accepted.{Listing, accepted}
 use Rattle.spec_tree.specs.Depth.{depthOf}
 use Rattle.spec_tree.proofs.Accepted.{listed-accepted}
 use Rattle.spec_tree.proofs.Depth.{listing-depth}
-use Rattle.spec_build.specs.Build.{builtTree, mostNodes, buildRefusal, made, answerBy, leftBy, BuildIs}
+use Rattle.spec_build.specs.Build.{builtTree, mostNodes, buildRefusal, Built, made, answerBy, leftBy, BuildIs}
 use Rattle.spec_build.proofs.Centres.{centre-number}
 use Rattle.spec_build.proofs.Inside.{HasCentre, tries-inside}
 use Rattle.spec_build.proofs.Built.{Whole, whole-nodes, whole-listing, grown-whole}
@@ -66,6 +66,13 @@ built-whole f triangles s g h =
     grown-whole (tries-inside f (boxAt triangles) (s .strategy)) (s .leafMinimum) (s .maximumDepth) (triangleCount triangles) (h .leaf) (h .depth) (g .some) (triangles-centred f triangles g)
 
 -- ---- the call
+-- its answer and its lists are fixed by what it is called with
+pub build-is-unique : (f : Format) (triangles : List Float) (s : Settings) {order links : List ℕ} {boxes : List Float} {a a₂ : Built} {order′ links′ order″ links″ : List ℕ} {boxes′ boxes″ : List Float}
+    → BuildIs f triangles s order links boxes a order′ links′ boxes′ → BuildIs f triangles s order links boxes a₂ order″ links″ boxes″
+    → (a ≡ a₂) × (order′ ≡ order″) × (links′ ≡ links″) × (boxes′ ≡ boxes″)
+build-is-unique f triangles s p q =
+    (p .answer-is ∙ sym (q .answer-is), p .order-is ∙ sym (q .order-is), p .links-are ∙ sym (q .links-are), p .boxes-are ∙ sym (q .boxes-are))
+
 module _ (f : Format) (triangles : List Float) (s : Settings) (order links : List ℕ) (boxes : List Float) (order′ links′ : List ℕ) (boxes′ : List Float) (nodes depth : ℕ)
     (b : BuildIs f triangles s order links boxes (made nodes depth) order′ links′ boxes′) where
   never-both : (v : Verdict) → made nodes depth ≡ answerBy v (builtTree f triangles s) → v ≡ passes

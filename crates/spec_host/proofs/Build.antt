@@ -81,6 +81,11 @@ module _ {v : Verdict} {x : Image} {old : List ℕ} {answer : ℕ} where
   pub put-all : {new : List ℕ} {next : ℕ} → v ≡ passes → answer ≡ exactSize version1 x → Put 0 (imageBytes version1 x) old new next → ImagePut v x old answer new
   put-all e a p = record { told-is = rw e a; bytes-are = rw e (p .written) }
 
+-- the answer and the bytes are fixed by the verdict, the image and what the bytes held
+pub image-put-unique : {v : Verdict} {x : Image} {old new new₂ : List ℕ} {answer answer₂ : ℕ} → ImagePut v x old answer new → ImagePut v x old answer₂ new₂
+    → (answer ≡ answer₂) × (new ≡ new₂)
+image-put-unique p q = (p .told-is ∙ sym (q .told-is), p .bytes-are ∙ sym (q .bytes-are))
+
 -- room below the need is refused with 6
 pub room-short : (given need : ℕ) → given < need → roomRefusal given need ≡ refused 6 0
 unfolding roomRefusal
