@@ -1,4 +1,5 @@
 pub mod Links
+pub mod RoundTrip
 pub mod Taken
 pub mod Unique
 pub mod Wrote

@@ -2,15 +2,17 @@
 use mathlib.Core.Path.{_≡_, sym, ap, _∙_}
 use mathlib.Core.List.{List}
 use Prim.Native.Nat.{ℕ, _+_, _*_, _≤_, _<_}
+use native.Mathlib.Nat.{le-refl}
 use native.Mathlib.Omega.{arith}
 use lib.ListN.{take, getD}
-use lib.Seq.{getD-take}
+use lib.Seq.{getD-take, take-take}
 use lib.Ieee.{Float, nan, Format, toBits}
 use Rattle.spec_tables.proofs.Tables.{many-same}
 use Rattle.spec_records.specs.Little.{little}
 use Rattle.spec_records.specs.Entries.{floatSize, numberBytes, floatBytes}
 use Rattle.spec_records.specs.Layouts.{Shape}
 use Rattle.spec_image.specs.Image.{Image, nodeBytes, imageBytes}
+use Rattle.spec_image.specs.Stored.{used}
 
 same-getD : {A : Type 0} (d : A) (n k : ℕ) (l l′ : List A) → take n l ≡ take n l′ → k < n → getD l k d ≡ getD l′ k d
 same-getD {A} d n k l l′ e h = sym (getD-take n l k d h) ∙ ap (λ (x : List A). getD x k d) e ∙ getD-take n l′ k d h
@@ -33,3 +35,8 @@ pub image-used : (sh : Shape) (x : Image) (l : List ℕ) (b : List Float) → ta
 unfolding imageBytes
 image-used sh x l b e f =
     rw (many-same (nodeBytes sh l b) (nodeBytes sh (x .links) (x .boxes)) (x .nodes) (λ i h. node-same sh (x .nodes) i l (x .links) b (x .boxes) e f h))
+
+-- so what stands behind the nodes' links and boxes is never written
+pub used-bytes : (sh : Shape) (x : Image) → imageBytes sh (used x) ≡ imageBytes sh x
+used-bytes sh x =
+    image-used sh x (take (3 * x .nodes) (x .links)) (take (6 * x .nodes) (x .boxes)) (take-take (3 * x .nodes) (3 * x .nodes) (x .links) (le-refl _)) (take-take (6 * x .nodes) (6 * x .nodes) (x .boxes) (le-refl _))
