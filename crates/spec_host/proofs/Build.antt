@@ -58,7 +58,8 @@ module _ (triangles : List Float) (s : Settings) (g : GoodTriangles triangles) (
     shallow = whole .shallow;
   }
 
-  built-good : Good (builtImage triangles s)
+  -- the image that is built is one that the writer accepts
+  pub built-good : Good (builtImage triangles s)
   unfolding imageOver
   built-good = record { triangles = g; settings = h; tree = t; listing = built-listing }
 

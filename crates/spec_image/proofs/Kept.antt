@@ -65,7 +65,8 @@ module _ (x : Image) (g : Good x) (fit : AllFit binary32 (x .triangles)) where
       each-taken (Plain binary32) nan (6 * x .nodes) (x .boxes) (boxesOf (boxAt (x .triangles)) t) (l .boxes-are) long
       (boxes-plain binary32 (boxAt (x .triangles)) t (l .filled) (subst (Each (λ (k : ℕ). PlainBox binary32 (boxAt (x .triangles) k))) (l .order-is) plains)) i h
 
-  good-storable : Storable version1 x
+  -- what the writer accepts can be stored without loss
+  pub good-storable : Storable version1 x
   good-storable =
       let count = good-count x g in
       let few = g .triangles .few in

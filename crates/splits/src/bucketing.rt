@@ -10,6 +10,7 @@ ghost use Rattle.splits.specs.Values as Costs;
 use crate::buckets::Buckets;
 use crate::table::box_at;
 use crate::table::centre_on;
+use shapes::box3::Box3;
 use shapes::box3::offset_on;
 use shapes::vec3::Axis;
 
@@ -17,9 +18,9 @@ use shapes::vec3::Axis;
 fn bucket_for(offset: f32) -> usize
     ensures { λ r. ⌜ r ≡ Area.bucketFor binary32 offset ⌝ }
 {
-    let x = 12.0 * offset;
-    if x >= 11.0 {
-        return 11;
+    let x = Buckets::COUNT_F32 * offset;
+    if x >= Buckets::LAST_F32 {
+        return Buckets::LAST;
     }
     if x >= 0.0 {
         return std::num::truncating_f32_to_u64(x) as usize;
@@ -46,8 +47,9 @@ pub fn centre_span(bounds: &[f32], part: &[u32], axis: Axis) -> Span
     requires { ⌜ Splits.AllInTable (now bounds) (now part) ⌝ }
     ensures { λ r. ⌜ Area.EndsOf (Shapes.asAxis axis) (Area.centreBounds binary32 (Splits.boxesIn (now (bounds .entry)) (now (part .entry)))) (r .lo) (r .hi) ⌝ }
 {
-    let mut lo = 3.4028235e38;
-    let mut hi = -3.4028235e38;
+    let none = Box3::empty();
+    let mut lo = none.min.x;
+    let mut hi = none.max.x;
     let mut i = 0;
     while i < part.len() {
         let centre = centre_on(bounds, part[i], axis);

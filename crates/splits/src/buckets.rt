@@ -53,6 +53,16 @@ impl Bucket {
 impl Buckets {
     pub const COUNT: usize = 12;
 
+    // The last bucket; behind each bucket before it lies a cut.
+    pub const LAST: usize = Buckets::COUNT - 1;
+
+    pub const CUTS: usize = Buckets::COUNT - 1;
+
+    // The count and the last as floats: an offset is scaled by the one and cut at the other.
+    pub const COUNT_F32: f32 = 12.0;
+
+    pub const LAST_F32: f32 = 11.0;
+
     // Twelve empty buckets.
     pub fn empty() -> Buckets
         ensures { λ r. ⌜ Values.asBuckets r ≡ Spec.emptyBuckets binary32 ⌝ }

@@ -42,7 +42,7 @@ fn right_sides(buckets: Buckets) -> Buckets
 {
     let mut sides = Buckets::empty();
     let mut right = Bucket::empty();
-    let mut i = 11;
+    let mut i = Buckets::LAST;
     while i > 0 {
         right = right.merged(buckets.each[i]);
         i -= 1;
@@ -53,16 +53,16 @@ fn right_sides(buckets: Buckets) -> Buckets
 
 // The cost of each of the 11 cuts. The cut after bucket i has the buckets up to i on its left, merged going up, and the others on its right.
 // The source merges all twelve anew for each cut. Plain boxes give the same sides either way.
-pub fn costs_of(buckets: Buckets, parent: Box3) -> [f32; 11]
+pub fn costs_of(buckets: Buckets, parent: Box3) -> [f32; Buckets::CUTS]
     requires { ⌜ Spec.AreSmall binary32 (Values.asBuckets buckets) ⌝ }
     requires { ⌜ Spec.ArePlain binary32 (Values.asBuckets buckets) ⌝ }
     ensures { λ r. ⌜ r ≡ Area.costs binary32 (Shapes.asBox parent) (Values.asBuckets buckets) ⌝ }
 {
     let rights = right_sides(buckets);
-    let mut costs = [0.0; 11];
+    let mut costs = [0.0; Buckets::CUTS];
     let mut left = Bucket::empty();
     let mut i = 0;
-    while i < 11 {
+    while i < Buckets::CUTS {
         left = left.merged(buckets.each[i]);
         costs[i] = cost_of(parent, left, rights.each[i]);
         i += 1;
@@ -108,12 +108,12 @@ impl Cheapest {
 }
 
 // The first smallest of the costs.
-pub fn cheapest_of(costs: [f32; 11]) -> Cheapest
+pub fn cheapest_of(costs: [f32; Buckets::CUTS]) -> Cheapest
     ensures { λ r. ⌜ Values.asCheapest r ≡ Area.cheapestOf costs ⌝ }
 {
     let mut best = Cheapest::none_yet();
     let mut i = 0;
-    while i < 11 {
+    while i < Buckets::CUTS {
         best = best.with_cost(costs[i]);
         i += 1;
     }

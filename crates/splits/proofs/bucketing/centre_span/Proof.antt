@@ -1,14 +1,15 @@
 -- `splits::bucketing::centre_span` meets its contract.
 -- The invariant: from the two ends so far, the centres that remain give the ends of the whole slice.
-use mathlib.Core.Path.{_≡_, refl, ap, _∙_}
+use mathlib.Core.Path.{_≡_, ap, _∙_}
 use mathlib.Core.List.{foldl}
 use Prim.Native.Nat.{_-_}
 use native.Mathlib.Omega.{arith}
 use borrow.Author.Needs.{needs}
 use lib.ListN.{length, drop}
-use lib.Ieee.{binary32, ofBits, neg}
+use lib.Ieee.{binary32}
 use Rattle.spec_numbers.specs.Values as Values
 use Rattle.spec_numbers.specs.Hold.{smaller, larger}
+use Rattle.spec_shapes.specs.Boxes.{Box, empty}
 use Rattle.shapes.specs.Values.{asAxis}
 use Rattle.spec_splits.specs.Splits.{boxIn, boxesIn}
 use Rattle.spec_splits.proofs.Area.{lowerEnd, upperEnd, lower-end, upper-end}
@@ -24,9 +25,15 @@ Inv-loop bounds part axis lo₀ hi₀ i₀ lo hi i =
 abbrev μ-loop : tie.MeasureT-loop
 μ-loop bounds part axis lo₀ hi₀ i₀ lo hi i = length part - i
 
+empty-requires : tie.Need-empty-requires Inv-loop μ-loop
+empty-requires c κs = search needs
+
 loop-holds : tie.Need-loop-holds Inv-loop μ-loop
-unfolding ofBits neg
-loop-holds c = (refl, refl)
+unfolding empty
+loop-holds c =
+    let lo : c .empty .result .min .x ≡ Values.largest binary32 = ap (λ (b : Box). b .min .x) (c .empty .ensures) in
+    let hi : c .empty .result .max .x ≡ Values.least binary32 = ap (λ (b : Box). b .max .x) (c .empty .ensures) in
+    (rw lo, rw hi)
 
 mul-centre-on : tie.Need-mul-centre-on Inv-loop μ-loop
 mul-centre-on c = search needs
@@ -35,7 +42,7 @@ shared-slice-read-centre-on : tie.Need-shared-slice-read-centre-on Inv-loop μ-l
 shared-slice-read-centre-on c = search needs
 
 centre-on-requires : tie.Need-centre-on-requires Inv-loop μ-loop
-centre-on-requires c κs = c .before .before .before .before .before .pre (c .before .before .loop .i) (c .before .loop-test .taken)
+centre-on-requires c κs = c .before .before .before .before .before .before .pre (c .before .before .loop .i) (c .before .loop-test .taken)
 
 min2-requires : tie.Need-min2-requires Inv-loop μ-loop
 min2-requires c κs = search needs
@@ -52,7 +59,7 @@ loop-less c = omega arith
 loop-again : tie.Need-loop-again Inv-loop μ-loop
 unfolding lowerEnd upperEnd
 loop-again c =
-    let args = c .before .before .before .before .before .before .before .before .args in
+    let args = c .before .before .before .before .before .before .before .before .before .args in
     let loop = c .before .before .before .before .before .loop in (
       fold-on-named (lowerEnd binary32 (asAxis (args .axis))) (boxIn (args .bounds .now)) (args .part .now) (loop .i) (loop .lo) _ (c .before .min2 .result) (c .before .before .before .before .loop-test .taken) (c .before .min2 .ensures ∙ ap (smaller (loop .lo)) (c .before .before .centre-on .ensures)) (loop .inv .0),
       fold-on-named (upperEnd binary32 (asAxis (args .axis))) (boxIn (args .bounds .now)) (args .part .now) (loop .i) (loop .hi) _ (c .max2 .result) (c .before .before .before .before .loop-test .taken) (c .max2 .ensures ∙ ap (larger (loop .hi)) (c .before .before .centre-on .ensures)) (loop .inv .1),
@@ -60,7 +67,7 @@ loop-again c =
 
 returns : tie.Need-returns Inv-loop μ-loop
 returns c =
-    let args = c .before .before .before .before .args in
+    let args = c .before .before .before .before .before .args in
     let loop = c .before .loop in
     let boxes = boxesIn (args .bounds .now) (args .part .now) in
     record {
@@ -74,6 +81,7 @@ centre-span-spec =
     (tie.spec
     Inv-loop
     μ-loop
+    empty-requires
     loop-holds
     mul-centre-on
     shared-slice-read-centre-on
