@@ -89,14 +89,19 @@ module _ {s : List ℕ} {settings : Settings} {count nodes : ℕ} {t : List Floa
 
   links-are : take (3 * nodes) l′ ≡ held .links
   unfolding imageIn
-  links-are = rw (is .filled .links) (take-over (3 * nodes) (held .links) l (length-many (linksIn version1 s (nodesStart version1 count)) 3 nodes (length-links version1 s (nodesStart version1 count))))
+  links-are =
+      let start : ℕ = nodesStart version1 count in
+      rw (is .filled .links) (take-over (3 * nodes) (held .links) l (length-many (linksIn version1 s start) 3 nodes (length-links version1 s start)))
 
   boxes-are : take (6 * nodes) b′ ≡ held .boxes
   unfolding imageIn
-  boxes-are = rw (is .filled .boxes) (take-over (6 * nodes) (held .boxes) b (length-many (sidesIn version1 s (nodesStart version1 count)) 6 nodes (length-box version1 s (nodesStart version1 count))))
+  boxes-are =
+      let start : ℕ = nodesStart version1 count in
+      rw (is .filled .boxes) (take-over (6 * nodes) (held .boxes) b (length-many (sidesIn version1 s start) 6 nodes (length-box version1 s start)))
 
   -- where the writer accepts what stands at the lists' fronts, it writes the image that was read
-  pub read-then-written : Bytes s → {links : List ℕ} {boxes : List Float} → take (3 * nodes) links ≡ take (3 * nodes) l′ → take (6 * nodes) boxes ≡ take (6 * nodes) b′
+  pub read-then-written : Bytes s → {links : List ℕ} {boxes : List Float}
+      → take (3 * nodes) links ≡ take (3 * nodes) l′ → take (6 * nodes) boxes ≡ take (6 * nodes) b′
       → {out out′ : List ℕ} {n : ℕ} → WrittenIs (imageOf settings (take (9 * count) t′) (take count o′) links boxes nodes) (Written.Bytes n) out out′
       → (n ≡ length s) × (out′ ≡ over 0 s out)
   unfolding imageIn
@@ -112,9 +117,11 @@ module _ {s : List ℕ} {settings : Settings} {count nodes : ℕ} {t : List Floa
         boxes = (f ∙ boxes-are) i;
       } in
       let yes : writeRefusal version1 held (length out) ≡ passes =
-      subst (λ (y : Image). writeRefusal version1 y (length out) ≡ passes) same (write-passes version1 (used x) (length out) (used-good x (good x w)) (room x w)) in
+      subst (λ (y : Image). writeRefusal version1 y (length out) ≡ passes) same
+      (write-passes version1 (used x) (length out) (used-good x (good x w)) (room x w)) in
       let bytes : imageBytes version1 x ≡ s =
-      sym (used-bytes version1 x) ∙ ap (imageBytes version1) same ∙ read-back s ok (roomsIn t o l b) (asSettings settings) count nodes (sym (is .answer)) (length out) yes in (
+      sym (used-bytes version1 x) ∙ ap (imageBytes version1) same
+      ∙ read-back s ok (roomsIn t o l b) (asSettings settings) count nodes (sym (is .answer)) (length out) yes in (
         sized x w ∙ sym (good-long x (good x w)) ∙ ap length bytes,
         bytes-are x w ∙ ap (λ (y : List ℕ). over 0 y out) bytes,
       )

@@ -67,7 +67,8 @@ built-whole f triangles s g h =
 
 -- ---- the call
 -- its answer and its lists are fixed by what it is called with
-pub build-is-unique : (f : Format) (triangles : List Float) (s : Settings) {order links : List ℕ} {boxes : List Float} {a a₂ : Built} {order′ links′ order″ links″ : List ℕ} {boxes′ boxes″ : List Float}
+pub build-is-unique : (f : Format) (triangles : List Float) (s : Settings) {order links : List ℕ} {boxes : List Float}
+    {a a₂ : Built} {order′ links′ order″ links″ : List ℕ} {boxes′ boxes″ : List Float}
     → BuildIs f triangles s order links boxes a order′ links′ boxes′ → BuildIs f triangles s order links boxes a₂ order″ links″ boxes″
     → (a ≡ a₂) × (order′ ≡ order″) × (links′ ≡ links″) × (boxes′ ≡ boxes″)
 build-is-unique f triangles s p q =

@@ -76,7 +76,8 @@ good-passes : (x : Image) → Good x → AllFit binary32 (x .triangles) → chec
 good-passes x g fit = written-checked x (good-storable x g fit) ∙ good-checked (used x) (used-good x g)
 
 -- what the writer accepts passes the check, once it is written
-pub written-passes : (x : Image) (given : ℕ) → AllFit binary32 (x .triangles) → writeRefusal version1 x given ≡ passes → checkVerdict (imageBytes version1 x) ≡ passes
+pub written-passes : (x : Image) (given : ℕ) → AllFit binary32 (x .triangles) → writeRefusal version1 x given ≡ passes
+    → checkVerdict (imageBytes version1 x) ≡ passes
 written-passes x given fit accepts = good-passes x (write-passed version1 x given accepts .0) fit
 
 -- ---- so does an image that the host builds

@@ -95,7 +95,9 @@ good-long x g = length-image version1 x (good-complete x g) ∙ ap (λ (k : ℕ)
 -- what the writer accepts stands, as an image, at the front of the lent bytes
 pub written-front : (x : Image) (out : List ℕ) → writeRefusal version1 x (length out) ≡ passes → take (exactSize version1 x) (bytesAfter version1 x out) ≡ imageBytes version1 x
 unfolding bytesAfter
-written-front x out accepted = rw accepted (take-over (exactSize version1 x) (imageBytes version1 x) out (good-long x (write-passed version1 x (length out) accepted .0)))
+written-front x out accepted =
+    let good = write-passed version1 x (length out) accepted .0 in
+    rw accepted (take-over (exactSize version1 x) (imageBytes version1 x) out (good-long x good))
 
 -- ---- written, then read
 module _ (x : Image) (given : ℕ) (fit : AllFit binary32 (x .triangles)) (accepted : writeRefusal version1 x given ≡ passes) where
@@ -161,7 +163,8 @@ module _ (s : List ℕ) where
 never-held : (number place t n : ℕ) (settings : Settings) → refused number place ≡ holds settings t n → ⊥
 never-held number place t n settings e = let z : _≡_ {A = ℕ} 0 1 = cc in omega arith
 
-held-parts : (b : Bool) (first second : Settings) (t n t′ n′ : ℕ) → cond b (holds first t′ n′) (refused 6 0) ≡ holds second t n → (first ≡ second) × (t′ ≡ t) × (n′ ≡ n)
+held-parts : (b : Bool) (first second : Settings) (t n t′ n′ : ℕ) → cond b (holds first t′ n′) (refused 6 0) ≡ holds second t n
+    → (first ≡ second) × (t′ ≡ t) × (n′ ≡ n)
 held-parts true first second t n t′ n′ e = (cc, cc, cc)
 held-parts false first second t n t′ n′ e = absurd (never-held 6 0 t n second e)
 

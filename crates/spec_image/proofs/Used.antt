@@ -39,4 +39,5 @@ image-used sh x l b e f =
 -- so what stands behind the nodes' links and boxes is never written
 pub used-bytes : (sh : Shape) (x : Image) → imageBytes sh (used x) ≡ imageBytes sh x
 used-bytes sh x =
-    image-used sh x (take (3 * x .nodes) (x .links)) (take (6 * x .nodes) (x .boxes)) (take-take (3 * x .nodes) (3 * x .nodes) (x .links) (le-refl _)) (take-take (6 * x .nodes) (6 * x .nodes) (x .boxes) (le-refl _))
+    image-used sh x (take (3 * x .nodes) (x .links)) (take (6 * x .nodes) (x .boxes))
+    (take-take (3 * x .nodes) (3 * x .nodes) (x .links) (le-refl _)) (take-take (6 * x .nodes) (6 * x .nodes) (x .boxes) (le-refl _))
