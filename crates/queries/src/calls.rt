@@ -1,5 +1,4 @@
-// The public queries: a list of points, a tree that need not be one, and a search distance become six words a point,
-// or a refusal that changes nothing.
+// The public queries, over any lists at all: six words a point, or a refusal that changes nothing.
 ghost use mathlib.Core.Path.{_≡_};
 ghost use Prim.Native.Nat.{_*_, _≤_};
 ghost use lib.ListN.{length};

@@ -1,4 +1,4 @@
-// A box, by its lowest and its highest corner. The source's queries and the sure query measure a box differently, so both measures stand here.
+// A box, by its lowest and its highest corner. The source query and the sure query measure a box differently, so both measures stand here.
 ghost use mathlib.Core.Path.{_≡_};
 ghost use lib.Ieee.{binary32};
 ghost use Rattle.spec_shapes.specs.Boxes as Boxes;

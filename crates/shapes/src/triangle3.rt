@@ -23,8 +23,8 @@ pub enum Part {
     EdgeBC,
 }
 
-// What the tests for the closest part compare: the dot products of the edges ab and ac with the point as seen from a (d1, d2), from b (d3, d4)
-// and from c (d5, d6).
+// What the tests for the closest part compare: the dot products of the edges ab and ac with the point as seen from a (d1, d2),
+// from b (d3, d4) and from c (d5, d6).
 pub struct Dots {
     pub d1: f32,
     pub d2: f32,

@@ -1,7 +1,6 @@
 // Builds an image for each case on standard input, as a C host would, and prints the status, in hex, and the lent bytes.
-// A case is the strategy, the leaf minimum, the maximum depth and the number of lent bytes, two bytes each, the length of the triangles' bytes,
-// in four,
-// and these. tests/records/generate.rs made the cases and, by a reading of its own, `stdout`.
+// A case is the strategy, the leaf minimum, the maximum depth and the number of lent bytes, two bytes each, then the length of the triangles' bytes,
+// in four bytes, and the triangles' bytes. tests/records/generate.rs made the cases and, by a reading of its own, `stdout`.
 ghost use Prim.Native.Nat.{_+_, _≤_};
 ghost use lib.ListN.{length};
 

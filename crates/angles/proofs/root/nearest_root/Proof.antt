@@ -1,5 +1,5 @@
--- `angles::root::nearest_root` meets its contract: a guess that passes both tests is the nearest (`tested-nearer`), and the test after the
--- halving is that of `nearer`.
+-- `angles::root::nearest_root` meets its contract: a guess that passes both tests is the nearest (`tested-nearer`),
+-- and the test after the halving is that of `nearer`.
 use mathlib.Core.Path.{_≡_, sym}
 use Prim.Native.Nat.{ℕ, _+_, _-_, _*_, _^_, _≤_, _<_}
 use native.Mathlib.Nat.{lt-of-le-of-lt}

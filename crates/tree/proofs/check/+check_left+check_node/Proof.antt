@@ -1,7 +1,6 @@
--- `tree::check::check_left` and `tree::check::check_node` meet their contracts.
--- `check_node` calls itself and `check_left` with one level less, and `check_left` calls `check_node` with the same levels,
--- so the measures are 2d and
--- 2d + 1. Each answer applies a law of `spec_tree` to one step of the check.
+-- `tree::check::check_left` and `tree::check::check_node` meet their contracts. `check_node` calls itself and `check_left` with one level less,
+-- and `check_left` calls `check_node` with the same levels, so the measures are 2d and 2d + 1.
+-- Each answer applies a law of `spec_tree` to one step of the check.
 use mathlib.Core.Path.{sym, ap, _∙_}
 use borrow.Author.Tests.{not-true, not-false}
 use Rattle.spec_tree.proofs.Steps.{node-none, node-leaf, node-neither, node-apart, node-goes-on}
