@@ -25,7 +25,7 @@ fn number_in(bytes: &[u8], i: usize) -> f32
     from_bits(u32_at(bytes, 4 * i))
 }
 
-// The index of the first number that is no coordinate, or the number of numbers.
+// The index of the first number that is no coordinate, or how many numbers there are.
 fn first_bad_in(bytes: &[u8]) -> usize
     ensures { λ r. ⌜ r ≡ firstBad (numbersOf (now (bytes .entry))) ⌝ }
 {

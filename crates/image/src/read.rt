@@ -41,7 +41,7 @@ fn has_room(rooms: Rooms, triangles: usize, nodes: usize) -> bool
         & (6 * nodes <= rooms.boxes)
 }
 
-// Leaves the lists of the image at the front of the lent ones and answers its settings and counts.
+// Leaves the lists of the image at the front of the lent ones and answers its settings and counts. Entries behind them stay as they were.
 // 10 refuses a wrong layout, then 6 a list with too little room. Nothing else is tested: the tree check is a call of its own.
 // A refusal changes nothing.
 pub fn read_image(

@@ -30,7 +30,7 @@ fn hit_at(point: Vec3, p: Vec3, t: u32) -> Hit
     }
 }
 
-// Measures one triangle and keeps it where the query does: the sure query's or the source's.
+// Measures one triangle and keeps its point where the query keeps it. `sure` says which of the two queries.
 fn measure(
     triangles: &[f32],
     t: u32,
