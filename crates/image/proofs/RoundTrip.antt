@@ -1,4 +1,4 @@
--- What was written reads back equal, and what was read is written back byte for byte, over the records of the two public calls. Assumes nothing.
+-- What was written reads back equal, and what was read is written back byte for byte, over the records of the two public calls.
 use mathlib.Core.Path.{_≡_, refl, sym, ap, subst, _∙_}
 use mathlib.Core.Bool.{true}
 use mathlib.Core.List.{List}
