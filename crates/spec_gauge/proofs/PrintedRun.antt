@@ -1,4 +1,4 @@
--- The scope document's printed run: of the bytes of its four records `gauge` prints its three lines. Assumes nothing.
+-- The scope document's printed run: of the bytes of its four records `gauge` prints its three lines.
 use mathlib.Core.Path.{_≡_, refl, sym, ap, _∙_}
 use mathlib.Core.Bool.{false}
 use mathlib.Core.List.{List, [], _∷_, _++_}
