@@ -12,7 +12,7 @@ use host_ask::calls::check_image;
 use host_ask::calls::source_points;
 use host_ask::calls::sure_points;
 use host_ask::calls::winding_points;
-use host_build::build::build_image;
+use host_build::from_bytes::build_image;
 use host_build::most::image_most;
 
 // The maximum size of an image of that many triangles, or 0 where no such list passes.

@@ -19,7 +19,7 @@ fn put_lent(
     image: &mut [u8],
     triangles: &[u8],
 ) {
-    let told = host_build::build::build_image(
+    let told = host_build::from_bytes::build_image(
         strategy,
         leaf_minimum,
         maximum_depth,

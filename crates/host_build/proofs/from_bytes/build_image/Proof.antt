@@ -1,4 +1,4 @@
--- `host_build::build::build_image` meets its contract: the length refuses the bytes, or they hold a list.
+-- `host_build::from_bytes::build_image` meets its contract: the length refuses the bytes, or they hold a list.
 use mathlib.Core.Path.{refl, sym, ap, _∙_}
 use native.Mathlib.Omega.{arith}
 use lib.Seq.{length-take-le}
@@ -6,8 +6,8 @@ use Rattle.lists.specs.Values.{asVerdict}
 use Rattle.spec_host.proofs.Build.{put-nothing, put-as, bytes-whole, numbers-read}
 use Rattle.host_bytes.proofs.Length.{length-refused, length-told, length-passed}
 use borrow.Author.Needs.{needs}
-use Rattle.host_build.proofs.build.build_image.Statement.{statement}
-use Rattle.host_build.proofs.build.build_image.Tie as tie
+use Rattle.host_build.proofs.from_bytes.build_image.Statement.{statement}
+use Rattle.host_build.proofs.from_bytes.build_image.Tie as tie
 
 length-refusal-requires : tie.Need-length-refusal-requires
 length-refusal-requires c κs = search needs

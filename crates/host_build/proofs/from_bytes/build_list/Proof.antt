@@ -1,4 +1,4 @@
--- `host_build::build::build_list` meets its contract: the lists that are lent to the build have room, so it remains to write what it made.
+-- `host_build::from_bytes::build_list` meets its contract: the lists that are lent to the build have room, so it remains to write what it made.
 use denote.Ref.{now}
 use mathlib.Core.Path.{_≡_, _∙_, sym}
 use mathlib.Core.List.{List}
@@ -14,8 +14,8 @@ use Rattle.build.specs.declared.calls.Built.{Built}
 use Rattle.build.specs.Values.{asBuilt}
 use Rattle.spec_host.proofs.Build.{put-nothing, put-as, build-refused, build-told, listed-few, listed-puttable, listed-bytes, listed-size, listed-refusal}
 use borrow.Author.Needs.{needs}
-use Rattle.host_build.proofs.build.build_list.Statement.{statement}
-use Rattle.host_build.proofs.build.build_list.Tie as tie
+use Rattle.host_build.proofs.from_bytes.build_list.Statement.{statement}
+use Rattle.host_build.proofs.from_bytes.build_list.Tie as tie
 
 -- the lists that are lent. Their lengths are had by the law of `replicate`: computed, each costs by its length
 abbrev lent-order : List ℕ
