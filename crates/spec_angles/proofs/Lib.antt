@@ -16,3 +16,4 @@ pub mod Windings
 pub mod Length
 pub mod Directions
 pub mod Finite
+pub mod Worked

@@ -13,3 +13,4 @@ pub mod Parts
 pub mod Numbering
 pub mod Tabling
 pub mod Trying
+pub mod Axes

@@ -2,3 +2,4 @@ pub mod Verdicts
 pub mod Coordinates
 pub mod Passed
 pub mod Reading
+pub mod Worked

@@ -15,6 +15,12 @@ pub found-printed : foundLine 0 (record { triangle = 0; x = 1065353216; y = 0; z
 unfolding digit digits widthIn decimal hex spacedDecimal spacedHex named trianglesWord nodesWord depthWord foundWord nothingWord refusedWord countsLine foundLine nothingLine refusedLine
 found-printed = refl
 
+-- "12 found 7 00000001 0000000a 000000ff 12345678": each number in its place
+pub places-printed : foundLine 12 (record { triangle = 7; x = 1; y = 10; z = 255; squared = 305419896 })
+    ≡ 49 ∷ 50 ∷ 32 ∷ 102 ∷ 111 ∷ 117 ∷ 110 ∷ 100 ∷ 32 ∷ 55 ∷ 32 ∷ 48 ∷ 48 ∷ 48 ∷ 48 ∷ 48 ∷ 48 ∷ 48 ∷ 49 ∷ 32 ∷ 48 ∷ 48 ∷ 48 ∷ 48 ∷ 48 ∷ 48 ∷ 48 ∷ 97 ∷ 32 ∷ 48 ∷ 48 ∷ 48 ∷ 48 ∷ 48 ∷ 48 ∷ 102 ∷ 102 ∷ 32 ∷ 49 ∷ 50 ∷ 51 ∷ 52 ∷ 53 ∷ 54 ∷ 55 ∷ 56 ∷ 10 ∷ []
+unfolding digit digits widthIn decimal hex spacedDecimal spacedHex named trianglesWord nodesWord depthWord foundWord nothingWord refusedWord countsLine foundLine nothingLine refusedLine
+places-printed = refl
+
 -- the line of a point with nothing: "1 nothing"
 pub nothing-printed : nothingLine 1
     ≡ 49 ∷ 32 ∷ 110 ∷ 111 ∷ 116 ∷ 104 ∷ 105 ∷ 110 ∷ 103 ∷ 10 ∷ []

@@ -7,3 +7,4 @@ pub mod Walked
 pub mod Steps
 pub mod Calls
 pub mod Kept
+pub mod Worked

@@ -2,3 +2,4 @@ pub mod OnAxes
 pub mod Bounds
 pub mod Held
 pub mod Plain
+pub mod Worked

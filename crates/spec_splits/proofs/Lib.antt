@@ -5,3 +5,4 @@ pub mod Buckets
 pub mod Sweeps
 pub mod Area
 pub mod Inside
+pub mod Worked

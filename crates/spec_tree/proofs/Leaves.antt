@@ -6,13 +6,13 @@ use mathlib.Core.List.{List, [], _∷_, _++_, map, flatten, append-assoc, append
 use Prim.Native.Nat.{ℕ, zero, suc, _+_, _-_, _≤_, _<_}
 use native.Mathlib.Omega.{arith}
 use native.Mathlib.Decide.{decLt}
-use borrow.Author.Tests.{eqb-true, eq-eqb, not-true}
+use borrow.Author.Tests.{eqb-true, eq-eqb, not-true, lt-ltb, le-ltb}
 use lib.Dec.{eqb}
 use lib.ListN.{length, getD, length-append, length-map}
 use lib.Ieee.{Float}
 use Rattle.spec_numbers.proofs.Tests.{both-passed}
 use Rattle.spec_lists.specs.Reading.{boxAt, triangleCount}
-use Rattle.spec_lists.specs.Refusals.{Verdict, passes, refused}
+use Rattle.spec_lists.specs.Refusals.{Verdict, passes, refused, firstRefusal, trianglesRefusal}
 use Rattle.spec_lists.proofs.Verdicts.{all-pass, so}
 use Rattle.spec_tables.specs.Tables as Tables
 use Rattle.spec_shapes.specs.Boxes.{Box}
@@ -21,7 +21,7 @@ use Rattle.spec_tree.specs.Order.{upTo, permutes, occurs, allBelow, dist
 use Rattle.spec_tree.specs.Accepted.{Listing, accepted}
 use Rattle.spec_tree.specs.Hangs.{Sound}
 use Rattle.spec_tree.specs.Refusals.{treeRefusal, checkRefusal}
-use Rattle.spec_tree.specs.Leaves.{leaves, Leaf, leavesFrom, partOf, oneIf, partsWith, leafNodes, leafAt, leafCount, LeafFound, nothing, found, notSought, kth, leafFrom, NodesThere, leafAnswer, EntryFound, noEntry, notAsked, entryAt, entryAnswer, counted, notCounted, countedIf, countAnswer}
+use Rattle.spec_tree.specs.Leaves.{leaves, Leaf, leavesFrom, partOf, oneIf, partsWith, leafNodes, leafAt, leafCount, LeafFound, nothing, found, notSought, kth, leafFrom, NodesThere, leafAnswer, EntryFound, noEntry, triangle, notAsked, entryAt, entryAnswer, counted, notCounted, countedIf, countAnswer}
 use Rattle.spec_tree.proofs.Standing.{Stands, stands-first, stands-second, stands-part}
 use Rattle.spec_tree.proofs.Nodes.{NodeLinks, links-read, box-read}
 use Rattle.spec_tree.proofs.Trees.{root-last, count-least}
@@ -230,6 +230,15 @@ module _ (boxAt : ℕ → Box) (n : ℕ) (order links : List ℕ) (boxes : List 
             ∙ getD-map (joined boxAt) (leaves t) k [] (boxAt 0) (omega (arith, count-read));
       }
 
+-- ---- a leaf's triangles: each in its place, and nothing behind the last
+pub entry-there : (part : List ℕ) (i : ℕ) → i < length part → entryAt part i ≡ triangle (getD part i 0)
+unfolding entryAt
+entry-there part i h = rw (lt-ltb i (length part) h)
+
+pub entry-past : (part : List ℕ) (i : ℕ) → length part ≤ i → entryAt part i ≡ noEntry
+unfolding entryAt
+entry-past part i h = rw (le-ltb i (length part) h)
+
 -- ---- what an accepted tree's leaves are, in one place
 pub record LeavesAre (boxAt : ℕ → Box) (n : ℕ) (order links : List ℕ) (boxes : List Float) (nodes : ℕ) (t : Tree) : Type 0 where
   pub read : map (leafAt links boxes) (leafNodes links 0 nodes) ≡ leavesFrom boxAt 0 0 t
@@ -263,6 +272,12 @@ accepted-leaves boxAt n order links boxes nodes h =
         none = leaf-none boxAt n order links boxes nodes t s;
       },
     )
+
+-- what the tree check says yes to passes, so that not all is refused
+pub check-passes : (triangles : List Float) (order links : List ℕ) (boxes : List Float) (nodes : ℕ) → trianglesRefusal triangles ≡ passes
+    → accepted (boxAt triangles) (triangleCount triangles) order links boxes nodes ≡ true → checkRefusal triangles order links boxes nodes ≡ passes
+unfolding checkRefusal treeRefusal firstRefusal
+check-passes triangles order links boxes nodes t a = rw (t, a)
 
 -- ---- lists that pass
 module _ (triangles : List Float) (order links : List ℕ) (boxes : List Float) (nodes : ℕ) (p : checkRefusal triangles order links boxes nodes ≡ passes) where

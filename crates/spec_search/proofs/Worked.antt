@@ -1,0 +1,88 @@
+-- The two queries at a few points over the scope's T0 and T1, worked out: the source's right child first and its strict comparison, which boxes it enters, the root that it always looks
+-- at; how far the limit reaches; and how many triangles the sure walk measures. The laws say that the walk is the scan; these say which walk it is.
+use mathlib.Core.Path.{_≡_, refl}
+use mathlib.Core.Bool.{false}
+use mathlib.Core.List.{List, [], _∷_}
+use Prim.Native.Nat.{ℕ}
+use lib.IntN.{ℤ, pos, negsuc}
+use lib.Ieee.{Float, Format, binary32, binary64, fin, add, sub, mul, div, lt, le, eq, round, ofInt}
+use Rattle.spec_shapes.specs.Points.{Point, minus, plus, scale, dot, smallest, largest, isUnder, isFinite, plusZero, squaredDistance}
+use Rattle.spec_shapes.specs.Boxes.{union, withExcess, withOutside, boxSquared, containsPoint, heldIn, heldSquared}
+use Rattle.spec_shapes.specs.Triangles.{boxOf, dots, crossed, part, along, facePoint, pointOn, closestPoint, finiteOr, heldPoint, measured}
+use Rattle.spec_lists.specs.Reading.{numberAt, pointAt, triangleAt, boxAt, triangleCount}
+use Rattle.spec_tree.specs.Trees.{Tree, leaf, branch, numbers, nodeCount, joinedTo, joined, boxOver, rootFrom, linksFrom, boxesOf}
+use Rattle.spec_tree.specs.Order.{upTo}
+use Rattle.spec_search.specs.Answers.{Hit, Answer, nothing, found}
+use Rattle.spec_search.specs.Walk.{Sought, tookAll, nodeWalk, pairWalk, rootWalk, keptBy}
+use Rattle.spec_search.specs.Sure.{limitOf, counts, offered, isPassed, hit, tookSure, scan, nodeSquared, passedSure, rightNearer, sureWalk}
+use Rattle.spec_search.specs.Source.{sourceHit, strictly, tookSource, enters, sourceWalk}
+use Rattle.spec_search.specs.Calls.{sureAnswer, sourceAnswer}
+
+module _ (f : Format) where
+  abbrev n : ℤ → Float
+  n k = ofInt f k
+
+  abbrev onX : Float → Point
+  onX x = record { x = x; y = n (pos 0); z = n (pos 0) }
+
+  -- T0 (0,0,0) (1,0,0) (0,1,0), and T1 (10,0,0) (11,0,0) (10,1,0) behind it
+  abbrev t0t1 : List Float
+  t0t1 =
+      n (pos 0) ∷ n (pos 0) ∷ n (pos 0) ∷ n (pos 1) ∷ n (pos 0) ∷ n (pos 0) ∷ n (pos 0) ∷ n (pos 1) ∷ n (pos 0)
+      ∷ n (pos 10) ∷ n (pos 0) ∷ n (pos 0) ∷ n (pos 11) ∷ n (pos 0) ∷ n (pos 0) ∷ n (pos 10) ∷ n (pos 1) ∷ n (pos 0) ∷ []
+
+  abbrev t0 : List Float
+  t0 = n (pos 0) ∷ n (pos 0) ∷ n (pos 0) ∷ n (pos 1) ∷ n (pos 0) ∷ n (pos 0) ∷ n (pos 0) ∷ n (pos 1) ∷ n (pos 0) ∷ []
+
+  -- a leaf each
+  abbrev two : Tree
+  two = branch (leaf (0 ∷ [])) (leaf (1 ∷ []))
+
+  abbrev one : Tree
+  one = leaf (0 ∷ [])
+
+  abbrev sourceIn : List Float → Tree → Float → Float → Answer
+  sourceIn triangles t x distance = sourceAnswer f triangles (numbers t) (linksFrom 0 0 t) (boxesOf (boxAt triangles) t) (nodeCount t) distance (onX x)
+
+  abbrev sureIn : List Float → Float → Float → Answer
+  sureIn triangles x distance = sureAnswer f triangles distance (onX x)
+
+  abbrev walkIn : Float → Float → Sought Answer
+  walkIn x distance = sureWalk f t0t1 (numbers two) (linksFrom 0 0 two) (boxesOf (boxAt t0t1) two) (nodeCount two) (onX x) (limitOf f distance)
+
+  abbrev foundAt : ℕ → ℤ → Float → Answer
+  foundAt triangle x squared = found (record { point = onX (n x); squared = squared; triangle = triangle })
+
+  -- 5.5 is 11 / 2, 4.5 is 9 / 2, and 20.25, which is 4.5 squared, is 81 / 4
+  abbrev between : Float
+  between = fin false 11 (negsuc 0)
+
+  abbrev reach : Float
+  reach = fin false 9 (negsuc 0)
+
+  abbrev level : Float
+  level = fin false 81 (negsuc 1)
+
+-- at 5.5 both triangles are level: the source has the right one, which it meets first, and at 4.5, which is as far as they are, none is entered; of T0 alone, (100,0,0) finds what is beyond the limit
+pub source-worked : (f : Format)
+    → (sourceIn f (t0t1 f) (two f) (between f) (n f (pos 5)) ∷ sourceIn f (t0t1 f) (two f) (between f) (reach f) ∷ sourceIn f (t0 f) (one f) (n f (pos 100)) (n f (pos 1)) ∷ [])
+    ≡ (foundAt f 1 (pos 10) (level f) ∷ nothing ∷ foundAt f 0 (pos 1) (n f (pos 9801)) ∷ [])
+unfolding add sub mul div lt le eq round ofInt minus plus scale dot smallest largest isUnder isFinite plusZero squaredDistance union withExcess withOutside boxSquared containsPoint heldIn heldSquared boxOf dots crossed part along facePoint pointOn closestPoint finiteOr heldPoint measured numberAt pointAt triangleAt boxAt triangleCount numbers nodeCount joinedTo joined boxOver rootFrom linksFrom boxesOf upTo tookAll nodeWalk pairWalk rootWalk keptBy limitOf counts offered isPassed hit tookSure scan nodeSquared passedSure rightNearer sureWalk sourceHit strictly tookSource enters sourceWalk sureAnswer sourceAnswer
+source-worked binary32 = refl
+source-worked binary64 = refl
+
+-- the sure query has the lower number, and nothing at the limit or beyond it
+pub sure-worked : (f : Format)
+    → (sureIn f (t0t1 f) (between f) (n f (pos 5)) ∷ sureIn f (t0t1 f) (between f) (reach f) ∷ sureIn f (t0 f) (n f (pos 100)) (n f (pos 1)) ∷ [])
+    ≡ (foundAt f 0 (pos 1) (level f) ∷ nothing ∷ nothing ∷ [])
+unfolding add sub mul div lt le eq round ofInt minus plus scale dot smallest largest isUnder isFinite plusZero squaredDistance union withExcess withOutside boxSquared containsPoint heldIn heldSquared boxOf dots crossed part along facePoint pointOn closestPoint finiteOr heldPoint measured numberAt pointAt triangleAt boxAt triangleCount numbers nodeCount joinedTo joined boxOver rootFrom linksFrom boxesOf upTo tookAll nodeWalk pairWalk rootWalk keptBy limitOf counts offered isPassed hit tookSure scan nodeSquared passedSure rightNearer sureWalk sourceHit strictly tookSource enters sourceWalk sureAnswer sourceAnswer
+sure-worked binary32 = refl
+sure-worked binary64 = refl
+
+-- a level box is looked into, the nearer box goes first, and the farther one is passed over
+pub walk-worked : (f : Format)
+    → (walkIn f (between f) (n f (pos 5)) ∷ walkIn f (n f (pos 9)) (n f (pos 50)) ∷ [])
+    ≡ (record { best = foundAt f 0 (pos 1) (level f); measured = 2 } ∷ record { best = foundAt f 1 (pos 10) (n f (pos 1)); measured = 1 } ∷ [])
+unfolding add sub mul div lt le eq round ofInt minus plus scale dot smallest largest isUnder isFinite plusZero squaredDistance union withExcess withOutside boxSquared containsPoint heldIn heldSquared boxOf dots crossed part along facePoint pointOn closestPoint finiteOr heldPoint measured numberAt pointAt triangleAt boxAt triangleCount numbers nodeCount joinedTo joined boxOver rootFrom linksFrom boxesOf upTo tookAll nodeWalk pairWalk rootWalk keptBy limitOf counts offered isPassed hit tookSure scan nodeSquared passedSure rightNearer sureWalk sourceHit strictly tookSource enters sourceWalk sureAnswer sourceAnswer
+walk-worked binary32 = refl
+walk-worked binary64 = refl
