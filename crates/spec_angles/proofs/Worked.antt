@@ -1,4 +1,5 @@
--- Angles worked out: the numerator and the denominator (1,1), (1,-1), (1,0) and (2,-1), and the solid angle of an octant from its corner, which is a quarter turn.
+-- Angles worked out: the numerator and the denominator (1,1), (1,-1), (1,0) and (2,-1), and the solid angle of an octant from its corner, which is a
+-- quarter turn.
 use mathlib.Core.Path.{_≡_, refl}
 use mathlib.Core.Bool.{false, true}
 use mathlib.Core.List.{List, [], _∷_}
@@ -31,6 +32,7 @@ angles-worked binary32 = refl
 angles-worked binary64 = refl
 
 pub octant-worked : (f : Format) → solidAngle f (octant f) (point f (pos 1) (pos 1) (pos 1)) ≡ mul f (round f false eighthTurn (2 ^ 30)) (ofInt f (pos 2))
-unfolding add sub mul div lt le eq round ofInt minus dividedBy dot cross wholeRoot rootBy rootIn root rootOrNan entry arcs arc ratio mirrored angle arcTangent angleOrNan norm seenFrom numerator denominator unitAngle originAngle solidAngle
+unfolding add sub mul div lt le eq round ofInt minus dividedBy dot cross wholeRoot rootBy rootIn root rootOrNan entry arcs arc ratio mirrored angle
+    arcTangent angleOrNan norm seenFrom numerator denominator unitAngle originAngle solidAngle
 octant-worked binary32 = refl
 octant-worked binary64 = refl

@@ -8,7 +8,8 @@ use lib.Ieee.{Float, nan, fin, le, neg}
 use Rattle.spec_shapes.specs.Points.{Point}
 use Rattle.spec_shapes.specs.Triangles.{Triangle}
 use Rattle.spec_lists.specs.Reading.{numberAt, pointAt, triangleAt, triangleCount}
-use Rattle.spec_lists.specs.Refusals.{refused, firstRefusal, isCoordinate, isDistance, firstBad, raggedRefusal, noneRefusal, tooManyRefusal, coordinateRefusal, trianglesRefusal, areSettings, settingsRefusal, roomRefusal, pointsRefusal, distanceRefusal}
+use Rattle.spec_lists.specs.Refusals.{refused, firstRefusal, isCoordinate, isDistance, firstBad, coordinateRefusal, roomRefusal, distanceRefusal}
+use Rattle.spec_lists.specs.Refusals.{raggedRefusal, noneRefusal, tooManyRefusal, trianglesRefusal, areSettings, settingsRefusal, pointsRefusal}
 
 -- 2 n + 1, which is no zero
 abbrev odd : ℕ → Float
@@ -23,7 +24,8 @@ pub refusals-worked :
     ∷ settingsRefusal (record { strategy = 3; leafMinimum = 1; maximumDepth = 40 }) ∷ roomRefusal 1 2
     ∷ pointsRefusal (odd 0 ∷ odd 1 ∷ odd 2 ∷ odd 3 ∷ []) ∷ pointsRefusal (odd 0 ∷ nan ∷ odd 2 ∷ []) ∷ distanceRefusal nan ∷ [])
     ≡ (refused 1 0 ∷ refused 2 0 ∷ refused 4 4 ∷ refused 5 0 ∷ refused 6 0 ∷ refused 8 4 ∷ refused 8 1 ∷ refused 9 0 ∷ [])
-unfolding le triangleCount firstRefusal isCoordinate isDistance firstBad raggedRefusal noneRefusal tooManyRefusal coordinateRefusal trianglesRefusal areSettings settingsRefusal roomRefusal pointsRefusal distanceRefusal
+unfolding le triangleCount firstRefusal isCoordinate isDistance firstBad raggedRefusal noneRefusal tooManyRefusal coordinateRefusal trianglesRefusal
+    areSettings settingsRefusal roomRefusal pointsRefusal distanceRefusal
 refusals-worked = refl
 
 abbrev point : ℕ → ℕ → ℕ → Point

@@ -1,5 +1,6 @@
--- The two queries at a few points over the scope's T0 and T1, worked out: the source's right child first and its strict comparison, which boxes it enters, the root that it always looks
--- at; how far the limit reaches; and how many triangles the sure walk measures. The laws say that the walk is the scan; these say which walk it is.
+-- The two queries at a few points over the scope's T0 and T1, worked out: the source's right child first and its strict comparison, which boxes it
+-- enters, the root that it always looks at; how far the limit reaches; and how many triangles the sure walk measures. The laws say that the walk is
+-- the scan; these say which walk it is.
 use mathlib.Core.Path.{_≡_, refl}
 use mathlib.Core.Bool.{false}
 use mathlib.Core.List.{List, [], _∷_}
@@ -63,11 +64,17 @@ module _ (f : Format) where
   abbrev level : Float
   level = fin false 81 (negsuc 1)
 
--- at 5.5 both triangles are level: the source has the right one, which it meets first, and at 4.5, which is as far as they are, none is entered; of T0 alone, (100,0,0) finds what is beyond the limit
+-- at 5.5 both triangles are level: the source has the right one, which it meets first, and at 4.5, which is as far as they are, none is entered; of
+-- T0 alone, (100,0,0) finds what is beyond the limit
 pub source-worked : (f : Format)
-    → (sourceIn f (t0t1 f) (two f) (between f) (n f (pos 5)) ∷ sourceIn f (t0t1 f) (two f) (between f) (reach f) ∷ sourceIn f (t0 f) (one f) (n f (pos 100)) (n f (pos 1)) ∷ [])
+    → (sourceIn f (t0t1 f) (two f) (between f) (n f (pos 5)) ∷ sourceIn f (t0t1 f) (two f) (between f) (reach f)
+    ∷ sourceIn f (t0 f) (one f) (n f (pos 100)) (n f (pos 1)) ∷ [])
     ≡ (foundAt f 1 (pos 10) (level f) ∷ nothing ∷ foundAt f 0 (pos 1) (n f (pos 9801)) ∷ [])
-unfolding add sub mul div lt le eq round ofInt minus plus scale dot smallest largest isUnder isFinite plusZero squaredDistance union withExcess withOutside boxSquared containsPoint heldIn heldSquared boxOf dots crossed part along facePoint pointOn closestPoint finiteOr heldPoint measured numberAt pointAt triangleAt boxAt triangleCount numbers nodeCount joinedTo joined boxOver rootFrom linksFrom boxesOf upTo tookAll nodeWalk pairWalk rootWalk keptBy limitOf counts offered isPassed hit tookSure scan nodeSquared passedSure rightNearer sureWalk sourceHit strictly tookSource enters sourceWalk sureAnswer sourceAnswer
+unfolding add sub mul div lt le eq round ofInt minus plus scale dot smallest largest isUnder isFinite plusZero squaredDistance union withExcess
+    withOutside boxSquared containsPoint heldIn heldSquared boxOf dots crossed part along facePoint pointOn closestPoint finiteOr heldPoint measured
+    numberAt pointAt triangleAt boxAt triangleCount numbers nodeCount joinedTo joined boxOver rootFrom linksFrom boxesOf upTo tookAll nodeWalk
+    pairWalk rootWalk keptBy limitOf counts offered isPassed hit tookSure scan nodeSquared passedSure rightNearer sureWalk sourceHit strictly
+    tookSource enters sourceWalk sureAnswer sourceAnswer
 source-worked binary32 = refl
 source-worked binary64 = refl
 
@@ -75,7 +82,11 @@ source-worked binary64 = refl
 pub sure-worked : (f : Format)
     → (sureIn f (t0t1 f) (between f) (n f (pos 5)) ∷ sureIn f (t0t1 f) (between f) (reach f) ∷ sureIn f (t0 f) (n f (pos 100)) (n f (pos 1)) ∷ [])
     ≡ (foundAt f 0 (pos 1) (level f) ∷ nothing ∷ nothing ∷ [])
-unfolding add sub mul div lt le eq round ofInt minus plus scale dot smallest largest isUnder isFinite plusZero squaredDistance union withExcess withOutside boxSquared containsPoint heldIn heldSquared boxOf dots crossed part along facePoint pointOn closestPoint finiteOr heldPoint measured numberAt pointAt triangleAt boxAt triangleCount numbers nodeCount joinedTo joined boxOver rootFrom linksFrom boxesOf upTo tookAll nodeWalk pairWalk rootWalk keptBy limitOf counts offered isPassed hit tookSure scan nodeSquared passedSure rightNearer sureWalk sourceHit strictly tookSource enters sourceWalk sureAnswer sourceAnswer
+unfolding add sub mul div lt le eq round ofInt minus plus scale dot smallest largest isUnder isFinite plusZero squaredDistance union withExcess
+    withOutside boxSquared containsPoint heldIn heldSquared boxOf dots crossed part along facePoint pointOn closestPoint finiteOr heldPoint measured
+    numberAt pointAt triangleAt boxAt triangleCount numbers nodeCount joinedTo joined boxOver rootFrom linksFrom boxesOf upTo tookAll nodeWalk
+    pairWalk rootWalk keptBy limitOf counts offered isPassed hit tookSure scan nodeSquared passedSure rightNearer sureWalk sourceHit strictly
+    tookSource enters sourceWalk sureAnswer sourceAnswer
 sure-worked binary32 = refl
 sure-worked binary64 = refl
 
@@ -83,6 +94,10 @@ sure-worked binary64 = refl
 pub walk-worked : (f : Format)
     → (walkIn f (between f) (n f (pos 5)) ∷ walkIn f (n f (pos 9)) (n f (pos 50)) ∷ [])
     ≡ (record { best = foundAt f 0 (pos 1) (level f); measured = 2 } ∷ record { best = foundAt f 1 (pos 10) (n f (pos 1)); measured = 1 } ∷ [])
-unfolding add sub mul div lt le eq round ofInt minus plus scale dot smallest largest isUnder isFinite plusZero squaredDistance union withExcess withOutside boxSquared containsPoint heldIn heldSquared boxOf dots crossed part along facePoint pointOn closestPoint finiteOr heldPoint measured numberAt pointAt triangleAt boxAt triangleCount numbers nodeCount joinedTo joined boxOver rootFrom linksFrom boxesOf upTo tookAll nodeWalk pairWalk rootWalk keptBy limitOf counts offered isPassed hit tookSure scan nodeSquared passedSure rightNearer sureWalk sourceHit strictly tookSource enters sourceWalk sureAnswer sourceAnswer
+unfolding add sub mul div lt le eq round ofInt minus plus scale dot smallest largest isUnder isFinite plusZero squaredDistance union withExcess
+    withOutside boxSquared containsPoint heldIn heldSquared boxOf dots crossed part along facePoint pointOn closestPoint finiteOr heldPoint measured
+    numberAt pointAt triangleAt boxAt triangleCount numbers nodeCount joinedTo joined boxOver rootFrom linksFrom boxesOf upTo tookAll nodeWalk
+    pairWalk rootWalk keptBy limitOf counts offered isPassed hit tookSure scan nodeSquared passedSure rightNearer sureWalk sourceHit strictly
+    tookSource enters sourceWalk sureAnswer sourceAnswer
 walk-worked binary32 = refl
 walk-worked binary64 = refl

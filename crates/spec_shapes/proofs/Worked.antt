@@ -1,4 +1,5 @@
--- Shapes worked out: a point of the triangle (0,0,0) (4,0,0) (0,4,0) for each of the seven tests of the closest point, and what no law says of boxes and planes.
+-- Shapes worked out: a point of the triangle (0,0,0) (4,0,0) (0,4,0) for each of the seven tests of the closest point, and what no law says of boxes
+-- and planes.
 use mathlib.Core.Path.{_≡_, refl}
 use mathlib.Core.Bool.{Bool, true, false}
 use mathlib.Core.List.{List, [], _∷_}
@@ -37,7 +38,8 @@ unfolding add sub mul div lt le eq round ofInt minus plus scale dot dots crossed
 closest-worked binary32 = refl
 closest-worked binary64 = refl
 
--- the squared distance to (7,-4,0), whether (4,2,0) and (4,3,0) are inside, the point of the box closest to (7,1,1), the centre, the area, and where (1,2,2) lies
+-- the squared distance to (7,-4,0), whether (4,2,0) and (4,3,0) are inside, the point of the box closest to (7,1,1), the centre, the area, and where
+-- (1,2,2) lies
 pub box-worked : (f : Format)
     → (boxSquared f (flat f) (point f (pos 7) (negsuc 3) (pos 0)) ≡ ofInt f (pos 25))
     × (containsPoint (flat f) (point f (pos 4) (pos 2) (pos 0)) ≡ true)
@@ -46,7 +48,8 @@ pub box-worked : (f : Format)
     × (centre f (flat f) ≡ point f (pos 2) (pos 1) (pos 0))
     × (area f (flat f) ≡ ofInt f (pos 16))
     × (offset f (flat f) (point f (pos 1) (pos 2) (pos 2)) ≡ record { x = fin false 1 (negsuc 1); y = ofInt f (pos 1); z = ofInt f (pos 2) })
-unfolding add sub mul div lt le eq round ofInt minus plus dividedBy smallest largest isUnder centre sizes area offsetOn offset withExcess withOutside boxSquared containsPoint closestInBox
+unfolding add sub mul div lt le eq round ofInt minus plus dividedBy smallest largest isUnder centre sizes area offsetOn offset withExcess withOutside
+    boxSquared containsPoint closestInBox
 box-worked binary32 = (refl, refl, refl, refl, refl, refl, refl)
 box-worked binary64 = (refl, refl, refl, refl, refl, refl, refl)
 

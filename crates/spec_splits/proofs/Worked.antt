@@ -1,4 +1,5 @@
--- The two rules worked out where the laws leave them free: the mean plane, 0.8 and a ratio that is no number, the first of equal costs, a side that is empty, a cost that is no number.
+-- The two rules worked out where the laws leave them free: the mean plane, 0.8 and a ratio that is no number, the first of equal costs, a side that
+-- is empty, a cost that is no number.
 use mathlib.Core.Path.{_≡_, refl}
 use mathlib.Core.Bool.{Bool, true, false}
 use mathlib.Core.List.{List, [], _∷_, map, foldl}
@@ -29,14 +30,15 @@ module _ (f : Format) where
   abbrev cutOf : Box → Box → Split
   cutOf a b = medianSplit f X (union a b) (both a b)
 
--- Flat boxes have no volume, and 0 / 0 is not above 0.8: they are cut. So are a long box and a short one beyond the mean of their centres, though a plane at the short one's centre would meet
--- both. Boxes that both reach over the mean are not.
+-- Flat boxes have no volume, and 0 / 0 is not above 0.8: they are cut. So are a long box and a short one beyond the mean of their centres, though a
+-- plane at the short one's centre would meet both. Boxes that both reach over the mean are not.
 pub median-worked : (f : Format)
     → (cutOf f (slab f (pos 0) (pos 2) (pos 0)) (slab f (pos 8) (pos 10) (pos 0))
     ∷ cutOf f (slab f (pos 0) (pos 16) (pos 1)) (slab f (pos 11) (pos 13) (pos 1))
     ∷ cutOf f (slab f (pos 0) (pos 8) (pos 1)) (slab f (pos 2) (pos 10) (pos 1)) ∷ [])
     ≡ (cutAt 1 ∷ cutAt 1 ∷ nowhere ∷ [])
-unfolding add sub mul div lt le eq round ofInt minus plus dividedBy dot smallest largest union centre sizes volume unit reach meetsBox unionOf planeBetween allMeet allMeetAt isLarge areBothLarge medianSplit
+unfolding add sub mul div lt le eq round ofInt minus plus dividedBy dot smallest largest union centre sizes volume unit reach meetsBox unionOf
+    planeBetween allMeet allMeetAt isLarge areBothLarge medianSplit
 median-worked binary32 = refl
 median-worked binary64 = refl
 
