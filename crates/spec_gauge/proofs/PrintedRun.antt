@@ -5,12 +5,12 @@ use mathlib.Core.List.{List, [], _∷_, _++_}
 use Prim.Native.Nat.{ℕ}
 use native.Mathlib.Omega.{arith}
 use lib.IntN.{pos, negsuc}
-use lib.Ieee.{Float, fin, binary32, add, sub, mul, div, lt, le, eq, round, ofInt, ofBits, toBits}
+use lib.Ieee.{Float, fin, binary32, sub, mul, div, le, ofInt, ofBits, toBits}
 use Rattle.spec_tables.specs.Tables.{many}
-use Rattle.spec_shapes.specs.Points.{minus, plus, scale, dividedBy, dot, smallest, largest, isUnder, isFinite, plusZero, squaredDistance}
-use Rattle.spec_shapes.specs.Boxes.{union, centre, sizes, area, volume, heldIn}
+use Rattle.spec_shapes.specs.Points.{minus, plus, dividedBy, dot, smallest, largest, isFinite, plusZero, squaredDistance}
+use Rattle.spec_shapes.specs.Boxes.{union, centre, sizes, volume, heldIn}
 use Rattle.spec_shapes.specs.Planes.{unit, reach, meetsBox}
-use Rattle.spec_shapes.specs.Triangles.{boxOf, dots, crossed, part, along, facePoint, pointOn, closestPoint, finiteOr, heldPoint, measured}
+use Rattle.spec_shapes.specs.Triangles.{boxOf, dots, part, pointOn, closestPoint, finiteOr, heldPoint, measured}
 use Rattle.spec_lists.specs.Reading.{numberAt, pointAt, triangleAt, boxAt, triangleCount, pointCount}
 use Rattle.spec_lists.specs.Refusals.{passes, firstRefusal, isCoordinate, isDistance, firstBad, raggedRefusal, noneRefusal, tooManyRefusal, coordinateRefusal}
 use Rattle.spec_lists.specs.Refusals.{trianglesRefusal, areSettings, settingsRefusal, pointsRefusal, distanceRefusal}
@@ -80,18 +80,18 @@ unfolding askedRefusal firstRefusal isCoordinate isDistance firstBad raggedRefus
 asked-passes = refl
 
 tree-printed : treeLine (asked .triangles) (asked .settings) ≡ countsLine 2 3 2
-unfolding treeLine add sub mul div lt le eq round ofInt minus plus scale dividedBy dot smallest largest isUnder plusZero union centre sizes area
-    volume unit reach meetsBox boxOf numberAt pointAt triangleAt boxAt triangleCount nodeCount levels joinedTo joined upTo inserted sorted unionOf
-    planeBetween allMeet allMeetAt isLarge areBothLarge medianSplit grown axisInserted axesBySize rule triedOn triedIn triedWithin tried builtTree
+unfolding treeLine sub mul div le ofInt minus plus dividedBy dot smallest largest union centre sizes volume unit reach meetsBox boxOf numberAt pointAt
+    triangleAt boxAt triangleCount nodeCount levels joinedTo joined upTo inserted sorted unionOf planeBetween allMeet allMeetAt isLarge areBothLarge
+    medianSplit grown axisInserted axesBySize rule triedOn triedIn triedWithin tried builtTree
 tree-printed = refl
 
 abbrev first : Found
 first = record { triangle = 0; x = 0x3f80_0000; y = 0; z = 0; squared = 0x41a2_0000 }
 
 answers-printed : answerLines (asked .triangles) (asked .points) (asked .distance) ≡ foundLine 0 first ++ nothingLine 1
-unfolding answerLines answerLine many pointCount toBits add sub mul div lt le eq round ofInt minus plus scale dividedBy dot smallest largest isUnder
-    isFinite plusZero squaredDistance heldIn boxOf dots crossed part along facePoint pointOn closestPoint finiteOr heldPoint measured numberAt pointAt
-    triangleAt triangleCount keptBy limitOf counts offered hit tookSure scan sureAnswer upTo
+unfolding answerLines answerLine many pointCount toBits sub mul le ofInt minus dot smallest largest isFinite plusZero squaredDistance heldIn boxOf
+    dots part pointOn closestPoint finiteOr heldPoint measured numberAt pointAt triangleAt triangleCount keptBy limitOf counts offered hit tookSure
+    scan sureAnswer upTo
 answers-printed = refl
 
 -- the whole
