@@ -37,13 +37,8 @@ fn write_refusal(
     if early.refuses() {
         return early;
     }
-    image_room_refusal(given, triangle_count(triangles), nodes).or(tree_refusal(
-        triangles,
-        order,
-        links,
-        boxes,
-        nodes,
-    ))
+    let no_room = image_room_refusal(given, triangle_count(triangles), nodes);
+    no_room.or(tree_refusal(triangles, order, links, boxes, nodes))
 }
 
 // Writes the image of a tree in lent lists to the front of `out` and answers how many bytes it has. The bytes behind them stay as they were.

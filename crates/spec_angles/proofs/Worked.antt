@@ -24,6 +24,7 @@ module _ (f : Format) where
   abbrev octant : Triangle
   octant = record { a = point (pos 3) (pos 1) (pos 1); b = point (pos 1) (pos 5) (pos 1); c = point (pos 1) (pos 1) (pos 9) }
 
+-- angles in each half and at the turns, worked by hand: an octant swapped or a turn off by one breaks one of them
 pub angles-worked : (f : Format)
     → (angleOf f (pos 1) (pos 1) ∷ angleOf f (pos 1) (negsuc 0) ∷ angleOf f (pos 1) (pos 0) ∷ angleOf f (pos 2) (negsuc 0) ∷ [])
     ≡ (eighthTurn ∷ (halfTurn - eighthTurn) ∷ quarterTurn ∷ (halfTurn - (quarterTurn - entry 512)) ∷ [])
@@ -31,6 +32,7 @@ unfolding lt le eq div round ofInt entry arcs arc ratio mirrored angle
 angles-worked binary32 = refl
 angles-worked binary64 = refl
 
+-- three directions at right angles span an eighth of the sphere, whatever their lengths
 pub octant-worked : (f : Format) → solidAngle f (octant f) (point f (pos 1) (pos 1) (pos 1)) ≡ mul f (round f false eighthTurn (2 ^ 30)) (ofInt f (pos 2))
 unfolding add sub mul div lt le eq round ofInt minus dividedBy dot cross wholeRoot rootBy rootIn root rootOrNan entry arcs arc ratio mirrored angle
     arcTangent angleOrNan norm seenFrom numerator denominator unitAngle originAngle solidAngle

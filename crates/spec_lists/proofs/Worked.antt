@@ -31,6 +31,7 @@ refusals-worked = refl
 abbrev point : ℕ → ℕ → ℕ → Point
 point x y z = record { x = odd x; y = odd y; z = odd z }
 
+-- nine different numbers, so that one read in another's place shows
 pub reading-worked : (pointAt nine 3 ≡ point 3 4 5) × (triangleAt nine 0 ≡ record { a = point 0 1 2; b = point 3 4 5; c = point 6 7 8 })
 unfolding numberAt pointAt triangleAt
 reading-worked = (refl, refl)

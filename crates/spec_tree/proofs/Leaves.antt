@@ -235,6 +235,7 @@ pub entry-there : (part : List ℕ) (i : ℕ) → i < length part → entryAt pa
 unfolding entryAt
 entry-there part i h = rw (lt-ltb i (length part) h)
 
+-- behind the last triangle there is none
 pub entry-past : (part : List ℕ) (i : ℕ) → length part ≤ i → entryAt part i ≡ noEntry
 unfolding entryAt
 entry-past part i h = rw (le-ltb i (length part) h)
