@@ -32,25 +32,41 @@ point-at-requires : tie.Need-point-at-requires
 point-at-requires c κs = search needs
 
 measured-at-requires : tie.Need-measured-at-requires
-measured-at-requires c κs = record {
-  triangles-good = triangles-passed _ (did-pass _ _ _ (c .before .before .before .before .before .before .triangles-refusal .ensures) (c .before .before .before .before .before .refuses .ensures) (c .before .before .before .before .if1 .left));
-  tree-accepted = sym (c .before .before .before .is-accepted .ensures) ∙ c .before .before .if2 .taken;
-}
+measured-at-requires c κs =
+    let chosen2 = c .before .before in
+    let after-is-accepted = chosen2 .before in
+    let chosen = after-is-accepted .before in
+    let after-refuses = chosen .before in
+    let after-triangles-refusal = after-refuses .before in
+    record {
+      triangles-good = triangles-passed _ (did-pass _ _ _ (after-triangles-refusal .triangles-refusal .ensures) (after-refuses .refuses .ensures) (chosen .if1 .left));
+      tree-accepted = sym (after-is-accepted .is-accepted .ensures) ∙ chosen2 .if2 .taken;
+    }
 
 returns-2 : tie.Need-returns-2
 unfolding measuredFirst
 returns-2 c =
+    let chosen3 = c .before .before in
+    let chosen2 = chosen3 .before in
+    let after-is-accepted = chosen2 .before in
+    let chosen = after-is-accepted .before in
+    let after-refuses = chosen .before in
+    let after-triangles-refusal = after-refuses .before in
     rw (c .before .point-at .ensures) at (c .measured-at .ensures)
-    ∙ when _ _ _ (le-leb _ _ (c .before .before .if3 .taken))
-    ∙ when _ _ _ (sym (c .before .before .before .before .is-accepted .ensures) ∙ c .before .before .before .if2 .taken)
-    ∙ unless _ _ _ (asked _ _ _ _ (c .before .before .before .before .before .before .before .triangles-refusal .ensures) (c .before .before .before .before .before .before .refuses .ensures) (c .before .before .before .before .before .if1 .left))
+    ∙ when _ _ _ (le-leb _ _ (chosen3 .if3 .taken))
+    ∙ when _ _ _ (sym (after-is-accepted .is-accepted .ensures) ∙ chosen2 .if2 .taken)
+    ∙ unless _ _ _ (asked _ _ _ _ (after-triangles-refusal .triangles-refusal .ensures) (after-refuses .refuses .ensures) (chosen .if1 .left))
 
 returns-3 : tie.Need-returns-3
 unfolding measuredFirst
 returns-3 c =
+    let after-is-accepted = c .before .before in
+    let chosen = after-is-accepted .before in
+    let after-refuses = chosen .before in
+    let after-triangles-refusal = after-refuses .before in
     unless _ _ _ (lt-leb _ _ (c .if3 .left))
-    ∙ when _ _ _ (sym (c .before .before .is-accepted .ensures) ∙ c .before .if2 .taken)
-    ∙ unless _ _ _ (asked _ _ _ _ (c .before .before .before .before .before .triangles-refusal .ensures) (c .before .before .before .before .refuses .ensures) (c .before .before .before .if1 .left))
+    ∙ when _ _ _ (sym (after-is-accepted .is-accepted .ensures) ∙ c .before .if2 .taken)
+    ∙ unless _ _ _ (asked _ _ _ _ (after-triangles-refusal .triangles-refusal .ensures) (after-refuses .refuses .ensures) (chosen .if1 .left))
 
 returns-4 : tie.Need-returns-4
 unfolding measuredFirst

@@ -36,13 +36,21 @@ array-share-prefix-triangles : tie.Need-array-share-prefix-triangles
 array-share-prefix-triangles c = search needs
 
 slice-aggregate-write-again : tie.Need-slice-aggregate-write-again
-slice-aggregate-write-again c = simp length-take (omega (arith, c .before .before .before .before .before .before .before .before .before .before .«read-image» .kept))
+slice-aggregate-write-again c =
+    let chosen = c .before .before in
+    let at-boxes2 = chosen .before .before .before .before in
+    let after-read-image = at-boxes2 .before .before .before .before in
+    simp length-take (omega (arith, after-read-image .«read-image» .kept))
 
 array-share-prefix-order : tie.Need-array-share-prefix-order
 array-share-prefix-order c = search needs
 
 slice-aggregate-write-again-2 : tie.Need-slice-aggregate-write-again-2
-slice-aggregate-write-again-2 c = simp length-take (omega (arith, c .before .before .before .before .before .before .before .before .before .before .before .«read-image» .kept))
+slice-aggregate-write-again-2 c =
+    let chosen = c .before .before .before in
+    let at-boxes2 = chosen .before .before .before .before in
+    let after-read-image = at-boxes2 .before .before .before .before in
+    simp length-take (omega (arith, after-read-image .«read-image» .kept))
 
 slice-aggregate-write-again-3 : tie.Need-slice-aggregate-write-again-3
 slice-aggregate-write-again-3 c = search needs
@@ -51,7 +59,12 @@ slice-aggregate-write-again-4 : tie.Need-slice-aggregate-write-again-4
 slice-aggregate-write-again-4 c = search needs
 
 write-again-requires : tie.Need-write-again-requires
-write-again-requires c κs = simp length-take ((omega (arith, c .before .before .before .before .before .before .before .before .before .before .before .before .before .«read-image» .kept), omega (arith, c .before .before .before .before .before .before .before .before .before .before .before .before .before .«read-image» .kept)), (omega (arith, c .before .before .before .before .before .before .before .before .before .before .before .before .before .«read-image» .kept), omega (arith, c .before .before .before .before .before .before .before .before .before .before .before .before .before .«read-image» .kept), omega arith))
+write-again-requires c κs =
+    let chosen2 = c .before .before .before .before in
+    let chosen = chosen2 .before in
+    let at-boxes2 = chosen .before .before .before .before in
+    let after-read-image = at-boxes2 .before .before .before .before in
+    simp length-take ((omega (arith, after-read-image .«read-image» .kept), omega (arith, after-read-image .«read-image» .kept)), (omega (arith, after-read-image .«read-image» .kept), omega (arith, after-read-image .«read-image» .kept), omega arith))
 
 returns : tie.Need-returns
 returns c = search needs

@@ -45,7 +45,11 @@ loop-less : tie.Need-loop-less Inv-loop μ-loop
 loop-less c = simp length-set (omega arith)
 
 loop-again : tie.Need-loop-again Inv-loop μ-loop
-loop-again c = run-store-front _ _ _ _ _ _ (omega arith) (omega (arith, c .before .before .before .loop-test .taken, c .before .before .before .before .loop .inv .long)) (c .before .before .before .before .loop .inv) (rw (c .before .pattern-at .ensures, c .before .before .more .ensures) at (c .from-bits .ensures))
+loop-again c =
+    let after-more = c .before .before in
+    let tested = after-more .before in
+    let turn = tested .before in
+    run-store-front _ _ _ _ _ _ (omega arith) (omega (arith, tested .loop-test .taken, turn .loop .inv .long)) (turn .loop .inv) (rw (c .before .pattern-at .ensures, after-more .more .ensures) at (c .from-bits .ensures))
 
 same-length : tie.Need-same-length Inv-loop μ-loop
 same-length c = c .before .loop .inv .long

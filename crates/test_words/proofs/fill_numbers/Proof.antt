@@ -41,7 +41,10 @@ loop-less : tie.Need-loop-less Inv-loop μ-loop
 loop-less c = simp length-set (omega arith)
 
 loop-again : tie.Need-loop-again Inv-loop μ-loop
-loop-again c = run-store-front _ _ _ _ _ _ (omega arith) (omega (arith, c .before .before .loop-test .taken, c .before .before .before .loop .inv .long)) (c .before .before .before .loop .inv) (rw (c .before .more .ensures) at (c .pattern-at .ensures))
+loop-again c =
+    let tested = c .before .before in
+    let turn = tested .before in
+    run-store-front _ _ _ _ _ _ (omega arith) (omega (arith, tested .loop-test .taken, turn .loop .inv .long)) (turn .loop .inv) (rw (c .before .more .ensures) at (c .pattern-at .ensures))
 
 same-length : tie.Need-same-length Inv-loop μ-loop
 same-length c = c .before .loop .inv .long

@@ -42,7 +42,9 @@ units-of-requires : tie.Need-units-of-requires
 units-of-requires c κs = at-most-one _ _ _ (c .before .pre .1) (c .ratio-of .ensures)
 
 arc-of-requires : tie.Need-arc-of-requires
-arc-of-requires c κs = (c .before .before .pre .0, few _ _ _ (c .before .before .pre .1) (c .before .ratio-of .ensures) _ (c .units-of .ensures))
+arc-of-requires c κs =
+    let start = c .before .before in
+    (start .pre .0, few _ _ _ (start .pre .1) (c .before .ratio-of .ensures) _ (c .units-of .ensures))
 
 absolute-requires : tie.Need-absolute-requires
 absolute-requires c κs = search needs

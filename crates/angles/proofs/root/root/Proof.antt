@@ -71,8 +71,9 @@ add-result c = omega (arith, near _ _ _ _ (c .before .before .scaled .ensures) (
 
 float-from-bits-result : tie.Need-float-from-bits-result
 float-from-bits-result c =
-    bits-are-number (c .before .before .scaled .result .scale * 2 ^ 23 + c .before .nearest-root .result)
-    (omega (arith, near _ _ _ _ (c .before .before .scaled .ensures) (c .before .nearest-root .ensures)))
+    let after-scaled = c .before .before in
+    bits-are-number (after-scaled .scaled .result .scale * 2 ^ 23 + c .before .nearest-root .result)
+    (omega (arith, near _ _ _ _ (after-scaled .scaled .ensures) (c .before .nearest-root .ensures)))
 
 returns-2 : tie.Need-returns-2
 returns-2 c =

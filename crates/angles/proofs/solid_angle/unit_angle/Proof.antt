@@ -20,7 +20,10 @@ angle-by-requires c κs = search needs
 
 returns-2 : tie.Need-returns-2
 unfolding unitAngle ofBits
-returns-2 c = rw (c .angle-by .ensures, c .before .denominator-of .ensures, rw (c .before .before .before .numerator-of .ensures) at (c .before .before .if1 .left), c .before .before .before .numerator-of .ensures)
+returns-2 c =
+    let chosen = c .before .before in
+    let after-numerator-of = chosen .before in
+    rw (c .angle-by .ensures, c .before .denominator-of .ensures, rw (after-numerator-of .numerator-of .ensures) at (chosen .if1 .left), after-numerator-of .numerator-of .ensures)
 
 pub unit-angle-spec : {M : Type 1} → statement M
 unit-angle-spec =

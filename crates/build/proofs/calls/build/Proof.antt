@@ -20,7 +20,10 @@ enum-told : tie.Need-enum-told
 enum-told c = search needs
 
 build-passed-requires : tie.Need-build-passed-requires
-build-passed-requires c κs = sym (c .before .before .before .before .before .build-refusal .ensures) ∙ ap asVerdict (c .before .before .before .enum-told .given .1)
+build-passed-requires c κs =
+    let at-enum-told = c .before .before .before in
+    let after-build-refusal = at-enum-told .before .before in
+    sym (after-build-refusal .build-refusal .ensures) ∙ ap asVerdict (at-enum-told .enum-told .given .1)
 
 same-length : tie.Need-same-length
 same-length c = search needs

@@ -11,34 +11,112 @@ triangle-count-requires : tie.Need-triangle-count-requires
 triangle-count-requires c κs = search needs
 
 put-bounds-requires : tie.Need-put-bounds-requires
-put-bounds-requires c κs = bounds-asks binary32 _ _ _ _ _ _ _ _ (c .before .before .before .before .before .before .before .before .before .pre) (λ i k. c .before .before .before .before .before .before .before .before .shared-slice-known .given i) _ (c .before .triangle-count .ensures)
+put-bounds-requires c κs =
+    let known4 = c .before .before .before .before in
+    let known = known4 .before .before .before .before in
+    let start = known .before in
+    bounds-asks binary32 _ _ _ _ _ _ _ _ (start .pre) (λ i k. known .shared-slice-known .given i) _ (c .before .triangle-count .ensures)
 
 put-centres-requires : tie.Need-put-centres-requires
-put-centres-requires c κs = centres-asks binary32 _ _ _ _ _ _ _ _ (c .before .before .before .before .before .before .before .before .before .before .before .before .before .before .pre) (λ i k. c .before .before .before .before .before .before .before .before .before .before .before .before .before .shared-slice-known .given i) _ (c .before .before .before .before .before .before .triangle-count .ensures) _ (c .before .before .before .before .put-bounds .ensures)
+put-centres-requires c κs =
+    let after-put-bounds = c .before .before .before .before in
+    let after-triangle-count = after-put-bounds .before .before in
+    let known4 = after-triangle-count .before .before .before in
+    let known = known4 .before .before .before .before in
+    let start = known .before in
+    centres-asks binary32 _ _ _ _ _ _ _ _ (start .pre) (λ i k. known .shared-slice-known .given i) _ (after-triangle-count .triangle-count .ensures) _ (after-put-bounds .put-bounds .ensures)
 
 put-order-requires : tie.Need-put-order-requires
-put-order-requires c κs = order-asks binary32 _ _ _ _ _ _ _ _ (c .before .before .before .before .before .before .before .before .before .before .before .before .before .before .before .before .before .before .pre) (λ i k. c .before .before .before .before .before .before .before .before .before .before .before .before .before .before .before .before .before .shared-slice-known .given i) _ (c .before .before .before .before .before .before .before .before .before .before .triangle-count .ensures)
+put-order-requires c κs =
+    let after-put-centres = c .before .before .before in
+    let at-bounds = after-put-centres .before .before .before .before in
+    let after-triangle-count = at-bounds .before .before .before in
+    let known4 = after-triangle-count .before .before .before in
+    let known = known4 .before .before .before .before in
+    let start = known .before in
+    order-asks binary32 _ _ _ _ _ _ _ _ (start .pre) (λ i k. known .shared-slice-known .given i) _ (after-triangle-count .triangle-count .ensures)
 
 levels-below-requires : tie.Need-levels-below-requires
 levels-below-requires c κs = search needs
 
 slice-relend-prefix-grow : tie.Need-slice-relend-prefix-grow
-slice-relend-prefix-grow c = count-within binary32 _ _ _ _ _ _ _ _ (c .before .before .before .before .before .before .before .before .before .before .before .before .before .before .before .before .before .before .before .before .before .before .before .before .pre) (λ i k. c .before .before .before .before .before .before .before .before .before .before .before .before .before .before .before .before .before .before .before .before .before .before .before .shared-slice-known .given i) _ (c .before .before .before .before .before .before .before .before .before .before .before .before .before .before .before .before .triangle-count .ensures) _ (c .before .before .before .before .before .before .before .before .before .before .before .before .before .before .put-bounds .ensures) _ (c .before .before .before .before .before .before .before .before .before .put-centres .ensures) _ (c .before .before .before .before .before .put-order .ensures)
+slice-relend-prefix-grow c =
+    let at-grow-arg = c .before .before in
+    let after-put-order = at-grow-arg .before .before .before in
+    let after-put-centres = after-put-order .before .before .before .before in
+    let at-put-centres-arg = after-put-centres .before .before in
+    let after-put-bounds = at-put-centres-arg .before .before .before in
+    let after-triangle-count = after-put-bounds .before .before in
+    let known4 = after-triangle-count .before .before .before in
+    let known = known4 .before .before .before .before in
+    let start = known .before in
+    count-within binary32 _ _ _ _ _ _ _ _ (start .pre) (λ i k. known .shared-slice-known .given i) _ (after-triangle-count .triangle-count .ensures) _ (after-put-bounds .put-bounds .ensures) _ (after-put-centres .put-centres .ensures) _ (after-put-order .put-order .ensures)
 
 slice-aggregate-grow : tie.Need-slice-aggregate-grow
-slice-aggregate-grow c = sym (front-long binary32 _ _ _ _ _ _ _ _ (c .before .before .before .before .before .before .before .before .before .before .before .before .before .before .before .before .before .before .before .before .before .before .before .before .before .pre) (λ i k. c .before .before .before .before .before .before .before .before .before .before .before .before .before .before .before .before .before .before .before .before .before .before .before .before .shared-slice-known .given i) _ (c .before .before .before .before .before .before .before .before .before .before .before .before .before .before .before .before .before .triangle-count .ensures) _ (c .before .before .before .before .before .before .before .before .before .before .before .before .before .before .before .put-bounds .ensures) _ (c .before .before .before .before .before .before .before .before .before .before .put-centres .ensures) _ (c .before .before .before .before .before .before .put-order .ensures))
+slice-aggregate-grow c =
+    let at-grow-arg = c .before .before .before in
+    let after-put-order = at-grow-arg .before .before .before in
+    let after-put-centres = after-put-order .before .before .before .before in
+    let at-put-centres-arg = after-put-centres .before .before in
+    let after-put-bounds = at-put-centres-arg .before .before .before in
+    let after-triangle-count = after-put-bounds .before .before in
+    let known4 = after-triangle-count .before .before .before in
+    let known = known4 .before .before .before .before in
+    let start = known .before in
+    sym (front-long binary32 _ _ _ _ _ _ _ _ (start .pre) (λ i k. known .shared-slice-known .given i) _ (after-triangle-count .triangle-count .ensures) _ (after-put-bounds .put-bounds .ensures) _ (after-put-centres .put-centres .ensures) _ (after-put-order .put-order .ensures))
 
 grow-requires : tie.Need-grow-requires
-grow-requires c κs = grow-asks binary32 _ _ _ _ _ _ _ _ (c .before .before .before .before .before .before .before .before .before .before .before .before .before .before .before .before .before .before .before .before .before .before .before .before .before .before .before .before .pre) (λ i k. c .before .before .before .before .before .before .before .before .before .before .before .before .before .before .before .before .before .before .before .before .before .before .before .before .before .before .before .shared-slice-known .given i) _ (c .before .before .before .before .before .before .before .before .before .before .before .before .before .before .before .before .before .before .before .before .triangle-count .ensures) _ (c .before .before .before .before .before .before .before .before .before .before .before .before .before .before .before .before .before .before .put-bounds .ensures) _ (c .before .before .before .before .before .before .before .before .before .before .before .before .before .put-centres .ensures) _ (c .before .before .before .before .before .before .before .before .before .put-order .ensures) _ (c .before .before .before .before .levels-below .ensures)
+grow-requires c κs =
+    let after-levels-below = c .before .before .before .before in
+    let at-grow-arg = after-levels-below .before .before in
+    let after-put-order = at-grow-arg .before .before .before in
+    let after-put-centres = after-put-order .before .before .before .before in
+    let at-put-centres-arg = after-put-centres .before .before in
+    let after-put-bounds = at-put-centres-arg .before .before .before in
+    let after-triangle-count = after-put-bounds .before .before in
+    let known4 = after-triangle-count .before .before .before in
+    let known = known4 .before .before .before .before in
+    let start = known .before in
+    grow-asks binary32 _ _ _ _ _ _ _ _ (start .pre) (λ i k. known .shared-slice-known .given i) _ (after-triangle-count .triangle-count .ensures) _ (after-put-bounds .put-bounds .ensures) _ (after-put-centres .put-centres .ensures) _ (after-put-order .put-order .ensures) _ (after-levels-below .levels-below .ensures)
 
 add-t24 : tie.Need-add-t24
-add-t24 c = omega (arith, root-few binary32 _ _ _ _ _ _ _ _ (c .before .before .before .before .before .before .before .before .before .before .before .before .before .before .before .before .before .before .before .before .before .before .before .before .before .before .before .before .before .before .before .before .before .before .before .before .before .before .pre) (λ i k. c .before .before .before .before .before .before .before .before .before .before .before .before .before .before .before .before .before .before .before .before .before .before .before .before .before .before .before .before .before .before .before .before .before .before .before .before .before .shared-slice-known .given i) _ (c .before .before .before .before .before .before .before .before .before .before .before .before .before .before .before .before .before .before .before .before .before .before .before .before .before .before .before .before .before .before .triangle-count .ensures) _ (c .before .before .before .before .before .before .before .before .before .before .before .before .before .before .before .before .before .before .before .before .before .before .before .before .before .before .before .before .put-bounds .ensures) _ (c .before .before .before .before .before .before .before .before .before .before .before .before .before .before .before .before .before .before .before .before .before .before .before .put-centres .ensures) _ (c .before .before .before .before .before .before .before .before .before .before .before .before .before .before .before .before .before .before .before .put-order .ensures) _ (c .before .before .before .before .before .before .before .before .before .before .before .before .before .before .levels-below .ensures) _ _ _ _ _ _ (c .before .before .before .before .before .before .before .before .before .grow .ensures))
+add-t24 c =
+    let at-boxes = c .before .before in
+    let at-scratch = at-boxes .before .before .before .before in
+    let after-grow = at-scratch .before .before .before in
+    let at-grow-arg5 = after-grow .before .before in
+    let after-levels-below = at-grow-arg5 .before .before .before in
+    let at-grow-arg = after-levels-below .before .before in
+    let after-put-order = at-grow-arg .before .before .before in
+    let after-put-centres = after-put-order .before .before .before .before in
+    let at-put-centres-arg = after-put-centres .before .before in
+    let after-put-bounds = at-put-centres-arg .before .before .before in
+    let after-triangle-count = after-put-bounds .before .before in
+    let known4 = after-triangle-count .before .before .before in
+    let known = known4 .before .before .before .before in
+    let start = known .before in
+    omega (arith, root-few binary32 _ _ _ _ _ _ _ _ (start .pre) (λ i k. known .shared-slice-known .given i) _ (after-triangle-count .triangle-count .ensures) _ (after-put-bounds .put-bounds .ensures) _ (after-put-centres .put-centres .ensures) _ (after-put-order .put-order .ensures) _ (after-levels-below .levels-below .ensures) _ _ _ _ _ _ (after-grow .grow .ensures))
 
 same-length : tie.Need-same-length
-same-length c = c .before .before .before .before .before .before .before .before .before .before .before .before .before .before .before .before .before .before .before .before .before .before .before .before .before .before .before .before .put-bounds .kept .1 .1 .0
+same-length c =
+    let at-links = c .before .before .before .before in
+    let at-order2 = at-links .before .before .before .before in
+    let at-grow-arg4 = at-order2 .before .before .before .before in
+    let at-grow-arg = at-grow-arg4 .before .before .before .before in
+    let at-put-order-arg = at-grow-arg .before .before .before .before in
+    let at-put-centres-arg2 = at-put-order-arg .before .before .before .before in
+    let after-put-bounds = at-put-centres-arg2 .before .before .before .before in
+    after-put-bounds .put-bounds .kept .1 .1 .0
 
 same-length-2 : tie.Need-same-length-2
-same-length-2 c = c .before .before .before .before .before .before .before .before .before .before .before .before .before .before .before .before .before .before .before .before .before .before .before .put-centres .kept .1 .1 .0
+same-length-2 c =
+    let at-links = c .before .before .before .before in
+    let at-order2 = at-links .before .before .before .before in
+    let at-grow-arg5 = at-order2 .before .before .before in
+    let at-grow-arg2 = at-grow-arg5 .before .before .before .before in
+    let after-put-order = at-grow-arg2 .before .before .before .before in
+    let after-put-centres = after-put-order .before .before .before .before in
+    after-put-centres .put-centres .kept .1 .1 .0
 
 same-length-3 : tie.Need-same-length-3
 same-length-3 c = search needs
@@ -53,7 +131,22 @@ same-length-6 : tie.Need-same-length-6
 same-length-6 c = search needs
 
 returns : tie.Need-returns
-returns c = build-gives binary32 _ _ _ _ _ _ _ _ (c .before .before .before .before .before .before .before .before .before .before .before .before .before .before .before .before .before .before .before .before .before .before .before .before .before .before .before .before .before .before .before .before .before .before .before .before .before .before .pre) (λ i k. c .before .before .before .before .before .before .before .before .before .before .before .before .before .before .before .before .before .before .before .before .before .before .before .before .before .before .before .before .before .before .before .before .before .before .before .before .before .shared-slice-known .given i) _ (c .before .before .before .before .before .before .before .before .before .before .before .before .before .before .before .before .before .before .before .before .before .before .before .before .before .before .before .before .before .before .triangle-count .ensures) _ (c .before .before .before .before .before .before .before .before .before .before .before .before .before .before .before .before .before .before .before .before .before .before .before .before .before .before .before .before .put-bounds .ensures) _ (c .before .before .before .before .before .before .before .before .before .before .before .before .before .before .before .before .before .before .before .before .before .before .before .put-centres .ensures) _ (c .before .before .before .before .before .before .before .before .before .before .before .before .before .before .before .before .before .before .before .put-order .ensures) _ (c .before .before .before .before .before .before .before .before .before .before .before .before .before .before .levels-below .ensures) _ _ _ _ _ _ (c .before .before .before .before .before .before .before .before .before .grow .ensures)
+returns c =
+    let at-boxes = c .before .before in
+    let at-scratch = at-boxes .before .before .before .before in
+    let after-grow = at-scratch .before .before .before in
+    let at-grow-arg5 = after-grow .before .before in
+    let after-levels-below = at-grow-arg5 .before .before .before in
+    let at-grow-arg = after-levels-below .before .before in
+    let after-put-order = at-grow-arg .before .before .before in
+    let after-put-centres = after-put-order .before .before .before .before in
+    let at-put-centres-arg = after-put-centres .before .before in
+    let after-put-bounds = at-put-centres-arg .before .before .before in
+    let after-triangle-count = after-put-bounds .before .before in
+    let known4 = after-triangle-count .before .before .before in
+    let known = known4 .before .before .before .before in
+    let start = known .before in
+    build-gives binary32 _ _ _ _ _ _ _ _ (start .pre) (λ i k. known .shared-slice-known .given i) _ (after-triangle-count .triangle-count .ensures) _ (after-put-bounds .put-bounds .ensures) _ (after-put-centres .put-centres .ensures) _ (after-put-order .put-order .ensures) _ (after-levels-below .levels-below .ensures) _ _ _ _ _ _ (after-grow .grow .ensures)
 
 pub build-with-spec : {M : Type 1} → statement M
 build-with-spec =

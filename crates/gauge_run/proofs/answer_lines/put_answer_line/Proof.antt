@@ -23,7 +23,11 @@ same-length : tie.Need-same-length
 same-length c = search needs
 
 returns : tie.Need-returns
-returns c = (put-same (nothing-words (now (c .before .before .before .before .before .before .before .before .args .answers)) (c .before .before .before .before .before .before .before .before .args .k) (c .before .before .before .before .if1 .taken)) (c .before .before .put-nothing .ensures .0), omega (arith, c .before .before .put-nothing .ensures .1))
+returns c =
+    let after-put-nothing = c .before .before in
+    let chosen = after-put-nothing .before .before in
+    let start = chosen .before .before .before .before in
+    (put-same (nothing-words (now (start .args .answers)) (start .args .k) (chosen .if1 .taken)) (after-put-nothing .put-nothing .ensures .0), omega (arith, after-put-nothing .put-nothing .ensures .1))
 
 add-whole : tie.Need-add-whole
 add-whole c = search needs
@@ -80,7 +84,13 @@ same-length-2 : tie.Need-same-length-2
 same-length-2 c = search needs
 
 returns-2 : tie.Need-returns-2
-returns-2 c = (put-same (found-words (now (c .before .before .before .before .before .before .before .before .before .before .before .before .before .before .args .answers)) (c .before .before .before .before .before .before .before .before .before .before .before .before .before .before .args .k) _ (c .before .before .before .before .before .before .before .before .before .before .if1 .left) (c .before .before .before .before .before .before .before .before .whole .ensures)) (c .before .before .put-found .ensures .0), c .before .before .put-found .ensures .1)
+returns-2 c =
+    let after-put-found = c .before .before in
+    let known6 = after-put-found .before .before .before in
+    let after-whole = known6 .before .before .before in
+    let chosen = after-whole .before .before in
+    let start = chosen .before .before .before .before in
+    (put-same (found-words (now (start .args .answers)) (start .args .k) _ (chosen .if1 .left) (after-whole .whole .ensures)) (after-put-found .put-found .ensures .0), after-put-found .put-found .ensures .1)
 
 pub put-answer-line-spec : {M : Type 1} → statement M
 put-answer-line-spec =

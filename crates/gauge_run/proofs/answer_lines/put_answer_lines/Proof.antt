@@ -14,10 +14,15 @@ abbrev μ-loop : tie.MeasureT-loop
 μ-loop answers count out₀ at next₀ k₀ out next k = count - k
 
 loop-holds : tie.Need-loop-holds Inv-loop μ-loop
-loop-holds c = lined-start (wordsLine (now (c .before .before .args .answers))) (c .before .before .args .at) (c .before .before .args .count) (now (c .before .before .args .out)) (omega (arith, c .before .before .pre .1))
+loop-holds c =
+    let start = c .before .before in
+    lined-start (wordsLine (now (start .args .answers))) (start .args .at) (start .args .count) (now (start .args .out)) (omega (arith, start .pre .1))
 
 put-answer-line-requires : tie.Need-put-answer-line-requires Inv-loop μ-loop
-put-answer-line-requires c κs = (omega (arith, c .before .before .before .before .before .pre .0, c .before .loop-test .taken), omega (arith, c .before .before .before .before .before .pre .1, c .before .loop-test .taken, c .before .before .loop .inv .room, c .before .before .loop .inv .long))
+put-answer-line-requires c κs =
+    let turn = c .before .before in
+    let start = turn .before .before .before in
+    (omega (arith, start .pre .0, c .before .loop-test .taken), omega (arith, start .pre .1, c .before .loop-test .taken, turn .loop .inv .room, turn .loop .inv .long))
 
 add-k : tie.Need-add-k Inv-loop μ-loop
 add-k c = omega arith
@@ -26,7 +31,11 @@ loop-less : tie.Need-loop-less Inv-loop μ-loop
 loop-less c = omega arith
 
 loop-again : tie.Need-loop-again Inv-loop μ-loop
-loop-again c = lined-more _ _ _ _ _ _ _ _ _ (c .before .before .before .before .loop-test .taken) (c .before .before .before .before .before .loop .inv) (c .before .before .put-answer-line .ensures .0) (c .before .before .put-answer-line .ensures .1)
+loop-again c =
+    let after-put-answer-line = c .before .before in
+    let tested = after-put-answer-line .before .before in
+    let turn = tested .before in
+    lined-more _ _ _ _ _ _ _ _ _ (tested .loop-test .taken) (turn .loop .inv) (after-put-answer-line .put-answer-line .ensures .0) (after-put-answer-line .put-answer-line .ensures .1)
 
 same-length : tie.Need-same-length Inv-loop μ-loop
 same-length c = c .before .loop .inv .long

@@ -15,7 +15,11 @@ same-length : tie.Need-same-length
 same-length c = search needs
 
 returns : tie.Need-returns
-returns c = put-same (too-long (now (c .before .before .before .before .before .before .before .args .input)) (c .before .before .before .before .if1 .taken)) (c .before .before .put-refused .ensures .0)
+returns c =
+    let after-put-refused = c .before .before in
+    let chosen = after-put-refused .before .before in
+    let start = chosen .before .before .before in
+    put-same (too-long (now (start .args .input)) (chosen .if1 .taken)) (after-put-refused .put-refused .ensures .0)
 
 gauge-layout-requires : tie.Need-gauge-layout-requires
 gauge-layout-requires c κs = search needs
@@ -30,19 +34,34 @@ enum-known-count : tie.Need-enum-known-count
 enum-known-count c = search needs
 
 print-laid-requires : tie.Need-print-laid-requires
-print-laid-requires c κs = ((gauge-long _ _ _ (sym (c .before .before .before .before .gauge-layout .ensures) ∙ ap gaugeLaid (c .before .before .count .given .1)), c .before .before .before .before .before .if1 .left), c .before .before .before .before .before .before .before .before .pre)
+print-laid-requires c κs =
+    let at-count = c .before .before in
+    let after-gauge-layout = at-count .before .before in
+    let chosen = after-gauge-layout .before in
+    let start = chosen .before .before .before in
+    ((gauge-long _ _ _ (sym (after-gauge-layout .gauge-layout .ensures) ∙ ap gaugeLaid (at-count .count .given .1)), chosen .if1 .left), start .pre)
 
 same-length-2 : tie.Need-same-length-2
 same-length-2 c = search needs
 
 returns-2 : tie.Need-returns-2
-returns-2 c = put-same (wrong-printed _ (c .before .before .before .before .before .before .before .before .if1 .left) _ (sym (c .before .before .before .before .before .before .before .gauge-layout .ensures) ∙ ap gaugeLaid (c .before .before .before .before .before .at .given .1))) (c .before .before .put-refused2 .ensures .0)
+returns-2 c =
+    let after-put-refused2 = c .before .before in
+    let at-at = after-put-refused2 .before .before .before in
+    let after-gauge-layout = at-at .before .before in
+    let chosen = after-gauge-layout .before in
+    put-same (wrong-printed _ (chosen .if1 .left) _ (sym (after-gauge-layout .gauge-layout .ensures) ∙ ap gaugeLaid (at-at .at .given .1))) (after-put-refused2 .put-refused2 .ensures .0)
 
 same-length-3 : tie.Need-same-length-3
 same-length-3 c = search needs
 
 returns-3 : tie.Need-returns-3
-returns-3 c = put-same (right-printed _ (c .before .before .before .before .before .before .before .before .if1 .left) _ _ (sym (c .before .before .before .before .before .before .before .gauge-layout .ensures) ∙ ap gaugeLaid (c .before .before .before .before .before .count .given .1))) (c .before .before .print-laid .ensures)
+returns-3 c =
+    let after-print-laid = c .before .before in
+    let at-count = after-print-laid .before .before .before in
+    let after-gauge-layout = at-count .before .before in
+    let chosen = after-gauge-layout .before in
+    put-same (right-printed _ (chosen .if1 .left) _ _ (sym (after-gauge-layout .gauge-layout .ensures) ∙ ap gaugeLaid (at-count .count .given .1))) (after-print-laid .print-laid .ensures)
 
 pub print-spec : {M : Type 1} → statement M
 print-spec =

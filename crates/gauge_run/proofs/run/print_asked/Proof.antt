@@ -20,19 +20,30 @@ same-length : tie.Need-same-length
 same-length c = search needs
 
 returns : tie.Need-returns
-returns c = put-same (refused-printed _ _ _ (sym (c .before .before .before .before .before .before .before .asked-refusal .ensures) ∙ ap asVerdict (c .before .before .before .before .before .verdict .given .1))) (c .before .before .put-refused .ensures .0)
+returns c =
+    let after-put-refused = c .before .before in
+    let at-verdict = after-put-refused .before .before .before in
+    let after-asked-refusal = at-verdict .before .before in
+    put-same (refused-printed _ _ _ (sym (after-asked-refusal .asked-refusal .ensures) ∙ ap asVerdict (at-verdict .verdict .given .1))) (after-put-refused .put-refused .ensures .0)
 
 enum-told : tie.Need-enum-told
 enum-told c = search needs
 
 put-run-requires : tie.Need-put-run-requires
-put-run-requires c κs = (sym (c .before .before .before .asked-refusal .ensures) ∙ ap asVerdict (c .before .enum-told .given .1), c .before .before .before .before .before .before .before .pre)
+put-run-requires c κs =
+    let after-asked-refusal = c .before .before .before in
+    let start = after-asked-refusal .before .before .before .before in
+    (sym (after-asked-refusal .asked-refusal .ensures) ∙ ap asVerdict (c .before .enum-told .given .1), start .pre)
 
 same-length-2 : tie.Need-same-length-2
 same-length-2 c = search needs
 
 returns-2 : tie.Need-returns-2
-returns-2 c = put-same (passed-printed _ (sym (c .before .before .before .before .before .before .asked-refusal .ensures) ∙ ap asVerdict (c .before .before .before .before .enum-told .given .1))) (c .before .before .put-run .ensures)
+returns-2 c =
+    let after-put-run = c .before .before in
+    let at-enum-told = after-put-run .before .before in
+    let after-asked-refusal = at-enum-told .before .before in
+    put-same (passed-printed _ (sym (after-asked-refusal .asked-refusal .ensures) ∙ ap asVerdict (at-enum-told .enum-told .given .1))) (after-put-run .put-run .ensures)
 
 pub print-asked-spec : {M : Type 1} → statement M
 print-asked-spec =

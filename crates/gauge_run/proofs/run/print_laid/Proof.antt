@@ -51,7 +51,11 @@ array-share-prefix-triangles : tie.Need-array-share-prefix-triangles
 array-share-prefix-triangles c = search needs
 
 slice-aggregate-print-asked : tie.Need-slice-aggregate-print-asked
-slice-aggregate-print-asked c = sym (length-take-le _ _ (omega (arith, c .before .before .before .before .before .before .before .before .before .pre .0 .0, c .before .before .before .before .before .before .before .before .before .pre .0 .1, c .before .before .before .before .triangles2 .given)))
+slice-aggregate-print-asked c =
+    let at-triangles2 = c .before .before .before .before in
+    let after-read-f32s = at-triangles2 .before in
+    let start = after-read-f32s .before .before .before .before in
+    sym (length-take-le _ _ (omega (arith, start .pre .0 .0, start .pre .0 .1, at-triangles2 .triangles2 .given)))
 
 settings-of-requires : tie.Need-settings-of-requires
 settings-of-requires c κs = search needs
@@ -60,7 +64,11 @@ array-share-prefix-points : tie.Need-array-share-prefix-points
 array-share-prefix-points c = search needs
 
 slice-aggregate-print-asked-2 : tie.Need-slice-aggregate-print-asked-2
-slice-aggregate-print-asked-2 c = sym (length-take-le _ _ (omega (arith, c .before .before .before .before .before .before .before .before .before .before .before .pre .0 .0, c .before .before .before .before .before .before .before .before .before .before .before .pre .0 .1, c .before .before .before .points2 .given)))
+slice-aggregate-print-asked-2 c =
+    let at-points2 = c .before .before .before in
+    let after-read-f32s = at-points2 .before .before .before .before in
+    let start = after-read-f32s .before .before .before .before in
+    sym (length-take-le _ _ (omega (arith, start .pre .0 .0, start .pre .0 .1, at-points2 .points2 .given)))
 
 u32-at-requires : tie.Need-u32-at-requires
 u32-at-requires c κs = search needs
@@ -70,19 +78,31 @@ from-bits-requires c κs = search needs
 
 print-asked-requires : tie.Need-print-asked-requires
 print-asked-requires c κs =
-    fits (c .before .before .before .before .before .before .before .before .before .before .before .before .before .before .args .count) (c .before .before .before .before .before .before .before .before .before .before .before .before .before .before .args .touched) _ _ _
-    (length-take-le _ _ (omega (arith, c .before .before .before .before .before .before .before .before .before .before .before .before .before .before .pre .0 .0, c .before .before .before .before .before .before .before .before .before .before .before .before .before .before .pre .0 .1, c .before .before .before .before .before .before .before .before .before .triangles2 .given)))
-    (length-take-le _ _ (omega (arith, c .before .before .before .before .before .before .before .before .before .before .before .before .before .before .pre .0 .0, c .before .before .before .before .before .before .before .before .before .before .before .before .before .before .pre .0 .1, c .before .before .before .before .before .before .points2 .given)))
-    (omega (arith, c .before .before .before .before .before .before .before .before .before .before .before .before .before .before .pre .0 .0, c .before .before .before .before .before .before .before .before .before .before .before .before .before .before .pre .0 .1)) (c .before .before .before .before .before .before .before .before .before .before .before .before .before .before .pre .1)
+    let after-u32-at = c .before .before in
+    let at-points2 = after-u32-at .before .before .before .before in
+    let at-triangles2 = at-points2 .before .before .before in
+    let after-read-f32s = at-triangles2 .before in
+    let start = after-read-f32s .before .before .before .before in
+    fits (start .args .count) (start .args .touched) _ _ _
+    (length-take-le _ _ (omega (arith, start .pre .0 .0, start .pre .0 .1, at-triangles2 .triangles2 .given)))
+    (length-take-le _ _ (omega (arith, start .pre .0 .0, start .pre .0 .1, at-points2 .points2 .given)))
+    (omega (arith, start .pre .0 .0, start .pre .0 .1)) (start .pre .1)
 
 same-length : tie.Need-same-length
 same-length c = search needs
 
 returns : tie.Need-returns
 returns c =
+    let after-print-asked = c .before .before in
+    let after-from-bits = after-print-asked .before .before in
+    let after-u32-at = after-from-bits .before in
+    let after-settings-of = after-u32-at .before .before in
+    let after-read-f32s2 = after-settings-of .before .before .before in
+    let after-read-f32s = after-read-f32s2 .before .before .before in
+    let start = after-read-f32s .before .before .before .before in
     put-same
-    (ap printedRun (asked-is (now (c .before .before .before .before .before .before .before .before .before .before .before .before .before .before .before .before .before .args .input)) (c .before .before .before .before .before .before .before .before .before .before .before .before .before .before .before .before .before .args .count) (c .before .before .before .before .before .before .before .before .before .before .before .before .before .before .before .before .before .args .touched) _ _ _ _ _ _ (c .before .before .before .before .before .before .before .settings-of .ensures) (c .before .before .before .before .before .before .before .before .before .before .before .before .before .read-f32s .ensures) (c .before .before .before .before .before .before .before .before .before .before .read-f32s2 .ensures) (c .before .before .before .before .from-bits .ensures ∙ ap (ofBits binary32) (c .before .before .before .before .before .u32-at .ensures))))
-    (c .before .before .print-asked .ensures)
+    (ap printedRun (asked-is (now (start .args .input)) (start .args .count) (start .args .touched) _ _ _ _ _ _ (after-settings-of .settings-of .ensures) (after-read-f32s .read-f32s .ensures) (after-read-f32s2 .read-f32s2 .ensures) (after-from-bits .from-bits .ensures ∙ ap (ofBits binary32) (after-u32-at .u32-at .ensures))))
+    (after-print-asked .print-asked .ensures)
 
 pub print-laid-spec : {M : Type 1} → statement M
 print-laid-spec =

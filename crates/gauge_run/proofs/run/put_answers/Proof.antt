@@ -23,17 +23,26 @@ point-count-requires c κs = search needs
 
 put-answer-lines-requires : tie.Need-put-answer-lines-requires
 put-answer-lines-requires c κs =
-    let a = c .before .before .before .before .before .before .before .before .before .before .before .before .args in
-    let p = query-passed (now (a .triangles)) (now (a .order)) (now (a .links)) (now (a .boxes)) (a .nodes) (now (a .points)) (a .distance) 16380 (c .before .before .before .before .before .before .before .before .before .before .before .before .pre .0) in
-    (omega (arith, p .1, c .before .point-count .ensures, c .before .before .before .answers2 .given), omega (arith, c .before .before .before .before .before .before .before .before .before .before .before .before .pre .1, c .before .point-count .ensures))
+    let at-answers2 = c .before .before .before in
+    let after-sure-query = at-answers2 .before in
+    let known4 = after-sure-query .before .before .before .before in
+    let start = known4 .before .before .before .before in
+    let a = start .args in
+    let p = query-passed (now (a .triangles)) (now (a .order)) (now (a .links)) (now (a .boxes)) (a .nodes) (now (a .points)) (a .distance) 16380 (start .pre .0) in
+    (omega (arith, p .1, c .before .point-count .ensures, at-answers2 .answers2 .given), omega (arith, start .pre .1, c .before .point-count .ensures))
 
 same-length : tie.Need-same-length
 same-length c = search needs
 
 returns : tie.Need-returns
 returns c =
-    put-same (sure-lines _ _ _ _ _ (is-answered _ _ _ _ _ _ _ (c .before .before .before .before .before .before .before .sure-query .ensures .0) (c .before .before .before .before .before .before .before .before .before .before .before .before .before .before .before .pre .0) (c .before .before .before .before .before .before .before .sure-query .ensures .1)))
-    (rw (c .before .before .before .before .point-count .ensures) at (c .before .before .put-answer-lines .ensures))
+    let after-put-answer-lines = c .before .before in
+    let after-point-count = after-put-answer-lines .before .before in
+    let after-sure-query = after-point-count .before .before .before in
+    let known4 = after-sure-query .before .before .before .before in
+    let start = known4 .before .before .before .before in
+    put-same (sure-lines _ _ _ _ _ (is-answered _ _ _ _ _ _ _ (after-sure-query .sure-query .ensures .0) (start .pre .0) (after-sure-query .sure-query .ensures .1)))
+    (rw (after-point-count .point-count .ensures) at (after-put-answer-lines .put-answer-lines .ensures))
 
 pub put-answers-spec : {M : Type 1} → statement M
 put-answers-spec =

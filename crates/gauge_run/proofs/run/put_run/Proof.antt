@@ -32,9 +32,13 @@ enum-told c = search needs
 
 returns : tie.Need-returns
 returns c =
-    let a = c .before .before .before .before .before .before .before .before .before .before .before .before .args in
+    let at-boxes2 = c .before .before in
+    let after-build = at-boxes2 .before .before .before in
+    let at-order = after-build .before .before .before in
+    let start = at-order .before .before .before .before in
+    let a = start .args in
     let asked : Asked = record { settings = asSettings (a .settings); triangles = now (a .triangles); points = now (a .points); distance = a .distance } in
-    absurd (is-built asked (all-passed asked (c .before .before .before .before .before .before .before .before .before .before .before .before .pre .0)) _ _ _ (c .before .before .before .before .before .before .before .before .before .before .before .before .pre .1 .triangles-few) refl refl refl _ _ _ _ _ (rw (c .enum-told .given .1) at (c .before .before .before .before .before .build .ensures)))
+    absurd (is-built asked (all-passed asked (start .pre .0)) _ _ _ (start .pre .1 .triangles-few) refl refl refl _ _ _ _ _ (rw (c .enum-told .given .1) at (after-build .build .ensures)))
 
 triangle-count-requires : tie.Need-triangle-count-requires
 triangle-count-requires c κs = search needs
@@ -47,7 +51,13 @@ array-share-prefix-order c = search needs
 
 slice-aggregate-put-answers : tie.Need-slice-aggregate-put-answers
 slice-aggregate-put-answers c =
-    sym (length-take-le _ _ (omega (arith, c .before .before .before .before .before .triangle-count .ensures, c .before .before .before .before .before .before .before .before .before .before .before .before .before .before .before .before .before .before .before .pre .1 .triangles-few, c .before .before .before .before .before .before .before .before .before .before .before .order2 .given)))
+    let after-put-counts = c .before .before .before in
+    let after-triangle-count = after-put-counts .before .before in
+    let at-nodes = after-triangle-count .before .before in
+    let at-order2 = at-nodes .before .before .before .before in
+    let at-order = at-order2 .before .before .before .before in
+    let start = at-order .before .before .before .before in
+    sym (length-take-le _ _ (omega (arith, after-triangle-count .triangle-count .ensures, start .pre .1 .triangles-few, at-order2 .order2 .given)))
 
 slice-aggregate-put-answers-2 : tie.Need-slice-aggregate-put-answers-2
 slice-aggregate-put-answers-2 c = search needs
@@ -57,10 +67,18 @@ slice-aggregate-put-answers-3 c = search needs
 
 put-answers-requires : tie.Need-put-answers-requires
 put-answers-requires c κs =
-    let a = c .before .before .before .before .before .before .before .before .before .before .before .before .before .before .before .before .before .before .before .before .before .before .args in
+    let at-order3 = c .before .before .before in
+    let after-put-counts = at-order3 .before .before .before in
+    let after-triangle-count = after-put-counts .before .before in
+    let at-nodes = after-triangle-count .before .before in
+    let at-boxes2 = at-nodes .before .before in
+    let after-build = at-boxes2 .before .before .before in
+    let at-order = after-build .before .before .before in
+    let start = at-order .before .before .before .before in
+    let a = start .args in
     let asked : Asked = record { settings = asSettings (a .settings); triangles = now (a .triangles); points = now (a .points); distance = a .distance } in (
-      query-passes asked (all-passed asked (c .before .before .before .before .before .before .before .before .before .before .before .before .before .before .before .before .before .before .before .before .before .before .pre .0)) _ _ _ (c .before .before .before .before .before .before .before .before .before .before .before .before .before .before .before .before .before .before .before .before .before .before .pre .1 .triangles-few) refl refl refl _ _ _ _ _ (rw (c .before .before .before .before .before .before .before .before .before .before .nodes .given .1) at (c .before .before .before .before .before .before .before .before .before .before .before .before .before .before .before .build .ensures)) _ (c .before .before .before .before .before .before .before .before .triangle-count .ensures) (c .before .before .before .before .before .before .before .before .before .before .before .before .before .before .before .before .before .before .before .before .before .before .pre .1 .points-few),
-      omega (arith, c .before .before .before .before .before .before .put-counts .ensures .1, put-long (c .before .before .before .before .before .before .put-counts .ensures .0), c .before .before .before .before .before .before .before .before .before .before .before .before .before .before .before .before .before .before .before .before .before .before .pre .1 .room, c .before .before .before .before .before .before .before .before .before .before .before .before .before .before .before .before .before .before .before .before .before .before .pre .1 .points-few),
+      query-passes asked (all-passed asked (start .pre .0)) _ _ _ (start .pre .1 .triangles-few) refl refl refl _ _ _ _ _ (rw (at-nodes .nodes .given .1) at (after-build .build .ensures)) _ (after-triangle-count .triangle-count .ensures) (start .pre .1 .points-few),
+      omega (arith, after-put-counts .put-counts .ensures .1, put-long (after-put-counts .put-counts .ensures .0), start .pre .1 .room, start .pre .1 .points-few),
     )
 
 same-length : tie.Need-same-length
@@ -68,11 +86,20 @@ same-length c = search needs
 
 returns-2 : tie.Need-returns-2
 returns-2 c =
-    let a = c .before .before .before .before .before .before .before .before .before .before .before .before .before .before .before .before .before .before .before .before .before .before .before .before .before .args in
+    let after-put-answers = c .before .before in
+    let at-links3 = after-put-answers .before .before .before in
+    let after-put-counts = at-links3 .before .before .before .before in
+    let after-triangle-count = after-put-counts .before .before in
+    let at-nodes = after-triangle-count .before .before in
+    let at-boxes2 = at-nodes .before .before in
+    let after-build = at-boxes2 .before .before .before in
+    let at-order = after-build .before .before .before in
+    let start = at-order .before .before .before .before in
+    let a = start .args in
     let asked : Asked = record { settings = asSettings (a .settings); triangles = now (a .triangles); points = now (a .points); distance = a .distance } in
     put-then
-    (put-same (tree-line asked (all-passed asked (c .before .before .before .before .before .before .before .before .before .before .before .before .before .before .before .before .before .before .before .before .before .before .before .before .before .pre .0)) _ _ _ (c .before .before .before .before .before .before .before .before .before .before .before .before .before .before .before .before .before .before .before .before .before .before .before .before .before .pre .1 .triangles-few) refl refl refl _ _ _ _ _ (rw (c .before .before .before .before .before .before .before .before .before .before .before .before .before .nodes .given .1) at (c .before .before .before .before .before .before .before .before .before .before .before .before .before .before .before .before .before .before .build .ensures)) _ (c .before .before .before .before .before .before .before .before .before .before .before .triangle-count .ensures)) (c .before .before .before .before .before .before .before .before .before .put-counts .ensures .0))
-    (c .before .before .put-answers .ensures)
+    (put-same (tree-line asked (all-passed asked (start .pre .0)) _ _ _ (start .pre .1 .triangles-few) refl refl refl _ _ _ _ _ (rw (at-nodes .nodes .given .1) at (after-build .build .ensures)) _ (after-triangle-count .triangle-count .ensures)) (after-put-counts .put-counts .ensures .0))
+    (after-put-answers .put-answers .ensures)
 
 pub put-run-spec : {M : Type 1} → statement M
 put-run-spec =

@@ -30,7 +30,11 @@ abbrev calls : ℕ → grow-lts.Claims
 calls t = (put-leaf-reads.Asked, put-leaf-reads.Learnt, try-part-reads.Asked, try-part-reads.Learnt, grow-below t, grow.Post, put-branch-reads.Asked, put-branch-reads.Learnt)
 
 grow-put-leaf-requires : (t : ℕ) → grow-lts.Need-put-leaf-requires (calls t) (grow-at t) grow.Post
-grow-put-leaf-requires t c κs = leaf-asks binary32 _ (c .before .before .before .before .before .before .before .before .before .before .args .centres .now) (c .before .before .before .before .before .before .before .before .before .before .args .strategy) _ (c .before .before .before .before .before .before .before .before .before .before .pre .1)
+grow-put-leaf-requires t c κs =
+    let chosen = c .before .before .before in
+    let known2 = chosen .before .before .before in
+    let start = known2 .before .before .before .before in
+    leaf-asks binary32 _ (start .args .centres .now) (start .args .strategy) _ (start .pre .1)
 
 grow-same-length : (t : ℕ) → grow-lts.Need-same-length (calls t) (grow-at t) grow.Post
 grow-same-length t c = search needs
@@ -42,10 +46,19 @@ grow-same-length-3 : (t : ℕ) → grow-lts.Need-same-length-3 (calls t) (grow-a
 grow-same-length-3 t c = search needs
 
 grow-returns : (t : ℕ) → grow-lts.Need-returns (calls t) (grow-at t) grow.Post
-grow-returns t c = limit-gives binary32 _ _ _ _ (c .before .before .before .before .before .before .before .before .before .before .before .before .before .before .before .pre .1) _ _ _ _ _ (c .before .before .before .before .before .before .before .before .if1 .taken) (c .before .before .before .before .put-leaf .ensures)
+grow-returns t c =
+    let after-put-leaf = c .before .before .before .before in
+    let chosen = after-put-leaf .before .before .before .before in
+    let known2 = chosen .before .before .before in
+    let start = known2 .before .before .before .before in
+    limit-gives binary32 _ _ _ _ (start .pre .1) _ _ _ _ _ (chosen .if1 .taken) (after-put-leaf .put-leaf .ensures)
 
 grow-try-part-requires : (t : ℕ) → grow-lts.Need-try-part-requires (calls t) (grow-at t) grow.Post
-grow-try-part-requires t c κs = try-asks binary32 _ _ (c .before .before .before .before .before .before .before .before .before .args .strategy) _ (c .before .before .before .before .before .before .before .before .before .pre .1) (c .before .before .if1 .left)
+grow-try-part-requires t c κs =
+    let chosen = c .before .before in
+    let known2 = chosen .before .before .before in
+    let start = known2 .before .before .before .before in
+    try-asks binary32 _ _ (start .args .strategy) _ (start .pre .1) (chosen .if1 .left)
 
 grow-enum-known-cut : (t : ℕ) → grow-lts.Need-enum-known-cut (calls t) (grow-at t) grow.Post
 grow-enum-known-cut t c = search needs
@@ -54,7 +67,14 @@ grow-enum-told : (t : ℕ) → grow-lts.Need-enum-told (calls t) (grow-at t) gro
 grow-enum-told t c = search needs
 
 grow-put-leaf-requires-2 : (t : ℕ) → grow-lts.Need-put-leaf-requires-2 (calls t) (grow-at t) grow.Post
-grow-put-leaf-requires-2 t c κs = uncut-asks binary32 _ _ (c .before .before .before .before .before .before .before .before .before .before .before .before .before .before .before .before .before .before .before .args .strategy) _ (c .before .before .before .before .before .before .before .before .before .before .before .before .before .before .before .before .before .before .before .pre .1) (c .before .before .before .before .before .before .before .before .before .before .before .before .if1 .left) _ (asSplit (c .before .before .before .before .before .before .before .before .before .try-part .result)) (c .before .before .before .before .before .before .before .before .before .try-part .ensures)
+grow-put-leaf-requires-2 t c κs =
+    let at-enum-told = c .before .before .before in
+    let at-scratch = at-enum-told .before .before .before in
+    let after-try-part = at-scratch .before .before .before in
+    let chosen = after-try-part .before .before .before in
+    let known2 = chosen .before .before .before in
+    let start = known2 .before .before .before .before in
+    uncut-asks binary32 _ _ (start .args .strategy) _ (start .pre .1) (chosen .if1 .left) _ (asSplit (after-try-part .try-part .result)) (after-try-part .try-part .ensures)
 
 grow-same-length-4 : (t : ℕ) → grow-lts.Need-same-length-4 (calls t) (grow-at t) grow.Post
 grow-same-length-4 t c = search needs
@@ -69,67 +89,250 @@ grow-same-length-7 : (t : ℕ) → grow-lts.Need-same-length-7 (calls t) (grow-a
 grow-same-length-7 t c = search needs
 
 grow-returns-2 : (t : ℕ) → grow-lts.Need-returns-2 (calls t) (grow-at t) grow.Post
-grow-returns-2 t c = uncut-gives binary32 _ _ _ _ (c .before .before .before .before .before .before .before .before .before .before .before .before .before .before .before .before .before .before .before .before .before .before .before .before .pre .1) (c .before .before .before .before .before .before .before .before .before .before .before .before .before .before .before .before .before .if1 .left) _ (asSplit (c .before .before .before .before .before .before .before .before .before .before .before .before .before .before .try-part .result)) (c .before .before .before .before .before .before .before .before .before .before .before .before .before .before .try-part .ensures) _ _ _ _ _ (ap asSplit (c .before .before .before .before .before .before .before .before .enum-told .given .1)) (c .before .before .before .before .put-leaf2 .ensures)
+grow-returns-2 t c =
+    let after-put-leaf2 = c .before .before .before .before in
+    let at-enum-told = after-put-leaf2 .before .before .before .before in
+    let at-scratch = at-enum-told .before .before .before in
+    let after-try-part = at-scratch .before .before .before in
+    let chosen = after-try-part .before .before .before in
+    let known2 = chosen .before .before .before in
+    let start = known2 .before .before .before .before in
+    uncut-gives binary32 _ _ _ _ (start .pre .1) (chosen .if1 .left) _ (asSplit (after-try-part .try-part .result)) (after-try-part .try-part .ensures) _ _ _ _ _ (ap asSplit (at-enum-told .enum-told .given .1)) (after-put-leaf2 .put-leaf2 .ensures)
 
 grow-sub-grow : (t : ℕ) → grow-lts.Need-sub-grow (calls t) (grow-at t) grow.Post
-grow-sub-grow t c = some-left binary32 _ _ (c .before .before .before .before .before .before .before .before .before .before .before .before .before .before .before .before .before .args .strategy) _ (c .before .before .before .before .before .before .before .before .before .before .before .before .before .before .before .before .before .pre .1) (c .before .before .before .before .before .before .before .before .before .before .if1 .left)
+grow-sub-grow t c =
+    let at-scratch = c .before .before .before .before in
+    let after-try-part = at-scratch .before .before .before in
+    let chosen = after-try-part .before .before .before in
+    let known2 = chosen .before .before .before in
+    let start = known2 .before .before .before .before in
+    some-left binary32 _ _ (start .args .strategy) _ (start .pre .1) (chosen .if1 .left)
 
 grow-slice-relend-prefix-grow : (t : ℕ) → grow-lts.Need-slice-relend-prefix-grow (calls t) (grow-at t) grow.Post
-grow-slice-relend-prefix-grow t c = omega (arith, cut-within binary32 _ _ (c .before .before .before .before .before .before .before .before .before .before .before .before .before .before .before .before .before .args .strategy) _ (c .before .before .before .before .before .before .before .before .before .before .before .before .before .before .before .before .before .pre .1) (c .before .before .before .before .before .before .before .before .before .before .if1 .left) _ (asSplit (c .before .before .before .before .before .before .before .try-part .result)) (c .before .before .before .before .before .before .before .try-part .ensures) _ (ap asSplit (c .before .cut .given .1)))
+grow-slice-relend-prefix-grow t c =
+    let at-scratch = c .before .before .before .before in
+    let after-try-part = at-scratch .before .before .before in
+    let chosen = after-try-part .before .before .before in
+    let known2 = chosen .before .before .before in
+    let start = known2 .before .before .before .before in
+    omega (arith, cut-within binary32 _ _ (start .args .strategy) _ (start .pre .1) (chosen .if1 .left) _ (asSplit (after-try-part .try-part .result)) (after-try-part .try-part .ensures) _ (ap asSplit (c .before .cut .given .1)))
 
 grow-slice-aggregate-grow : (t : ℕ) → grow-lts.Need-slice-aggregate-grow (calls t) (grow-at t) grow.Post
-grow-slice-aggregate-grow t c = sym (left-long binary32 _ _ (c .before .before .before .before .before .before .before .before .before .before .before .before .before .before .before .before .before .before .args .strategy) _ (c .before .before .before .before .before .before .before .before .before .before .before .before .before .before .before .before .before .before .pre .1) (c .before .before .before .before .before .before .before .before .before .before .before .if1 .left) _ (asSplit (c .before .before .before .before .before .before .before .before .try-part .result)) (c .before .before .before .before .before .before .before .before .try-part .ensures) _ (ap asSplit (c .before .before .cut .given .1)))
+grow-slice-aggregate-grow t c =
+    let at-cut = c .before .before in
+    let at-scratch = at-cut .before .before .before in
+    let after-try-part = at-scratch .before .before .before in
+    let chosen = after-try-part .before .before .before in
+    let known2 = chosen .before .before .before in
+    let start = known2 .before .before .before .before in
+    sym (left-long binary32 _ _ (start .args .strategy) _ (start .pre .1) (chosen .if1 .left) _ (asSplit (after-try-part .try-part .result)) (after-try-part .try-part .ensures) _ (ap asSplit (at-cut .cut .given .1)))
 
 grow-grow-requires : (t : ℕ) → grow-lts.Need-grow-requires (calls t) (grow-at t) grow.Post
-grow-grow-requires t c κs = (
-  omega (arith, c .before .before .before .before .before .before .before .before .before .before .before .before .before .before .before .before .before .before .before .before .before .pre .0, some-left binary32 _ _ (c .before .before .before .before .before .before .before .before .before .before .before .before .before .before .before .before .before .before .before .before .before .args .strategy) _ (c .before .before .before .before .before .before .before .before .before .before .before .before .before .before .before .before .before .before .before .before .before .pre .1) (c .before .before .before .before .before .before .before .before .before .before .before .before .before .before .if1 .left)),
-  left-asks binary32 _ _ (c .before .before .before .before .before .before .before .before .before .before .before .before .before .before .before .before .before .before .before .before .before .args .strategy) _ (c .before .before .before .before .before .before .before .before .before .before .before .before .before .before .before .before .before .before .before .before .before .pre .1) (c .before .before .before .before .before .before .before .before .before .before .before .before .before .before .if1 .left) _ (asSplit (c .before .before .before .before .before .before .before .before .before .before .before .try-part .result)) (c .before .before .before .before .before .before .before .before .before .before .before .try-part .ensures) _ (ap asSplit (c .before .before .before .before .before .cut .given .1)) _ (c .before .before .before .before .before .before .before .before .before .before .before .try-part .kept .1 .1 .1 .1 .0),
-)
+grow-grow-requires t c κs =
+    let at-grow-arg2 = c .before .before in
+    let at-cut = at-grow-arg2 .before .before .before in
+    let at-scratch = at-cut .before .before .before in
+    let after-try-part = at-scratch .before .before .before in
+    let chosen = after-try-part .before .before .before in
+    let known2 = chosen .before .before .before in
+    let start = known2 .before .before .before .before in (
+      omega (arith, start .pre .0, some-left binary32 _ _ (start .args .strategy) _ (start .pre .1) (chosen .if1 .left)),
+      left-asks binary32 _ _ (start .args .strategy) _ (start .pre .1) (chosen .if1 .left) _ (asSplit (after-try-part .try-part .result)) (after-try-part .try-part .ensures) _ (ap asSplit (at-cut .cut .given .1)) _ (after-try-part .try-part .kept .1 .1 .1 .1 .0),
+    )
 
 grow-sub-grow-2 : (t : ℕ) → grow-lts.Need-sub-grow-2 (calls t) (grow-at t) grow.Post
-grow-sub-grow-2 t c = some-left binary32 _ _ (c .before .before .before .before .before .before .before .before .before .before .before .before .before .before .before .before .before .before .before .before .before .before .before .before .before .before .before .before .before .before .args .strategy) _ (c .before .before .before .before .before .before .before .before .before .before .before .before .before .before .before .before .before .before .before .before .before .before .before .before .before .before .before .before .before .before .pre .1) (c .before .before .before .before .before .before .before .before .before .before .before .before .before .before .before .before .before .before .before .before .before .before .before .if1 .left)
+grow-sub-grow-2 t c =
+    let known12 = c .before .before .before .before in
+    let after-grow = known12 .before .before .before .before in
+    let at-grow-arg = after-grow .before .before .before .before in
+    let known8 = at-grow-arg .before .before .before .before in
+    let after-try-part = known8 .before .before .before .before in
+    let chosen = after-try-part .before .before .before in
+    let known2 = chosen .before .before .before in
+    let start = known2 .before .before .before .before in
+    some-left binary32 _ _ (start .args .strategy) _ (start .pre .1) (chosen .if1 .left)
 
 grow-mul-grow : (t : ℕ) → grow-lts.Need-mul-grow (calls t) (grow-at t) grow.Post
-grow-mul-grow t c = omega (arith, cut-ends binary32 _ _ (c .before .before .before .before .before .before .before .before .before .before .before .before .before .before .before .before .before .before .before .before .before .before .before .before .before .before .before .before .before .before .args .strategy) _ (c .before .before .before .before .before .before .before .before .before .before .before .before .before .before .before .before .before .before .before .before .before .before .before .before .before .before .before .before .before .before .pre .1) (c .before .before .before .before .before .before .before .before .before .before .before .before .before .before .before .before .before .before .before .before .before .before .before .if1 .left) _ (asSplit (c .before .before .before .before .before .before .before .before .before .before .before .before .before .before .before .before .before .before .before .before .try-part .result)) (c .before .before .before .before .before .before .before .before .before .before .before .before .before .before .before .before .before .before .before .before .try-part .ensures) _ (ap asSplit (c .before .before .before .before .before .before .before .before .before .before .before .before .before .before .cut .given .1)))
+grow-mul-grow t c =
+    let at-links3 = c .before .before .before in
+    let at-part2 = at-links3 .before .before .before .before in
+    let at-grow-arg3 = at-part2 .before .before .before in
+    let at-cut = at-grow-arg3 .before .before .before .before in
+    let at-scratch = at-cut .before .before .before in
+    let after-try-part = at-scratch .before .before .before in
+    let chosen = after-try-part .before .before .before in
+    let known2 = chosen .before .before .before in
+    let start = known2 .before .before .before .before in
+    omega (arith, cut-ends binary32 _ _ (start .args .strategy) _ (start .pre .1) (chosen .if1 .left) _ (asSplit (after-try-part .try-part .result)) (after-try-part .try-part .ensures) _ (ap asSplit (at-cut .cut .given .1)))
 
 grow-sub-grow-3 : (t : ℕ) → grow-lts.Need-sub-grow-3 (calls t) (grow-at t) grow.Post
-grow-sub-grow-3 t c = cut-within-now binary32 _ _ (c .before .before .before .before .before .before .before .before .before .before .before .before .before .before .before .before .before .before .before .before .before .before .before .before .before .before .before .before .before .before .args .strategy) _ (c .before .before .before .before .before .before .before .before .before .before .before .before .before .before .before .before .before .before .before .before .before .before .before .before .before .before .before .before .before .before .pre .1) (c .before .before .before .before .before .before .before .before .before .before .before .before .before .before .before .before .before .before .before .before .before .before .before .if1 .left) _ (asSplit (c .before .before .before .before .before .before .before .before .before .before .before .before .before .before .before .before .before .before .before .before .try-part .result)) (c .before .before .before .before .before .before .before .before .before .before .before .before .before .before .before .before .before .before .before .before .try-part .ensures) _ (ap asSplit (c .before .before .before .before .before .before .before .before .before .before .before .before .before .before .cut .given .1)) _ _ _ _ _ _ (c .before .before .before .before .before .before .before .before .grow .ensures)
+grow-sub-grow-3 t c =
+    let known12 = c .before .before .before .before in
+    let after-grow = known12 .before .before .before .before in
+    let at-grow-arg2 = after-grow .before .before .before in
+    let at-cut = at-grow-arg2 .before .before .before in
+    let at-scratch = at-cut .before .before .before in
+    let after-try-part = at-scratch .before .before .before in
+    let chosen = after-try-part .before .before .before in
+    let known2 = chosen .before .before .before in
+    let start = known2 .before .before .before .before in
+    cut-within-now binary32 _ _ (start .args .strategy) _ (start .pre .1) (chosen .if1 .left) _ (asSplit (after-try-part .try-part .result)) (after-try-part .try-part .ensures) _ (ap asSplit (at-cut .cut .given .1)) _ _ _ _ _ _ (after-grow .grow .ensures)
 
 grow-part-grow-start : (t : ℕ) → grow-lts.Need-part-grow-start (calls t) (grow-at t) grow.Post
-grow-part-grow-start t c = cut-within-now binary32 _ _ (c .before .before .before .before .before .before .before .before .before .before .before .before .before .before .before .before .before .before .before .before .before .before .before .before .before .before .before .before .before .before .args .strategy) _ (c .before .before .before .before .before .before .before .before .before .before .before .before .before .before .before .before .before .before .before .before .before .before .before .before .before .before .before .before .before .before .pre .1) (c .before .before .before .before .before .before .before .before .before .before .before .before .before .before .before .before .before .before .before .before .before .before .before .if1 .left) _ (asSplit (c .before .before .before .before .before .before .before .before .before .before .before .before .before .before .before .before .before .before .before .before .try-part .result)) (c .before .before .before .before .before .before .before .before .before .before .before .before .before .before .before .before .before .before .before .before .try-part .ensures) _ (ap asSplit (c .before .before .before .before .before .before .before .before .before .before .before .before .before .before .cut .given .1)) _ _ _ _ _ _ (c .before .before .before .before .before .before .before .before .grow .ensures)
+grow-part-grow-start t c =
+    let known12 = c .before .before .before .before in
+    let after-grow = known12 .before .before .before .before in
+    let at-grow-arg2 = after-grow .before .before .before in
+    let at-cut = at-grow-arg2 .before .before .before in
+    let at-scratch = at-cut .before .before .before in
+    let after-try-part = at-scratch .before .before .before in
+    let chosen = after-try-part .before .before .before in
+    let known2 = chosen .before .before .before in
+    let start = known2 .before .before .before .before in
+    cut-within-now binary32 _ _ (start .args .strategy) _ (start .pre .1) (chosen .if1 .left) _ (asSplit (after-try-part .try-part .result)) (after-try-part .try-part .ensures) _ (ap asSplit (at-cut .cut .given .1)) _ _ _ _ _ _ (after-grow .grow .ensures)
 
 grow-part-grow-end : (t : ℕ) → grow-lts.Need-part-grow-end (calls t) (grow-at t) grow.Post
 grow-part-grow-end t c = search needs
 
 grow-add-grow : (t : ℕ) → grow-lts.Need-add-grow (calls t) (grow-at t) grow.Post
-grow-add-grow t c = omega (arith, cut-ends binary32 _ _ (c .before .before .before .before .before .before .before .before .before .before .before .before .before .before .before .before .before .before .before .before .before .before .before .before .before .before .before .before .before .before .before .before .args .strategy) _ (c .before .before .before .before .before .before .before .before .before .before .before .before .before .before .before .before .before .before .before .before .before .before .before .before .before .before .before .before .before .before .before .before .pre .1) (c .before .before .before .before .before .before .before .before .before .before .before .before .before .before .before .before .before .before .before .before .before .before .before .before .before .if1 .left) _ (asSplit (c .before .before .before .before .before .before .before .before .before .before .before .before .before .before .before .before .before .before .before .before .before .before .try-part .result)) (c .before .before .before .before .before .before .before .before .before .before .before .before .before .before .before .before .before .before .before .before .before .before .try-part .ensures) _ (ap asSplit (c .before .before .before .before .before .before .before .before .before .before .before .before .before .before .before .before .cut .given .1)))
+grow-add-grow t c =
+    let known13 = c .before .before .before .before in
+    let known11 = known13 .before .before .before .before in
+    let at-grow-arg3 = known11 .before .before .before .before in
+    let at-cut = at-grow-arg3 .before .before .before .before in
+    let at-scratch = at-cut .before .before .before in
+    let after-try-part = at-scratch .before .before .before in
+    let chosen = after-try-part .before .before .before in
+    let known2 = chosen .before .before .before in
+    let start = known2 .before .before .before .before in
+    omega (arith, cut-ends binary32 _ _ (start .args .strategy) _ (start .pre .1) (chosen .if1 .left) _ (asSplit (after-try-part .try-part .result)) (after-try-part .try-part .ensures) _ (ap asSplit (at-cut .cut .given .1)))
 
 grow-add-grow-2 : (t : ℕ) → grow-lts.Need-add-grow-2 (calls t) (grow-at t) grow.Post
-grow-add-grow-2 t c = omega (arith, left-root-few binary32 _ _ (c .before .before .before .before .before .before .before .before .before .before .before .before .before .before .before .before .before .before .before .before .before .before .before .before .before .before .before .before .before .before .before .before .before .before .before .args .strategy) _ (c .before .before .before .before .before .before .before .before .before .before .before .before .before .before .before .before .before .before .before .before .before .before .before .before .before .before .before .before .before .before .before .before .before .before .before .pre .1) (c .before .before .before .before .before .before .before .before .before .before .before .before .before .before .before .before .before .before .before .before .before .before .before .before .before .before .before .before .if1 .left) _ (asSplit (c .before .before .before .before .before .before .before .before .before .before .before .before .before .before .before .before .before .before .before .before .before .before .before .before .before .try-part .result)) (c .before .before .before .before .before .before .before .before .before .before .before .before .before .before .before .before .before .before .before .before .before .before .before .before .before .try-part .ensures) _ (ap asSplit (c .before .before .before .before .before .before .before .before .before .before .before .before .before .before .before .before .before .before .before .cut .given .1)) _ _ _ _ _ _ (c .before .before .before .before .before .before .before .before .before .before .before .before .before .grow .ensures))
+grow-add-grow-2 t c =
+    let at-grow-arg6 = c .before .before .before in
+    let at-boxes3 = at-grow-arg6 .before .before .before in
+    let at-scratch2 = at-boxes3 .before .before .before .before in
+    let after-grow = at-scratch2 .before .before .before in
+    let at-grow-arg2 = after-grow .before .before .before in
+    let at-cut = at-grow-arg2 .before .before .before in
+    let at-scratch = at-cut .before .before .before in
+    let after-try-part = at-scratch .before .before .before in
+    let chosen = after-try-part .before .before .before in
+    let known2 = chosen .before .before .before in
+    let start = known2 .before .before .before .before in
+    omega (arith, left-root-few binary32 _ _ (start .args .strategy) _ (start .pre .1) (chosen .if1 .left) _ (asSplit (after-try-part .try-part .result)) (after-try-part .try-part .ensures) _ (ap asSplit (at-cut .cut .given .1)) _ _ _ _ _ _ (after-grow .grow .ensures))
 
 grow-grow-requires-2 : (t : ℕ) → grow-lts.Need-grow-requires-2 (calls t) (grow-at t) grow.Post
-grow-grow-requires-2 t c κs = (
-  omega (arith, c .before .before .before .before .before .before .before .before .before .before .before .before .before .before .before .before .before .before .before .before .before .before .before .before .before .before .before .before .before .before .before .before .before .before .before .pre .0, some-left binary32 _ _ (c .before .before .before .before .before .before .before .before .before .before .before .before .before .before .before .before .before .before .before .before .before .before .before .before .before .before .before .before .before .before .before .before .before .before .before .args .strategy) _ (c .before .before .before .before .before .before .before .before .before .before .before .before .before .before .before .before .before .before .before .before .before .before .before .before .before .before .before .before .before .before .before .before .before .before .before .pre .1) (c .before .before .before .before .before .before .before .before .before .before .before .before .before .before .before .before .before .before .before .before .before .before .before .before .before .before .before .before .if1 .left)),
-  right-asks binary32 _ _ (c .before .before .before .before .before .before .before .before .before .before .before .before .before .before .before .before .before .before .before .before .before .before .before .before .before .before .before .before .before .before .before .before .before .before .before .args .strategy) _ (c .before .before .before .before .before .before .before .before .before .before .before .before .before .before .before .before .before .before .before .before .before .before .before .before .before .before .before .before .before .before .before .before .before .before .before .pre .1) (c .before .before .before .before .before .before .before .before .before .before .before .before .before .before .before .before .before .before .before .before .before .before .before .before .before .before .before .before .if1 .left) _ (asSplit (c .before .before .before .before .before .before .before .before .before .before .before .before .before .before .before .before .before .before .before .before .before .before .before .before .before .try-part .result)) (c .before .before .before .before .before .before .before .before .before .before .before .before .before .before .before .before .before .before .before .before .before .before .before .before .before .try-part .ensures) _ (ap asSplit (c .before .before .before .before .before .before .before .before .before .before .before .before .before .before .before .before .before .before .before .cut .given .1)) _ _ _ _ _ _ (c .before .before .before .before .before .before .before .before .before .before .before .before .before .grow .ensures) _ (c .before .before .before .before .before .before .before .before .before .before .before .before .before .grow .kept .1 .1 .1 .1 .1 .1 .0 ∙ c .before .before .before .before .before .before .before .before .before .before .before .before .before .before .before .before .before .before .before .before .before .before .before .before .before .try-part .kept .1 .1 .1 .1 .0),
-)
+grow-grow-requires-2 t c κs =
+    let at-grow-arg6 = c .before .before .before in
+    let at-boxes3 = at-grow-arg6 .before .before .before in
+    let at-scratch2 = at-boxes3 .before .before .before .before in
+    let after-grow = at-scratch2 .before .before .before in
+    let at-grow-arg2 = after-grow .before .before .before in
+    let at-cut = at-grow-arg2 .before .before .before in
+    let at-scratch = at-cut .before .before .before in
+    let after-try-part = at-scratch .before .before .before in
+    let chosen = after-try-part .before .before .before in
+    let known2 = chosen .before .before .before in
+    let start = known2 .before .before .before .before in (
+      omega (arith, start .pre .0, some-left binary32 _ _ (start .args .strategy) _ (start .pre .1) (chosen .if1 .left)),
+      right-asks binary32 _ _ (start .args .strategy) _ (start .pre .1) (chosen .if1 .left) _ (asSplit (after-try-part .try-part .result)) (after-try-part .try-part .ensures) _ (ap asSplit (at-cut .cut .given .1)) _ _ _ _ _ _ (after-grow .grow .ensures) _ (after-grow .grow .kept .1 .1 .1 .1 .1 .1 .0 ∙ after-try-part .try-part .kept .1 .1 .1 .1 .0),
+    )
 
 grow-put-branch-requires : (t : ℕ) → grow-lts.Need-put-branch-requires (calls t) (grow-at t) grow.Post
-grow-put-branch-requires t c κs = branch-asks binary32 _ _ (c .before .before .before .before .before .before .before .before .before .before .before .before .before .before .before .before .before .before .before .before .before .before .before .before .before .before .before .before .before .before .before .before .before .before .before .before .before .before .before .before .before .before .before .before .before .before .args .strategy) _ (c .before .before .before .before .before .before .before .before .before .before .before .before .before .before .before .before .before .before .before .before .before .before .before .before .before .before .before .before .before .before .before .before .before .before .before .before .before .before .before .before .before .before .before .before .before .before .pre .1) (c .before .before .before .before .before .before .before .before .before .before .before .before .before .before .before .before .before .before .before .before .before .before .before .before .before .before .before .before .before .before .before .before .before .before .before .before .before .before .before .if1 .left) _ (asSplit (c .before .before .before .before .before .before .before .before .before .before .before .before .before .before .before .before .before .before .before .before .before .before .before .before .before .before .before .before .before .before .before .before .before .before .before .before .try-part .result)) (c .before .before .before .before .before .before .before .before .before .before .before .before .before .before .before .before .before .before .before .before .before .before .before .before .before .before .before .before .before .before .before .before .before .before .before .before .try-part .ensures) _ (ap asSplit (c .before .before .before .before .before .before .before .before .before .before .before .before .before .before .before .before .before .before .before .before .before .before .before .before .before .before .before .before .before .before .cut .given .1)) _ _ _ _ _ _ (c .before .before .before .before .before .before .before .before .before .before .before .before .before .before .before .before .before .before .before .before .before .before .before .before .grow .ensures) _ _ _ _ _ _ (c .before .before .before .before .before .before .before .before .before .before .grow2 .ensures)
+grow-put-branch-requires t c κs =
+    let at-boxes4 = c .before .before .before in
+    let at-scratch3 = at-boxes4 .before .before .before .before in
+    let after-grow2 = at-scratch3 .before .before .before in
+    let at-grow-arg7 = after-grow2 .before .before .before in
+    let at-boxes3 = at-grow-arg7 .before .before .before .before in
+    let at-scratch2 = at-boxes3 .before .before .before .before in
+    let after-grow = at-scratch2 .before .before .before in
+    let at-grow-arg2 = after-grow .before .before .before in
+    let at-cut = at-grow-arg2 .before .before .before in
+    let at-scratch = at-cut .before .before .before in
+    let after-try-part = at-scratch .before .before .before in
+    let chosen = after-try-part .before .before .before in
+    let known2 = chosen .before .before .before in
+    let start = known2 .before .before .before .before in
+    branch-asks binary32 _ _ (start .args .strategy) _ (start .pre .1) (chosen .if1 .left) _ (asSplit (after-try-part .try-part .result)) (after-try-part .try-part .ensures) _ (ap asSplit (at-cut .cut .given .1)) _ _ _ _ _ _ (after-grow .grow .ensures) _ _ _ _ _ _ (after-grow2 .grow2 .ensures)
 
 grow-same-length-8 : (t : ℕ) → grow-lts.Need-same-length-8 (calls t) (grow-at t) grow.Post
-grow-same-length-8 t c = order-long binary32 _ _ (c .before .before .before .before .before .before .before .before .before .before .before .before .before .before .before .before .before .before .before .before .before .before .before .before .before .before .before .before .before .before .before .before .before .before .before .before .before .before .before .before .before .before .before .before .before .before .before .before .before .before .before .args .strategy) _ (c .before .before .before .before .before .before .before .before .before .before .before .before .before .before .before .before .before .before .before .before .before .before .before .before .before .before .before .before .before .before .before .before .before .before .before .before .before .before .before .before .before .before .before .before .before .before .before .before .before .before .before .pre .1) (c .before .before .before .before .before .before .before .before .before .before .before .before .before .before .before .before .before .before .before .before .before .before .before .before .before .before .before .before .before .before .before .before .before .before .before .before .before .before .before .before .before .before .before .before .if1 .left) _ (asSplit (c .before .before .before .before .before .before .before .before .before .before .before .before .before .before .before .before .before .before .before .before .before .before .before .before .before .before .before .before .before .before .before .before .before .before .before .before .before .before .before .before .before .try-part .result)) (c .before .before .before .before .before .before .before .before .before .before .before .before .before .before .before .before .before .before .before .before .before .before .before .before .before .before .before .before .before .before .before .before .before .before .before .before .before .before .before .before .before .try-part .ensures) _ (ap asSplit (c .before .before .before .before .before .before .before .before .before .before .before .before .before .before .before .before .before .before .before .before .before .before .before .before .before .before .before .before .before .before .before .before .before .before .before .cut .given .1)) _ _ _ _ _ _ (c .before .before .before .before .before .before .before .before .before .before .before .before .before .before .before .before .before .before .before .before .before .before .before .before .before .before .before .before .before .grow .ensures) _ _ _ _ _ _ (c .before .before .before .before .before .before .before .before .before .before .before .before .before .before .before .grow2 .ensures)
+grow-same-length-8 t c =
+    let after-put-branch = c .before .before .before .before in
+    let at-boxes4 = after-put-branch .before .before .before .before in
+    let at-scratch3 = at-boxes4 .before .before .before .before in
+    let after-grow2 = at-scratch3 .before .before .before in
+    let at-grow-arg7 = after-grow2 .before .before .before in
+    let at-boxes3 = at-grow-arg7 .before .before .before .before in
+    let at-scratch2 = at-boxes3 .before .before .before .before in
+    let after-grow = at-scratch2 .before .before .before in
+    let at-grow-arg2 = after-grow .before .before .before in
+    let at-cut = at-grow-arg2 .before .before .before in
+    let at-scratch = at-cut .before .before .before in
+    let after-try-part = at-scratch .before .before .before in
+    let chosen = after-try-part .before .before .before in
+    let known2 = chosen .before .before .before in
+    let start = known2 .before .before .before .before in
+    order-long binary32 _ _ (start .args .strategy) _ (start .pre .1) (chosen .if1 .left) _ (asSplit (after-try-part .try-part .result)) (after-try-part .try-part .ensures) _ (ap asSplit (at-cut .cut .given .1)) _ _ _ _ _ _ (after-grow .grow .ensures) _ _ _ _ _ _ (after-grow2 .grow2 .ensures)
 
 grow-same-length-9 : (t : ℕ) → grow-lts.Need-same-length-9 (calls t) (grow-at t) grow.Post
-grow-same-length-9 t c = c .before .before .before .before .before .before .before .before .before .before .before .before .before .before .before .grow2 .kept .1 .1 .1 .1 .1 .1 .0 ∙ c .before .before .before .before .before .before .before .before .before .before .before .before .before .before .before .before .before .before .before .before .before .before .before .before .before .before .before .before .before .grow .kept .1 .1 .1 .1 .1 .1 .0 ∙ c .before .before .before .before .before .before .before .before .before .before .before .before .before .before .before .before .before .before .before .before .before .before .before .before .before .before .before .before .before .before .before .before .before .before .before .before .before .before .before .before .before .try-part .kept .1 .1 .1 .1 .0
+grow-same-length-9 t c =
+    let after-put-branch = c .before .before .before .before in
+    let at-boxes4 = after-put-branch .before .before .before .before in
+    let at-scratch3 = at-boxes4 .before .before .before .before in
+    let after-grow2 = at-scratch3 .before .before .before in
+    let at-grow-arg7 = after-grow2 .before .before .before in
+    let at-boxes3 = at-grow-arg7 .before .before .before .before in
+    let at-scratch2 = at-boxes3 .before .before .before .before in
+    let after-grow = at-scratch2 .before .before .before in
+    let at-grow-arg = after-grow .before .before .before .before in
+    let known8 = at-grow-arg .before .before .before .before in
+    let after-try-part = known8 .before .before .before .before in
+    after-grow2 .grow2 .kept .1 .1 .1 .1 .1 .1 .0 ∙ after-grow .grow .kept .1 .1 .1 .1 .1 .1 .0 ∙ after-try-part .try-part .kept .1 .1 .1 .1 .0
 
 grow-same-length-10 : (t : ℕ) → grow-lts.Need-same-length-10 (calls t) (grow-at t) grow.Post
-grow-same-length-10 t c = c .before .before .before .before .put-branch .kept .1 .1 .0 ∙ c .before .before .before .before .before .before .before .before .before .before .before .before .before .before .before .grow2 .kept .1 .1 .1 .1 .1 .1 .1 .1 .0 ∙ c .before .before .before .before .before .before .before .before .before .before .before .before .before .before .before .before .before .before .before .before .before .before .before .before .before .before .before .before .before .grow .kept .1 .1 .1 .1 .1 .1 .1 .1 .0
+grow-same-length-10 t c =
+    let after-put-branch = c .before .before .before .before in
+    let at-boxes4 = after-put-branch .before .before .before .before in
+    let at-scratch3 = at-boxes4 .before .before .before .before in
+    let after-grow2 = at-scratch3 .before .before .before in
+    let at-grow-arg7 = after-grow2 .before .before .before in
+    let at-boxes3 = at-grow-arg7 .before .before .before .before in
+    let at-scratch2 = at-boxes3 .before .before .before .before in
+    let after-grow = at-scratch2 .before .before .before in
+    after-put-branch .put-branch .kept .1 .1 .0 ∙ after-grow2 .grow2 .kept .1 .1 .1 .1 .1 .1 .1 .1 .0 ∙ after-grow .grow .kept .1 .1 .1 .1 .1 .1 .1 .1 .0
 
 grow-same-length-11 : (t : ℕ) → grow-lts.Need-same-length-11 (calls t) (grow-at t) grow.Post
-grow-same-length-11 t c = c .before .before .before .before .put-branch .kept .1 .1 .1 .0 ∙ c .before .before .before .before .before .before .before .before .before .before .before .before .before .before .before .grow2 .kept .1 .1 .1 .1 .1 .1 .1 .1 .1 .0 ∙ c .before .before .before .before .before .before .before .before .before .before .before .before .before .before .before .before .before .before .before .before .before .before .before .before .before .before .before .before .before .grow .kept .1 .1 .1 .1 .1 .1 .1 .1 .1 .0
+grow-same-length-11 t c =
+    let after-put-branch = c .before .before .before .before in
+    let at-boxes4 = after-put-branch .before .before .before .before in
+    let at-scratch3 = at-boxes4 .before .before .before .before in
+    let after-grow2 = at-scratch3 .before .before .before in
+    let at-grow-arg7 = after-grow2 .before .before .before in
+    let at-boxes3 = at-grow-arg7 .before .before .before .before in
+    let at-scratch2 = at-boxes3 .before .before .before .before in
+    let after-grow = at-scratch2 .before .before .before in
+    after-put-branch .put-branch .kept .1 .1 .1 .0 ∙ after-grow2 .grow2 .kept .1 .1 .1 .1 .1 .1 .1 .1 .1 .0 ∙ after-grow .grow .kept .1 .1 .1 .1 .1 .1 .1 .1 .1 .0
 
 grow-returns-3 : (t : ℕ) → grow-lts.Need-returns-3 (calls t) (grow-at t) grow.Post
-grow-returns-3 t c = branch-gives binary32 _ _ (c .before .before .before .before .before .before .before .before .before .before .before .before .before .before .before .before .before .before .before .before .before .before .before .before .before .before .before .before .before .before .before .before .before .before .before .before .before .before .before .before .before .before .before .before .before .before .before .before .before .before .before .args .strategy) _ (c .before .before .before .before .before .before .before .before .before .before .before .before .before .before .before .before .before .before .before .before .before .before .before .before .before .before .before .before .before .before .before .before .before .before .before .before .before .before .before .before .before .before .before .before .before .before .before .before .before .before .before .pre .1) (c .before .before .before .before .before .before .before .before .before .before .before .before .before .before .before .before .before .before .before .before .before .before .before .before .before .before .before .before .before .before .before .before .before .before .before .before .before .before .before .before .before .before .before .before .if1 .left) _ (asSplit (c .before .before .before .before .before .before .before .before .before .before .before .before .before .before .before .before .before .before .before .before .before .before .before .before .before .before .before .before .before .before .before .before .before .before .before .before .before .before .before .before .before .try-part .result)) (c .before .before .before .before .before .before .before .before .before .before .before .before .before .before .before .before .before .before .before .before .before .before .before .before .before .before .before .before .before .before .before .before .before .before .before .before .before .before .before .before .before .try-part .ensures) _ (ap asSplit (c .before .before .before .before .before .before .before .before .before .before .before .before .before .before .before .before .before .before .before .before .before .before .before .before .before .before .before .before .before .before .before .before .before .before .before .cut .given .1)) _ _ _ _ _ _ (c .before .before .before .before .before .before .before .before .before .before .before .before .before .before .before .before .before .before .before .before .before .before .before .before .before .before .before .before .before .grow .ensures) _ _ _ _ _ _ (c .before .before .before .before .before .before .before .before .before .before .before .before .before .before .before .grow2 .ensures) _ _ _ _ _ (c .before .before .before .before .put-branch .ensures)
+grow-returns-3 t c =
+    let after-put-branch = c .before .before .before .before in
+    let at-boxes4 = after-put-branch .before .before .before .before in
+    let at-scratch3 = at-boxes4 .before .before .before .before in
+    let after-grow2 = at-scratch3 .before .before .before in
+    let at-grow-arg7 = after-grow2 .before .before .before in
+    let at-boxes3 = at-grow-arg7 .before .before .before .before in
+    let at-scratch2 = at-boxes3 .before .before .before .before in
+    let after-grow = at-scratch2 .before .before .before in
+    let at-grow-arg2 = after-grow .before .before .before in
+    let at-cut = at-grow-arg2 .before .before .before in
+    let at-scratch = at-cut .before .before .before in
+    let after-try-part = at-scratch .before .before .before in
+    let chosen = after-try-part .before .before .before in
+    let known2 = chosen .before .before .before in
+    let start = known2 .before .before .before .before in
+    branch-gives binary32 _ _ (start .args .strategy) _ (start .pre .1) (chosen .if1 .left) _ (asSplit (after-try-part .try-part .result)) (after-try-part .try-part .ensures) _ (ap asSplit (at-cut .cut .given .1)) _ _ _ _ _ _ (after-grow .grow .ensures) _ _ _ _ _ _ (after-grow2 .grow2 .ensures) _ _ _ _ _ (after-put-branch .put-branch .ensures)
 
 pub +grow-spec : {M : Type 1} → statement M
 +grow-spec = close μ-grow λ t. grow-lts.spec (calls t)

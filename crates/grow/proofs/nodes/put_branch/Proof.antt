@@ -39,7 +39,12 @@ same-length-2 : tie.Need-same-length-2
 same-length-2 c = search needs
 
 returns : tie.Need-returns
-returns c = record { links-are = c .before .before .before .before .before .before .before .put-links .ensures; boxes-are = c .before .before .before .put-box .ensures ∙ ap (λ (b : Box). over (6 * (c .before .before .before .before .before .before .before .before .before .before .before .before .before .before .before .args .right .root + 1)) (sixOf b) (c .before .before .before .before .before .before .before .before .before .before .before .before .before .before .before .args .boxes .now)) (c .before .before .before .before .before .before .before .before .before .before .before .union-box .ensures); root-is = refl; levels-are = ap (λ (n : ℕ). n + 1) (c .deeper .ensures); box-is = c .before .before .before .before .before .before .before .before .before .before .before .union-box .ensures }
+returns c =
+    let after-put-box = c .before .before .before in
+    let after-put-links = after-put-box .before .before .before .before in
+    let after-union-box = after-put-links .before .before .before .before in
+    let start = after-union-box .before .before .before .before in
+    record { links-are = after-put-links .put-links .ensures; boxes-are = after-put-box .put-box .ensures ∙ ap (λ (b : Box). over (6 * (start .args .right .root + 1)) (sixOf b) (start .args .boxes .now)) (after-union-box .union-box .ensures); root-is = refl; levels-are = ap (λ (n : ℕ). n + 1) (c .deeper .ensures); box-is = after-union-box .union-box .ensures }
 
 pub put-branch-spec : {M : Type 1} → statement M
 put-branch-spec =

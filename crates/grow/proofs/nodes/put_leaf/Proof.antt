@@ -30,7 +30,13 @@ same-length-2 : tie.Need-same-length-2
 same-length-2 c = search needs
 
 returns : tie.Need-returns
-returns c = leaf-written binary32 _ _ _ _ _ _ _ _ _ (c .before .before .before .before .before .before .before .before .before .before .before .before .before .pre .some) (c .before .before .before .before .before .before .before .before .union-of .ensures) (c .before .before .before .before .before .before .put-links .ensures) (c .before .before .put-box .ensures)
+returns c =
+    let after-put-box = c .before .before in
+    let after-put-links = after-put-box .before .before .before .before in
+    let after-union-of = after-put-links .before .before in
+    let known = after-union-of .before .before in
+    let start = known .before .before .before in
+    leaf-written binary32 _ _ _ _ _ _ _ _ _ (start .pre .some) (after-union-of .union-of .ensures) (after-put-links .put-links .ensures) (after-put-box .put-box .ensures)
 
 pub put-leaf-spec : {M : Type 1} → statement M
 put-leaf-spec =

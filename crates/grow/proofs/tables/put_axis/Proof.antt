@@ -35,8 +35,12 @@ same-length : tie.Need-same-length
 same-length c = search needs
 
 returns : tie.Need-returns
-returns c = let first = c .before .before .before .before .first-key .result in
-    centres-put binary32 _ _ _ first (first + 4096 - first) _ _ (c .before .before .before .before .before .before .before .pre .1) (c .before .before .before .before .before .before .before .pre .0 .few) (c .before .before .before .before .first-key .ensures) (omega arith) (c .before .before .put-keys .ensures) _ refl
+returns c =
+    let after-put-keys = c .before .before in
+    let after-first-key = after-put-keys .before .before in
+    let start = after-first-key .before .before .before in
+    let first = after-first-key .first-key .result in
+    centres-put binary32 _ _ _ first (first + 4096 - first) _ _ (start .pre .1) (start .pre .0 .few) (after-first-key .first-key .ensures) (omega arith) (after-put-keys .put-keys .ensures) _ refl
 
 pub put-axis-spec : {M : Type 1} → statement M
 put-axis-spec =

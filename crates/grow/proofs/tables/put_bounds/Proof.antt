@@ -33,8 +33,14 @@ loop-less : tie.Need-loop-less Inv-loop μ-loop
 loop-less c = search needs
 
 loop-again : tie.Need-loop-again Inv-loop μ-loop
-loop-again c = run-front (λ k. sixOf (boxAt (c .before .before .before .before .before .before .before .before .before .args .triangles .now) k)) 6 _ _ _ _ _ (λ j. refl) (c .before .before .before .before .before .before .before .before .before .pre .1) (c .before .before .before .before .before .loop-test .taken) (c .before .before .before .before .before .before .loop .inv)
-    (c .before .before .put-box .ensures ∙ ap (λ (b : Box). over (6 * c .before .before .before .before .before .before .loop .t) (sixOf b) (c .before .before .before .before .before .before .loop .bounds)) (c .before .before .before .box-at .ensures))
+loop-again c =
+    let after-put-box = c .before .before in
+    let after-box-at = after-put-box .before in
+    let tested = after-box-at .before .before in
+    let turn = tested .before in
+    let start = turn .before .before .before in
+    run-front (λ k. sixOf (boxAt (start .args .triangles .now) k)) 6 _ _ _ _ _ (λ j. refl) (start .pre .1) (tested .loop-test .taken) (turn .loop .inv)
+    (after-put-box .put-box .ensures ∙ ap (λ (b : Box). over (6 * turn .loop .t) (sixOf b) (turn .loop .bounds)) (after-box-at .box-at .ensures))
 
 same-length : tie.Need-same-length Inv-loop μ-loop
 same-length c = c .before .loop .inv .long

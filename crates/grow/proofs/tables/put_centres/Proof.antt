@@ -17,7 +17,11 @@ same-length : tie.Need-same-length
 same-length c = search needs
 
 returns : tie.Need-returns
-returns c = all-centred _ _ _ _ _ _ _ (c .before .before .before .before .before .before .before .before .before .before .put-axis .ensures) (c .before .before .before .before .before .before .put-axis2 .ensures) (c .before .before .put-axis3 .ensures)
+returns c =
+    let after-put-axis3 = c .before .before in
+    let after-put-axis2 = after-put-axis3 .before .before .before .before in
+    let after-put-axis = after-put-axis2 .before .before .before .before in
+    all-centred _ _ _ _ _ _ _ (after-put-axis .put-axis .ensures) (after-put-axis2 .put-axis2 .ensures) (after-put-axis3 .put-axis3 .ensures)
 
 pub put-centres-spec : {M : Type 1} → statement M
 put-centres-spec =

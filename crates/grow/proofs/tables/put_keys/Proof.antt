@@ -40,7 +40,10 @@ loop-less : tie.Need-loop-less Inv-loop μ-loop
 loop-less c = search needs
 
 loop-again : tie.Need-loop-again Inv-loop μ-loop
-loop-again c = run-store-front (centreOn binary32 (boxIn (c .before .before .before .before .before .args .bounds .now)) (asAxis (c .before .before .before .before .before .args .axis))) _ _ _ _ _ (c .before .before .before .before .before .pre .room) (c .before .loop-test .taken) (c .before .before .loop .inv) (c .centre-on .ensures)
+loop-again c =
+    let turn = c .before .before in
+    let start = turn .before .before .before in
+    run-store-front (centreOn binary32 (boxIn (start .args .bounds .now)) (asAxis (start .args .axis))) _ _ _ _ _ (start .pre .room) (c .before .loop-test .taken) (turn .loop .inv) (c .centre-on .ensures)
 
 same-length : tie.Need-same-length Inv-loop μ-loop
 same-length c = c .before .loop .inv .long

@@ -42,7 +42,9 @@ same-length : tie.Need-same-length Inv-loop μ-loop
 same-length c = c .before .loop .inv .long
 
 returns : tie.Need-returns Inv-loop μ-loop
-returns c = run-end _ 0 _ _ _ _ (c .loop-test .left) (c .before .loop .inv) ∙ ap (λ (l : List ℕ). over 0 l (c .before .before .args .order .now)) (up-to-many (c .before .before .args .count))
+returns c =
+    let start = c .before .before in
+    run-end _ 0 _ _ _ _ (c .loop-test .left) (c .before .loop .inv) ∙ ap (λ (l : List ℕ). over 0 l (start .args .order .now)) (up-to-many (start .args .count))
 
 pub put-order-spec : {M : Type 1} → statement M
 put-order-spec =

@@ -15,7 +15,9 @@ add-sort-by-key : tie.Need-add-sort-by-key
 add-sort-by-key c = omega (arith, c .first-key .ensures, place-below (asAxis (c .before .before .before .before .args .axis)))
 
 mul-sort-by-key : tie.Need-mul-sort-by-key
-mul-sort-by-key c = omega (arith, c .first-key .ensures, place-below (asAxis (c .before .before .before .before .args .axis)), c .before .before .before .before .pre .long)
+mul-sort-by-key c =
+    let start = c .before .before .before .before in
+    omega (arith, c .first-key .ensures, place-below (asAxis (start .args .axis)), start .pre .long)
 
 sub-sort-by-key : tie.Need-sub-sort-by-key
 sub-sort-by-key c = search needs
@@ -24,11 +26,16 @@ part-sort-by-key-start : tie.Need-part-sort-by-key-start
 part-sort-by-key-start c = search needs
 
 part-sort-by-key-end : tie.Need-part-sort-by-key-end
-part-sort-by-key-end c = omega (arith, c .first-key .ensures, place-below (asAxis (c .before .before .before .before .args .axis)), c .before .before .before .before .pre .long)
+part-sort-by-key-end c =
+    let start = c .before .before .before .before in
+    omega (arith, c .first-key .ensures, place-below (asAxis (start .args .axis)), start .pre .long)
 
 sort-by-key-requires : tie.Need-sort-by-key-requires
-sort-by-key-requires c κs = let first = c .before .before .before .first-key .result in
-    sort-asks (asAxis (c .before .before .before .before .before .before .before .args .axis)) (c .before .before .before .before .before .before .before .args .centres .now) _ _ first (first + 4096 - first) (c .before .before .before .first-key .ensures) (omega arith) (c .before .before .before .before .before .before .before .pre)
+sort-by-key-requires c κs =
+    let after-first-key = c .before .before .before in
+    let start = after-first-key .before .before .before .before in
+    let first = after-first-key .first-key .result in
+    sort-asks (asAxis (start .args .axis)) (start .args .centres .now) _ _ first (first + 4096 - first) (after-first-key .first-key .ensures) (omega arith) (start .pre)
 
 same-length : tie.Need-same-length
 same-length c = search needs
@@ -37,8 +44,12 @@ same-length-2 : tie.Need-same-length-2
 same-length-2 c = search needs
 
 returns : tie.Need-returns
-returns c = let first = c .before .before .before .before .before .before .before .before .first-key .result in
-    sort-gives (asAxis (c .before .before .before .before .before .before .before .before .before .before .before .before .args .axis)) (c .before .before .before .before .before .before .before .before .before .before .before .before .args .centres .now) _ (c .before .before .before .before .before .before .before .before .before .before .before .before .args .scratch .now) first (first + 4096 - first) (c .before .before .before .before .before .before .before .before .first-key .ensures) (omega arith) _ (c .before .before .before .before .sort-by-key .ensures)
+returns c =
+    let after-sort-by-key = c .before .before .before .before in
+    let after-first-key = after-sort-by-key .before .before .before .before in
+    let start = after-first-key .before .before .before .before in
+    let first = after-first-key .first-key .result in
+    sort-gives (asAxis (start .args .axis)) (start .args .centres .now) _ (start .args .scratch .now) first (first + 4096 - first) (after-first-key .first-key .ensures) (omega arith) _ (after-sort-by-key .sort-by-key .ensures)
 
 pub sort-on-spec : {M : Type 1} → statement M
 sort-on-spec =

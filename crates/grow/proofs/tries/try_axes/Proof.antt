@@ -28,14 +28,25 @@ same-length-2 : tie.Need-same-length-2
 same-length-2 c = search needs
 
 returns : tie.Need-returns
-returns c = in-turn binary32 _ _ _ _ _ _ (c .before .before .before .before .before .before .before .before .before .before .axes-by-size .ensures ∙ ap (λ (p : Point). axesBySize (at p)) (c .before .before .before .before .before .before .before .before .before .before .before .sizes .ensures))
-    (stays-cut binary32 _ _ _ _ _ _ _ _ _ (ap asSplit (c .before .once .given .1)) (c .before .before .before .before .before .before .before .try-on .ensures))
+returns c =
+    let at-scratch = c .before .before .before .before in
+    let after-try-on = at-scratch .before .before .before in
+    let after-axes-by-size = after-try-on .before .before .before in
+    let after-sizes = after-axes-by-size .before in
+    in-turn binary32 _ _ _ _ _ _ (after-axes-by-size .axes-by-size .ensures ∙ ap (λ (p : Point). axesBySize (at p)) (after-sizes .sizes .ensures))
+    (stays-cut binary32 _ _ _ _ _ _ _ _ _ (ap asSplit (c .before .once .given .1)) (after-try-on .try-on .ensures))
 
 enum-told : tie.Need-enum-told
 enum-told c = search needs
 
 try-on-requires-2 : tie.Need-try-on-requires-2
-try-on-requires-2 c κs = next-asks binary32 _ _ (c .before .before .before .before .before .before .before .before .before .before .before .before .before .before .before .before .before .pre) _ _ _ _ _ (asSplit (c .before .before .before .before .before .before .before .before .try-on .result)) (c .before .before .before .before .before .before .before .before .try-on .ensures) (c .before .before .before .before .before .before .before .before .try-on .kept .1 .1 .1 .1 .1 .1 .0)
+try-on-requires-2 c κs =
+    let known4 = c .before .before .before .before in
+    let after-try-on = known4 .before .before .before .before in
+    let after-axes-by-size = after-try-on .before .before .before in
+    let known = after-axes-by-size .before .before .before in
+    let start = known .before .before .before in
+    next-asks binary32 _ _ (start .pre) _ _ _ _ _ (asSplit (after-try-on .try-on .result)) (after-try-on .try-on .ensures) (after-try-on .try-on .kept .1 .1 .1 .1 .1 .1 .0)
 
 enum-known-twice : tie.Need-enum-known-twice
 enum-known-twice c = search needs
@@ -47,17 +58,34 @@ same-length-4 : tie.Need-same-length-4
 same-length-4 c = search needs
 
 returns-2 : tie.Need-returns-2
-returns-2 c = in-turn binary32 _ _ _ _ _ _ (c .before .before .before .before .before .before .before .before .before .before .before .before .before .before .before .before .before .before .before .axes-by-size .ensures ∙ ap (λ (p : Point). axesBySize (at p)) (c .before .before .before .before .before .before .before .before .before .before .before .before .before .before .before .before .before .before .before .before .sizes .ensures))
-    (tries-next binary32 _ _ _ _ _ _ _ _ _ (ap asSplit (c .before .before .before .before .before .before .before .before .before .before .enum-told .given .1)) (c .before .before .before .before .before .before .before .before .before .before .before .before .before .before .before .before .try-on .ensures)
-    (stays-cut binary32 _ _ _ _ _ _ _ _ _ (ap asSplit (c .before .twice .given .1)) (c .before .before .before .before .before .before .before .try-on2 .ensures)))
+returns-2 c =
+    let at-scratch2 = c .before .before .before .before in
+    let after-try-on2 = at-scratch2 .before .before .before in
+    let at-enum-told = after-try-on2 .before .before .before in
+    let at-scratch = at-enum-told .before .before .before in
+    let after-try-on = at-scratch .before .before .before in
+    let after-axes-by-size = after-try-on .before .before .before in
+    let after-sizes = after-axes-by-size .before in
+    in-turn binary32 _ _ _ _ _ _ (after-axes-by-size .axes-by-size .ensures ∙ ap (λ (p : Point). axesBySize (at p)) (after-sizes .sizes .ensures))
+    (tries-next binary32 _ _ _ _ _ _ _ _ _ (ap asSplit (at-enum-told .enum-told .given .1)) (after-try-on .try-on .ensures)
+    (stays-cut binary32 _ _ _ _ _ _ _ _ _ (ap asSplit (c .before .twice .given .1)) (after-try-on2 .try-on2 .ensures)))
 
 enum-told-2 : tie.Need-enum-told-2
 enum-told-2 c = search needs
 
 try-on-requires-3 : tie.Need-try-on-requires-3
-try-on-requires-3 c κs = next-asks binary32 _ _
-    (next-asks binary32 _ _ (c .before .before .before .before .before .before .before .before .before .before .before .before .before .before .before .before .before .before .before .before .before .before .before .before .before .before .pre) _ _ _ _ (c .before .before .before .before .before .before .before .before .before .before .before .before .before .before .before .before .before .try-on .last .1 .1 .1 .1 .1 .1 .0) (asSplit (c .before .before .before .before .before .before .before .before .before .before .before .before .before .before .before .before .before .try-on .result)) (c .before .before .before .before .before .before .before .before .before .before .before .before .before .before .before .before .before .try-on .ensures) (c .before .before .before .before .before .before .before .before .before .before .before .before .before .before .before .before .before .try-on .kept .1 .1 .1 .1 .1 .1 .0))
-    _ _ _ _ _ (asSplit (c .before .before .before .before .before .before .before .before .try-on2 .result)) (c .before .before .before .before .before .before .before .before .try-on2 .ensures) (c .before .before .before .before .before .before .before .before .try-on2 .kept .1 .1 .1 .1 .1 .1 .0)
+try-on-requires-3 c κs =
+    let known6 = c .before .before .before .before in
+    let after-try-on2 = known6 .before .before .before .before in
+    let at-enum-told = after-try-on2 .before .before .before in
+    let at-scratch = at-enum-told .before .before .before in
+    let after-try-on = at-scratch .before .before .before in
+    let after-axes-by-size = after-try-on .before .before .before in
+    let known = after-axes-by-size .before .before .before in
+    let start = known .before .before .before in
+    next-asks binary32 _ _
+    (next-asks binary32 _ _ (start .pre) _ _ _ _ (after-try-on .try-on .last .1 .1 .1 .1 .1 .1 .0) (asSplit (after-try-on .try-on .result)) (after-try-on .try-on .ensures) (after-try-on .try-on .kept .1 .1 .1 .1 .1 .1 .0))
+    _ _ _ _ _ (asSplit (after-try-on2 .try-on2 .result)) (after-try-on2 .try-on2 .ensures) (after-try-on2 .try-on2 .kept .1 .1 .1 .1 .1 .1 .0)
 
 same-length-5 : tie.Need-same-length-5
 same-length-5 c = search needs
@@ -66,10 +94,20 @@ same-length-6 : tie.Need-same-length-6
 same-length-6 c = search needs
 
 returns-3 : tie.Need-returns-3
-returns-3 c = in-turn binary32 _ _ _ _ _ _ (c .before .before .before .before .before .before .before .before .before .before .before .before .before .before .before .before .before .before .before .before .before .before .before .before .before .axes-by-size .ensures ∙ ap (λ (p : Point). axesBySize (at p)) (c .before .before .before .before .before .before .before .before .before .before .before .before .before .before .before .before .before .before .before .before .before .before .before .before .before .before .sizes .ensures))
-    (tries-next binary32 _ _ _ _ _ _ _ _ _ (ap asSplit (c .before .before .before .before .before .before .before .before .before .before .before .before .before .before .before .before .enum-told .given .1)) (c .before .before .before .before .before .before .before .before .before .before .before .before .before .before .before .before .before .before .before .before .before .before .try-on .ensures)
-    (tries-next binary32 _ _ _ _ _ _ _ _ _ (ap asSplit (c .before .before .before .before .before .before .before .enum-told2 .given .1)) (c .before .before .before .before .before .before .before .before .before .before .before .before .before .try-on2 .ensures)
-    (tries-last binary32 _ _ _ _ _ _ (c .before .before .before .before .try-on3 .ensures))))
+returns-3 c =
+    let after-try-on3 = c .before .before .before .before in
+    let at-enum-told2 = after-try-on3 .before .before .before in
+    let at-scratch2 = at-enum-told2 .before .before .before in
+    let after-try-on2 = at-scratch2 .before .before .before in
+    let at-enum-told = after-try-on2 .before .before .before in
+    let at-scratch = at-enum-told .before .before .before in
+    let after-try-on = at-scratch .before .before .before in
+    let after-axes-by-size = after-try-on .before .before .before in
+    let after-sizes = after-axes-by-size .before in
+    in-turn binary32 _ _ _ _ _ _ (after-axes-by-size .axes-by-size .ensures ∙ ap (λ (p : Point). axesBySize (at p)) (after-sizes .sizes .ensures))
+    (tries-next binary32 _ _ _ _ _ _ _ _ _ (ap asSplit (at-enum-told .enum-told .given .1)) (after-try-on .try-on .ensures)
+    (tries-next binary32 _ _ _ _ _ _ _ _ _ (ap asSplit (at-enum-told2 .enum-told2 .given .1)) (after-try-on2 .try-on2 .ensures)
+    (tries-last binary32 _ _ _ _ _ _ (after-try-on3 .try-on3 .ensures))))
 
 pub try-axes-spec : {M : Type 1} → statement M
 try-axes-spec =

@@ -7,10 +7,18 @@ use Rattle.grow.proofs.tries.try_on.Statement.{statement}
 use Rattle.grow.proofs.tries.try_on.Tie as tie
 
 sort-on-requires : tie.Need-sort-on-requires
-sort-on-requires c κs = try-sort-asks binary32 _ _ (c .before .before .before .before .before .before .pre) (asAxis (c .before .before .before .before .before .before .args .axis))
+sort-on-requires c κs =
+    let known = c .before .before .before in
+    let start = known .before .before .before in
+    try-sort-asks binary32 _ _ (start .pre) (asAxis (start .args .axis))
 
 rule-requires : tie.Need-rule-requires
-rule-requires c κs = try-rule-asks binary32 _ _ (try-sorted binary32 _ _ (c .before .before .before .before .before .before .before .before .before .before .before .before .pre) (c .before .before .before .before .before .before .before .before .before .before .before .before .args .strategy) (asAxis (c .before .before .before .before .before .before .before .before .before .before .before .before .args .axis)) (asBox (c .before .before .before .before .before .before .before .before .before .before .before .before .args .parent)) _ (c .before .before .before .before .before .sort-on .ensures))
+rule-requires c κs =
+    let at-scratch = c .before .before in
+    let after-sort-on = at-scratch .before .before .before in
+    let known2 = after-sort-on .before .before .before in
+    let start = known2 .before .before .before .before in
+    try-rule-asks binary32 _ _ (try-sorted binary32 _ _ (start .pre) (start .args .strategy) (asAxis (start .args .axis)) (asBox (start .args .parent)) _ (after-sort-on .sort-on .ensures))
 
 same-length : tie.Need-same-length
 same-length c = search needs
@@ -19,7 +27,12 @@ same-length-2 : tie.Need-same-length-2
 same-length-2 c = search needs
 
 returns : tie.Need-returns
-returns c = try-gives binary32 _ _ (c .before .before .before .before .before .before .before .before .before .before .before .before .before .pre) (c .before .before .before .before .before .before .before .before .before .before .before .before .before .args .strategy) (asAxis (c .before .before .before .before .before .before .before .before .before .before .before .before .before .args .axis)) (asBox (c .before .before .before .before .before .before .before .before .before .before .before .before .before .args .parent)) _ (c .before .before .before .before .before .before .sort-on .ensures) _ (c .rule .ensures)
+returns c =
+    let at-scratch = c .before .before .before in
+    let after-sort-on = at-scratch .before .before .before in
+    let known2 = after-sort-on .before .before .before in
+    let start = known2 .before .before .before .before in
+    try-gives binary32 _ _ (start .pre) (start .args .strategy) (asAxis (start .args .axis)) (asBox (start .args .parent)) _ (after-sort-on .sort-on .ensures) _ (c .rule .ensures)
 
 pub try-on-spec : {M : Type 1} → statement M
 try-on-spec = tie.close (tie.spec sort-on-requires rule-requires same-length same-length-2 returns)

@@ -7,7 +7,10 @@ use Rattle.grow.proofs.tries.try_part.Statement.{statement}
 use Rattle.grow.proofs.tries.try_part.Tie as tie
 
 union-of-requires : tie.Need-union-of-requires
-union-of-requires c κs = (omega (arith, c .before .before .before .before .before .pre .some), try-rule-asks binary32 _ _ (c .before .before .before .before .before .pre) .boxed .in-table)
+union-of-requires c κs =
+    let known = c .before .before in
+    let start = known .before .before .before in
+    (omega (arith, start .pre .some), try-rule-asks binary32 _ _ (start .pre) .boxed .in-table)
 
 try-axes-requires : tie.Need-try-axes-requires
 try-axes-requires c κs = search needs
@@ -19,7 +22,12 @@ same-length-2 : tie.Need-same-length-2
 same-length-2 c = search needs
 
 returns : tie.Need-returns
-returns c = tried-is binary32 _ _ _ _ _ (omega (arith, c .before .before .before .before .before .before .before .before .before .before .before .before .before .pre .some)) (c .before .before .before .before .before .before .before .union-of .ensures) (c .before .before .before .before .try-axes .ensures)
+returns c =
+    let after-try-axes = c .before .before .before .before in
+    let after-union-of = after-try-axes .before .before .before in
+    let known = after-union-of .before .before .before in
+    let start = known .before .before .before in
+    tried-is binary32 _ _ _ _ _ (omega (arith, start .pre .some)) (after-union-of .union-of .ensures) (after-try-axes .try-axes .ensures)
 
 pub try-part-spec : {M : Type 1} → statement M
 try-part-spec =

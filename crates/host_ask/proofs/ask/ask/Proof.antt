@@ -28,8 +28,10 @@ ask-laid-requires c κs = image-long _ _ _ (sym (c .before .before .before .befo
 returns : tie.Need-returns
 unfolding queryVerdict
 returns c =
-    let a = c .before .before .before .before .before .before .before .args in
-    (layout-refuses (a .image .now) _ (sym (c .before .before .before .image-layout .ensures) ∙ ap imageLaid (c .before .at .given .1)) _, as-it-was _ _ _ refl)
+    let after-image-layout = c .before .before .before in
+    let start = after-image-layout .before .before .before .before in
+    let a = start .args in
+    (layout-refuses (a .image .now) _ (sym (after-image-layout .image-layout .ensures) ∙ ap imageLaid (c .before .at .given .1)) _, as-it-was _ _ _ refl)
 
 same-length : tie.Need-same-length
 same-length c = search needs
@@ -37,10 +39,14 @@ same-length c = search needs
 returns-2 : tie.Need-returns-2
 unfolding queryVerdict
 returns-2 c =
-    let a = c .before .before .before .before .before .before .before .before .before .before .before .args in
-    let laid = sym (c .before .before .before .before .before .before .before .image-layout .ensures) ∙ ap imageLaid (c .before .before .before .before .before .count .given .1) in (
-      inner-decides (a .image .now) _ _ laid (λ x. askedRefusal x (a .points .now) (a .distance) (length (a .answers .now))) _ (c .before .before .ask-laid .ensures .0),
-      c .before .before .ask-laid .ensures .1 ∙ ap (λ (x : Image). afterBytes (asVerdict (c .before .before .ask-laid .result)) (answerBytes (answerIn (asQuery (a .query)) x (a .distance)) (a .points .now)) (a .answers .now)) (sym (contents-are (a .image .now) _ _ laid)),
+    let after-ask-laid = c .before .before in
+    let at-count = after-ask-laid .before .before .before in
+    let after-image-layout = at-count .before .before in
+    let start = after-image-layout .before .before .before .before in
+    let a = start .args in
+    let laid = sym (after-image-layout .image-layout .ensures) ∙ ap imageLaid (at-count .count .given .1) in (
+      inner-decides (a .image .now) _ _ laid (λ x. askedRefusal x (a .points .now) (a .distance) (length (a .answers .now))) _ (after-ask-laid .ask-laid .ensures .0),
+      after-ask-laid .ask-laid .ensures .1 ∙ ap (λ (x : Image). afterBytes (asVerdict (after-ask-laid .ask-laid .result)) (answerBytes (answerIn (asQuery (a .query)) x (a .distance)) (a .points .now)) (a .answers .now)) (sym (contents-are (a .image .now) _ _ laid)),
     )
 
 pub ask-spec : {M : Type 1} → statement M

@@ -18,8 +18,10 @@ refuses-requires c κs = search needs
 returns : tie.Need-returns
 unfolding askedRefusal
 returns c =
-    let a = c .before .before .before .before .before .before .args in
-    (count-stops _ (a .count) (triangles-long (a .image .now) (a .count) (a .nodes)) _ _ _ (c .before .before .count-refusal .ensures) (c .before .refuses .ensures) (c .if1 .taken), as-it-was _ _ _ (sym (c .before .refuses .ensures) ∙ c .if1 .taken))
+    let after-count-refusal = c .before .before in
+    let start = after-count-refusal .before .before .before .before in
+    let a = start .args in
+    (count-stops _ (a .count) (triangles-long (a .image .now) (a .count) (a .nodes)) _ _ _ (after-count-refusal .count-refusal .ensures) (c .before .refuses .ensures) (c .if1 .taken), as-it-was _ _ _ (sym (c .before .refuses .ensures) ∙ c .if1 .taken))
 
 mul-numbers : tie.Need-mul-numbers
 mul-numbers c = search needs
@@ -29,23 +31,35 @@ slice-aggregate-read-f32s c = search needs
 
 read-f32s-requires : tie.Need-read-f32s-requires
 read-f32s-requires c κs =
-    let few = count-few _ _ _ (c .before .before .before .count-refusal .ensures) (c .before .before .refuses .ensures) (c .before .if1 .left) in
-    (omega (arith, c .before .before .before .before .before .before .before .pre), omega arith)
+    let after-refuses = c .before .before in
+    let after-count-refusal = after-refuses .before in
+    let start = after-count-refusal .before .before .before .before in
+    let few = count-few _ _ _ (after-count-refusal .count-refusal .ensures) (after-refuses .refuses .ensures) (c .before .if1 .left) in
+    (omega (arith, start .pre), omega arith)
 
 array-share-prefix-triangles : tie.Need-array-share-prefix-triangles
 array-share-prefix-triangles c =
-    let few = count-few _ _ _ (c .before .before .before .before .before .count-refusal .ensures) (c .before .before .before .before .refuses .ensures) (c .before .before .before .if1 .left) in
+    let chosen = c .before .before .before in
+    let after-refuses = chosen .before in
+    let after-count-refusal = after-refuses .before in
+    let few = count-few _ _ _ (after-count-refusal .count-refusal .ensures) (after-refuses .refuses .ensures) (chosen .if1 .left) in
     omega (arith, c .triangles2 .given)
 
 slice-aggregate-ask-triangles : tie.Need-slice-aggregate-ask-triangles
 slice-aggregate-ask-triangles c =
-    let few = count-few _ _ _ (c .before .before .before .before .before .before .count-refusal .ensures) (c .before .before .before .before .before .refuses .ensures) (c .before .before .before .before .if1 .left) in
+    let chosen = c .before .before .before .before in
+    let after-refuses = chosen .before in
+    let after-count-refusal = after-refuses .before in
+    let few = count-few _ _ _ (after-count-refusal .count-refusal .ensures) (after-refuses .refuses .ensures) (chosen .if1 .left) in
     sym (length-take-le _ _ (omega (arith, c .before .triangles2 .given)))
 
 ask-triangles-requires : tie.Need-ask-triangles-requires
 ask-triangles-requires c κs =
-    let a = c .before .before .before .before .before .before .before .before .before .before .before .args in
-    record { long = c .before .before .before .before .before .before .before .before .before .before .before .pre; triangles-are = triangles-read (a .image .now) (a .count) (a .nodes) _ _ (c .before .before .before .read-f32s .ensures) }
+    let after-read-f32s = c .before .before .before in
+    let after-count-refusal = after-read-f32s .before .before .before .before in
+    let start = after-count-refusal .before .before .before .before in
+    let a = start .args in
+    record { long = start .pre; triangles-are = triangles-read (a .image .now) (a .count) (a .nodes) _ _ (after-read-f32s .read-f32s .ensures) }
 
 same-length : tie.Need-same-length
 same-length c = search needs

@@ -23,7 +23,10 @@ slice-aggregate-read-tree-3 : tie.Need-slice-aggregate-read-tree-3
 slice-aggregate-read-tree-3 c = search needs
 
 read-tree-requires : tie.Need-read-tree-requires
-read-tree-requires c κs = (omega (arith, c .before .before .before .before .before .before .before .pre .0 .long), (omega (arith, loaded-count (c .before .before .before .before .before .before .before .pre .0), c .before .before .before .before .before .before .before .pre .1 .0 .triangles-good .few), (omega (arith, c .before .before .before .before .before .before .before .pre .1 .1), omega (arith, c .before .before .before .before .before .before .before .pre .1 .1))))
+read-tree-requires c κs =
+    let known = c .before .before .before in
+    let start = known .before .before .before .before in
+    (omega (arith, start .pre .0 .long), (omega (arith, loaded-count (start .pre .0), start .pre .1 .0 .triangles-good .few), (omega (arith, start .pre .1 .1), omega (arith, start .pre .1 .1))))
 
 mul-links-end : tie.Need-mul-links-end
 mul-links-end c = search needs
@@ -32,22 +35,42 @@ mul-boxes-end : tie.Need-mul-boxes-end
 mul-boxes-end c = search needs
 
 array-share-prefix-order : tie.Need-array-share-prefix-order
-array-share-prefix-order c = omega (arith, loaded-count (c .before .before .before .before .before .before .before .before .before .before .before .pre .0), c .before .before .before .before .before .before .before .before .before .before .before .pre .1 .0 .triangles-good .few, c .before .before .order2 .given)
+array-share-prefix-order c =
+    let at-order2 = c .before .before in
+    let after-read-tree = at-order2 .before in
+    let known = after-read-tree .before .before .before .before in
+    let start = known .before .before .before .before in
+    omega (arith, loaded-count (start .pre .0), start .pre .1 .0 .triangles-good .few, at-order2 .order2 .given)
 
 slice-aggregate-ask-lists : tie.Need-slice-aggregate-ask-lists
-slice-aggregate-ask-lists c = sym (length-take-le _ _ (omega (arith, loaded-count (c .before .before .before .before .before .before .before .before .before .before .before .before .pre .0), c .before .before .before .before .before .before .before .before .before .before .before .before .pre .1 .0 .triangles-good .few, c .before .before .before .order2 .given)))
+slice-aggregate-ask-lists c =
+    let at-order2 = c .before .before .before in
+    let after-read-tree = at-order2 .before in
+    let known = after-read-tree .before .before .before .before in
+    let start = known .before .before .before .before in
+    sym (length-take-le _ _ (omega (arith, loaded-count (start .pre .0), start .pre .1 .0 .triangles-good .few, at-order2 .order2 .given)))
 
 array-share-prefix-links : tie.Need-array-share-prefix-links
 array-share-prefix-links c = search needs
 
 slice-aggregate-ask-lists-2 : tie.Need-slice-aggregate-ask-lists-2
-slice-aggregate-ask-lists-2 c = sym (length-take-le _ _ (omega (arith, c .before .before .before .before .before .before .before .before .before .before .before .before .before .pre .1 .1, c .before .before .before .links2 .given)))
+slice-aggregate-ask-lists-2 c =
+    let at-links2 = c .before .before .before in
+    let after-read-tree = at-links2 .before .before in
+    let known = after-read-tree .before .before .before .before in
+    let start = known .before .before .before .before in
+    sym (length-take-le _ _ (omega (arith, start .pre .1 .1, at-links2 .links2 .given)))
 
 array-share-prefix-boxes : tie.Need-array-share-prefix-boxes
 array-share-prefix-boxes c = search needs
 
 slice-aggregate-ask-lists-3 : tie.Need-slice-aggregate-ask-lists-3
-slice-aggregate-ask-lists-3 c = sym (length-take-le _ _ (omega (arith, c .before .before .before .before .before .before .before .before .before .before .before .before .before .before .pre .1 .1, c .before .before .before .boxes2 .given)))
+slice-aggregate-ask-lists-3 c =
+    let at-boxes2 = c .before .before .before in
+    let after-read-tree = at-boxes2 .before .before .before in
+    let known = after-read-tree .before .before .before .before in
+    let start = known .before .before .before .before in
+    sym (length-take-le _ _ (omega (arith, start .pre .1 .1, at-boxes2 .boxes2 .given)))
 
 ask-lists-requires : tie.Need-ask-lists-requires
 ask-lists-requires c κs = search needs
@@ -57,11 +80,16 @@ same-length c = search needs
 
 returns : tie.Need-returns
 returns c =
-    let a = c .before .before .before .before .before .before .before .before .before .before .before .before .before .before .before .before .before .before .args in
-    let l = c .before .before .before .before .before .before .before .before .before .before .before .before .before .before .before .before .before .before .pre .0 in
-    let t = tree-read (a .image .now) (a .count) (a .nodes) (c .before .before .before .before .before .before .before .before .before .before .read-tree .ensures) in (
-      c .before .before .ask-lists .ensures .0 ∙ late-same l t (a .points .now) (a .distance),
-      c .before .before .ask-lists .ensures .1 ∙ ap (λ (answer : Point → Answer). afterBytes (asVerdict (c .before .before .ask-lists .result)) (answerBytes answer (a .points .now)) (a .answers .now)) (answer-same l t (asQuery (a .query)) (a .distance)),
+    let after-ask-lists = c .before .before in
+    let at-order3 = after-ask-lists .before .before .before .before in
+    let after-read-tree = at-order3 .before .before .before .before in
+    let known = after-read-tree .before .before .before .before in
+    let start = known .before .before .before .before in
+    let a = start .args in
+    let l = start .pre .0 in
+    let t = tree-read (a .image .now) (a .count) (a .nodes) (after-read-tree .read-tree .ensures) in (
+      after-ask-lists .ask-lists .ensures .0 ∙ late-same l t (a .points .now) (a .distance),
+      after-ask-lists .ask-lists .ensures .1 ∙ ap (λ (answer : Point → Answer). afterBytes (asVerdict (after-ask-lists .ask-lists .result)) (answerBytes answer (a .points .now)) (a .answers .now)) (answer-same l t (asQuery (a .query)) (a .distance)),
     )
 
 pub ask-tree-spec : {M : Type 1} → statement M

@@ -23,9 +23,13 @@ refuses-requires c κs = search needs
 
 returns : tie.Need-returns
 returns c =
-    let a = c .before .before .before .before .before .before .before .before .args in
+    let after-early-refusal = c .before .before in
+    let after-settings-of = after-early-refusal .before in
+    let known3 = after-settings-of .before .before in
+    let start = known3 .before .before .before in
+    let a = start .args in
     let x = imageIn version1 (a .image .now) (a .count) (a .nodes) in (
-      early-stops x (a .points .now) (a .distance) (length (a .answers .now)) _ _ (c .before .before .early-refusal .ensures ∙ early-same (c .before .before .before .before .before .before .before .before .pre) _ _ _ (c .before .before .before .settings-of .ensures)) (c .before .refuses .ensures) (c .if1 .taken),
+      early-stops x (a .points .now) (a .distance) (length (a .answers .now)) _ _ (after-early-refusal .early-refusal .ensures ∙ early-same (start .pre) _ _ _ (after-settings-of .settings-of .ensures)) (c .before .refuses .ensures) (c .if1 .taken),
       as-it-was _ _ _ (sym (c .before .refuses .ensures) ∙ c .if1 .taken),
     )
 
@@ -37,28 +41,50 @@ refuses-requires-2 c κs = search needs
 
 returns-2 : tie.Need-returns-2
 returns-2 c =
-    let a = c .before .before .before .before .before .before .before .before .before .before .before .args in
+    let after-nodes-refusal = c .before .before in
+    let chosen = after-nodes-refusal .before in
+    let after-refuses = chosen .before in
+    let after-early-refusal = after-refuses .before in
+    let after-settings-of = after-early-refusal .before in
+    let known3 = after-settings-of .before .before in
+    let start = known3 .before .before .before in
+    let a = start .args in
     let x = imageIn version1 (a .image .now) (a .count) (a .nodes) in
-    let ready = early-passed (a .triangles .now) (a .points .now) _ (length (a .answers .now)) (did-pass _ _ _ (c .before .before .before .before .before .early-refusal .ensures) (c .before .before .before .before .refuses .ensures) (c .before .before .before .if1 .left)) in (
-      nodes-stop (a .nodes) _ _ (c .before .before .nodes-refusal .ensures) (c .before .refuses2 .ensures) (c .if2 .taken)
-          ∙ tree-stops x (a .points .now) (a .distance) (length (a .answers .now)) _ _ (c .before .before .before .before .before .early-refusal .ensures ∙ early-same (c .before .before .before .before .before .before .before .before .before .before .before .pre) _ _ _ (c .before .before .before .before .before .before .settings-of .ensures)) (c .before .before .before .before .refuses .ensures) (c .before .before .before .if1 .left) (nodes-refused (c .before .before .before .before .before .before .before .before .before .before .before .pre) (ready .triangles-good .few) (nodes-many (a .nodes) _ _ (c .before .before .nodes-refusal .ensures) (c .before .refuses2 .ensures) (c .if2 .taken))),
+    let ready = early-passed (a .triangles .now) (a .points .now) _ (length (a .answers .now)) (did-pass _ _ _ (after-early-refusal .early-refusal .ensures) (after-refuses .refuses .ensures) (chosen .if1 .left)) in (
+      nodes-stop (a .nodes) _ _ (after-nodes-refusal .nodes-refusal .ensures) (c .before .refuses2 .ensures) (c .if2 .taken)
+          ∙ tree-stops x (a .points .now) (a .distance) (length (a .answers .now)) _ _ (after-early-refusal .early-refusal .ensures ∙ early-same (start .pre) _ _ _ (after-settings-of .settings-of .ensures)) (after-refuses .refuses .ensures) (chosen .if1 .left) (nodes-refused (start .pre) (ready .triangles-good .few) (nodes-many (a .nodes) _ _ (after-nodes-refusal .nodes-refusal .ensures) (c .before .refuses2 .ensures) (c .if2 .taken))),
       as-it-was _ _ _ (sym (c .before .refuses2 .ensures) ∙ c .if2 .taken),
     )
 
 ask-tree-requires : tie.Need-ask-tree-requires
 ask-tree-requires c κs =
-    let a = c .before .before .before .before .before .before .before .before .before .before .before .before .args in
-    (c .before .before .before .before .before .before .before .before .before .before .before .before .pre, (early-passed (a .triangles .now) (a .points .now) _ (length (a .answers .now)) (did-pass _ _ _ (c .before .before .before .before .before .before .early-refusal .ensures) (c .before .before .before .before .before .refuses .ensures) (c .before .before .before .before .if1 .left)), nodes-few (a .nodes) _ _ (c .before .before .before .nodes-refusal .ensures) (c .before .before .refuses2 .ensures) (c .before .if2 .left)))
+    let after-refuses2 = c .before .before in
+    let after-nodes-refusal = after-refuses2 .before in
+    let chosen = after-nodes-refusal .before in
+    let after-refuses = chosen .before in
+    let after-early-refusal = after-refuses .before in
+    let known3 = after-early-refusal .before .before .before in
+    let start = known3 .before .before .before in
+    let a = start .args in
+    (start .pre, (early-passed (a .triangles .now) (a .points .now) _ (length (a .answers .now)) (did-pass _ _ _ (after-early-refusal .early-refusal .ensures) (after-refuses .refuses .ensures) (chosen .if1 .left)), nodes-few (a .nodes) _ _ (after-nodes-refusal .nodes-refusal .ensures) (after-refuses2 .refuses2 .ensures) (c .before .if2 .left)))
 
 same-length : tie.Need-same-length
 same-length c = search needs
 
 returns-3 : tie.Need-returns-3
 returns-3 c =
-    let a = c .before .before .before .before .before .before .before .before .before .before .before .before .before .before .before .args in
+    let after-ask-tree = c .before .before in
+    let chosen2 = after-ask-tree .before .before in
+    let chosen = chosen2 .before .before .before in
+    let after-refuses = chosen .before in
+    let after-early-refusal = after-refuses .before in
+    let after-settings-of = after-early-refusal .before in
+    let known3 = after-settings-of .before .before in
+    let start = known3 .before .before .before in
+    let a = start .args in
     let x = imageIn version1 (a .image .now) (a .count) (a .nodes) in (
-      late-decides x (a .points .now) (a .distance) (length (a .answers .now)) _ _ (c .before .before .before .before .before .before .before .before .before .early-refusal .ensures ∙ early-same (c .before .before .before .before .before .before .before .before .before .before .before .before .before .before .before .pre) _ _ _ (c .before .before .before .before .before .before .before .before .before .before .settings-of .ensures)) (c .before .before .before .before .before .before .before .before .refuses .ensures) (c .before .before .before .before .before .before .before .if1 .left) _ (c .before .before .ask-tree .ensures .0),
-      c .before .before .ask-tree .ensures .1,
+      late-decides x (a .points .now) (a .distance) (length (a .answers .now)) _ _ (after-early-refusal .early-refusal .ensures ∙ early-same (start .pre) _ _ _ (after-settings-of .settings-of .ensures)) (after-refuses .refuses .ensures) (chosen .if1 .left) _ (after-ask-tree .ask-tree .ensures .0),
+      after-ask-tree .ask-tree .ensures .1,
     )
 
 pub ask-triangles-spec : {M : Type 1} → statement M

@@ -25,11 +25,18 @@ triangles-held-requires c κs = search needs
 
 tell-count-requires : tie.Need-tell-count-requires
 unfolding ofBits
-tell-count-requires c κs = rw (c .before .before .ask .ensures .0) (query-told (c .before .before .before .before .before .before .args .image .now) [] (record { below = λ i. omega (arith, c .before .before .before .before .before .shared-slice-known .given i) }) (omega arith) 1 zero)
+tell-count-requires c κs =
+    let after-ask = c .before .before in
+    let known = after-ask .before .before .before in
+    let start = known .before in
+    rw (after-ask .ask .ensures .0) (query-told (start .args .image .now) [] (record { below = λ i. omega (arith, known .shared-slice-known .given i) }) (omega arith) 1 zero)
 
 returns : tie.Need-returns
 unfolding ofBits
-returns c = c .tell-count .ensures ∙ (λ i. told ((c .before .before .before .ask .ensures .0 ∙ check-asks-nothing (c .before .before .before .before .before .before .before .args .image .now)) i) (c .before .triangles-held .ensures i))
+returns c =
+    let after-ask = c .before .before .before in
+    let start = after-ask .before .before .before .before in
+    c .tell-count .ensures ∙ (λ i. told ((after-ask .ask .ensures .0 ∙ check-asks-nothing (start .args .image .now)) i) (c .before .triangles-held .ensures i))
 
 pub check-image-spec : {M : Type 1} → statement M
 check-image-spec =

@@ -18,17 +18,23 @@ ask-requires c κs = search needs
 
 tell-count-requires : tie.Need-tell-count-requires
 tell-count-requires c κs =
-    let a = c .before .before .before .before .before .before .before .args in
-    rw (c .before .before .ask .ensures .0) (query-told (a .image .now) (a .points .now) (record { below = λ i. omega (arith, c .before .before .before .before .before .before .shared-slice-known .given i) }) (omega arith) (length (a .answers .now)) (a .distance))
+    let after-ask = c .before .before in
+    let known = after-ask .before .before .before .before in
+    let start = known .before in
+    let a = start .args in
+    rw (after-ask .ask .ensures .0) (query-told (a .image .now) (a .points .now) (record { below = λ i. omega (arith, known .shared-slice-known .given i) }) (omega arith) (length (a .answers .now)) (a .distance))
 
 same-length : tie.Need-same-length
 same-length c = search needs
 
 returns : tie.Need-returns
 returns c =
-    let a = c .before .before .before .before .before .before .before .before .args in (
-      c .tell-count .ensures ∙ ap (λ (v : Verdict). told v (length (a .points .now) / 12)) (c .before .before .before .ask .ensures .0),
-      c .before .before .before .ask .ensures .1 ∙ ap (λ (v : Verdict). afterBytes v (answerBytes (answerIn (asQuery (a .query)) (contents (a .image .now)) (a .distance)) (a .points .now)) (a .answers .now)) (c .before .before .before .ask .ensures .0),
+    let after-ask = c .before .before .before in
+    let at-ask-arg = after-ask .before in
+    let start = at-ask-arg .before .before .before .before in
+    let a = start .args in (
+      c .tell-count .ensures ∙ ap (λ (v : Verdict). told v (length (a .points .now) / 12)) (after-ask .ask .ensures .0),
+      after-ask .ask .ensures .1 ∙ ap (λ (v : Verdict). afterBytes v (answerBytes (answerIn (asQuery (a .query)) (contents (a .image .now)) (a .distance)) (a .points .now)) (a .answers .now)) (after-ask .ask .ensures .0),
     )
 
 pub query-points-spec : {M : Type 1} → statement M

@@ -13,10 +13,15 @@ tell-requires : tie.Need-tell-requires
 tell-requires c κs = search needs
 
 returns : tie.Need-returns
-returns c = c .tell .ensures ∙ told-refused (asVerdict (c .before .before .before .args .verdict)) 0 (c .before .before .before .args .count) (sym (c .before .before .refuses .ensures) ∙ c .before .if1 .taken)
+returns c =
+    let after-refuses = c .before .before in
+    let start = after-refuses .before in
+    c .tell .ensures ∙ told-refused (asVerdict (start .args .verdict)) 0 (start .args .count) (sym (after-refuses .refuses .ensures) ∙ c .before .if1 .taken)
 
 returns-2 : tie.Need-returns-2
-returns-2 c = told-done (asVerdict (c .before .before .args .verdict)) (c .before .before .args .count) (sym (c .before .refuses .ensures) ∙ c .if1 .left)
+returns-2 c =
+    let start = c .before .before in
+    told-done (asVerdict (start .args .verdict)) (start .args .count) (sym (c .before .refuses .ensures) ∙ c .if1 .left)
 
 pub tell-count-spec : {M : Type 1} → statement M
 tell-count-spec = tie.close (tie.spec refuses-requires tell-requires returns returns-2)

@@ -19,7 +19,10 @@ returns : tie.Need-returns
 returns c = held-none (c .before .before .before .before .args .image .now) _ (sym (c .before .before .image-layout .ensures) ∙ ap imageLaid (c .enum-told .given .1))
 
 returns-2 : tie.Need-returns-2
-returns-2 c = held-count (c .before .before .before .before .before .args .image .now) _ _ (sym (c .before .before .before .image-layout .ensures) ∙ ap imageLaid (c .before .triangles .given .1))
+returns-2 c =
+    let after-image-layout = c .before .before .before in
+    let start = after-image-layout .before .before in
+    held-count (start .args .image .now) _ _ (sym (after-image-layout .image-layout .ensures) ∙ ap imageLaid (c .before .triangles .given .1))
 
 pub triangles-held-spec : {M : Type 1} → statement M
 triangles-held-spec =

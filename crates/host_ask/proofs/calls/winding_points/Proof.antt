@@ -17,17 +17,23 @@ wind-requires c κs = search needs
 
 tell-count-requires : tie.Need-tell-count-requires
 tell-count-requires c κs =
-    let a = c .before .before .before .before .before .before .before .args in
-    rw (c .before .before .wind .ensures .0) (winding-told (a .image .now) (a .points .now) (record { below = λ i. omega (arith, c .before .before .before .before .before .before .shared-slice-known .given i) }) (omega arith) (length (a .out .now)))
+    let after-wind = c .before .before in
+    let known = after-wind .before .before .before .before in
+    let start = known .before in
+    let a = start .args in
+    rw (after-wind .wind .ensures .0) (winding-told (a .image .now) (a .points .now) (record { below = λ i. omega (arith, known .shared-slice-known .given i) }) (omega arith) (length (a .out .now)))
 
 same-length : tie.Need-same-length
 same-length c = search needs
 
 returns : tie.Need-returns
 returns c =
-    let a = c .before .before .before .before .before .before .before .before .args in (
-      c .tell-count .ensures ∙ ap (λ (v : Verdict). told v (length (a .points .now) / 12)) (c .before .before .before .wind .ensures .0),
-      c .before .before .before .wind .ensures .1 ∙ ap (λ (v : Verdict). afterBytes v (windingBytes (contents (a .image .now) .triangles) (a .points .now)) (a .out .now)) (c .before .before .before .wind .ensures .0),
+    let after-wind = c .before .before .before in
+    let at-wind-arg = after-wind .before in
+    let start = at-wind-arg .before .before .before .before in
+    let a = start .args in (
+      c .tell-count .ensures ∙ ap (λ (v : Verdict). told v (length (a .points .now) / 12)) (after-wind .wind .ensures .0),
+      after-wind .wind .ensures .1 ∙ ap (λ (v : Verdict). afterBytes v (windingBytes (contents (a .image .now) .triangles) (a .points .now)) (a .out .now)) (after-wind .wind .ensures .0),
     )
 
 pub winding-points-spec : {M : Type 1} → statement M

@@ -20,7 +20,9 @@ abbrev μ-loop : tie.MeasureT-loop
 
 loop-holds : tie.Need-loop-holds Inv-loop μ-loop
 loop-holds c =
-    let a = c .before .before .before .before .before .before .args in
+    let known3 = c .before .before .before in
+    let start = known3 .before .before .before in
+    let a = start .args in
     answered-start (answerBy binary32 (asQuery (a .query)) (a .triangles .now) (a .order .now) (a .links .now) (a .boxes .now) (a .nodes) (a .distance)) (a .points .now) (a .answers .now) _
 
 point-in-requires : tie.Need-point-in-requires Inv-loop μ-loop
@@ -28,14 +30,21 @@ point-in-requires c κs = omega (arith, c .loop-test .taken)
 
 answer-at-requires : tie.Need-answer-at-requires Inv-loop μ-loop
 answer-at-requires c κs =
-    let start = c .before .before .before .before .before .before .before .before .before in
+    let turn = c .before .before in
+    let known4 = turn .before .before .before in
+    let start = known4 .before .before .before .before in
     (start .pre .0, rw (c .point-in .ensures) (point-finite (numbersOf (start .args .points .now)) (start .pre .1 .0 .coordinates) _ (rw (numbers-long (start .args .points .now)) (omega (arith, c .before .loop-test .taken)))))
 
 mul-put-answer-bytes : tie.Need-mul-put-answer-bytes Inv-loop μ-loop
 mul-put-answer-bytes c = omega (arith, c .before .before .before .loop-test .taken)
 
 put-answer-bytes-requires : tie.Need-put-answer-bytes-requires Inv-loop μ-loop
-put-answer-bytes-requires c κs = omega (arith, c .before .before .before .before .before .before .before .before .before .before .before .pre .1 .1, c .before .before .before .before .loop .inv .long, c .before .before .before .loop-test .taken)
+put-answer-bytes-requires c κs =
+    let tested = c .before .before .before in
+    let turn = tested .before in
+    let known4 = turn .before .before .before in
+    let start = known4 .before .before .before .before in
+    omega (arith, start .pre .1 .1, turn .loop .inv .long, tested .loop-test .taken)
 
 add-k : tie.Need-add-k Inv-loop μ-loop
 add-k c = omega arith
@@ -45,17 +54,26 @@ loop-less c = omega arith
 
 loop-again : tie.Need-loop-again Inv-loop μ-loop
 loop-again c =
-    let a = c .before .before .before .before .before .before .before .before .before .before .before .before .before .before .args in
+    let after-put-answer-bytes = c .before .before in
+    let after-answer-at = after-put-answer-bytes .before .before in
+    let after-point-in = after-answer-at .before in
+    let tested = after-point-in .before in
+    let turn = tested .before in
+    let known4 = turn .before .before .before in
+    let start = known4 .before .before .before .before in
+    let a = start .args in
     let answer = answerBy binary32 (asQuery (a .query)) (a .triangles .now) (a .order .now) (a .links .now) (a .boxes .now) (a .nodes) (a .distance) in
-    answered-more answer (a .points .now) (a .answers .now) _ _ _ _ _ (c .before .before .before .before .before .before .before .before .before .before .before .before .before .before .pre .1 .1) (c .before .before .before .before .before .before .loop-test .taken) (c .before .before .before .before .before .before .before .loop .inv)
-    (c .before .before .before .before .answer-at .ensures ∙ ap answer (c .before .before .before .before .before .point-in .ensures)) (c .before .before .put-answer-bytes .ensures)
+    answered-more answer (a .points .now) (a .answers .now) _ _ _ _ _ (start .pre .1 .1) (tested .loop-test .taken) (turn .loop .inv)
+    (after-answer-at .answer-at .ensures ∙ ap answer (after-point-in .point-in .ensures)) (after-put-answer-bytes .put-answer-bytes .ensures)
 
 same-length : tie.Need-same-length Inv-loop μ-loop
 same-length c = c .before .loop .inv .long
 
 returns : tie.Need-returns Inv-loop μ-loop
 returns c =
-    let a = c .before .before .before .before .before .before .before .before .args in
+    let known4 = c .before .before .before .before in
+    let start = known4 .before .before .before .before in
+    let a = start .args in
     answered-end (answerBy binary32 (asQuery (a .query)) (a .triangles .now) (a .order .now) (a .links .now) (a .boxes .now) (a .nodes) (a .distance)) (a .points .now) (a .answers .now) _ _ _ refl (c .loop-test .left) (c .before .loop .inv)
 
 pub put-answers-spec : {M : Type 1} → statement M

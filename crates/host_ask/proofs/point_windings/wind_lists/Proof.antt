@@ -19,15 +19,22 @@ returns c = (c .before .before .wound-refusal .ensures, as-it-was _ _ _ (sym (c 
 
 put-windings-requires : tie.Need-put-windings-requires
 put-windings-requires c κs =
-    let a = c .before .before .before .before .before .before .before .args in
-    wound-passed (a .triangles .now) (a .points .now) (length (a .out .now)) (did-pass _ _ _ (c .before .before .before .wound-refusal .ensures) (c .before .before .refuses .ensures) (c .before .if1 .left))
+    let after-refuses = c .before .before in
+    let after-wound-refusal = after-refuses .before in
+    let start = after-wound-refusal .before .before .before .before in
+    let a = start .args in
+    wound-passed (a .triangles .now) (a .points .now) (length (a .out .now)) (did-pass _ _ _ (after-wound-refusal .wound-refusal .ensures) (after-refuses .refuses .ensures) (c .before .if1 .left))
 
 same-length : tie.Need-same-length
 same-length c = search needs
 
 returns-2 : tie.Need-returns-2
 returns-2 c =
-    (c .before .before .before .before .before .before .wound-refusal .ensures, as-written _ _ _ _ (c .before .before .before .before .before .before .wound-refusal .ensures ∙ did-pass _ _ _ (c .before .before .before .before .before .before .wound-refusal .ensures) (c .before .before .before .before .before .refuses .ensures) (c .before .before .before .before .if1 .left)) (c .before .before .put-windings .ensures))
+    let after-put-windings = c .before .before in
+    let chosen = after-put-windings .before .before in
+    let after-refuses = chosen .before in
+    let after-wound-refusal = after-refuses .before in
+    (after-wound-refusal .wound-refusal .ensures, as-written _ _ _ _ (after-wound-refusal .wound-refusal .ensures ∙ did-pass _ _ _ (after-wound-refusal .wound-refusal .ensures) (after-refuses .refuses .ensures) (chosen .if1 .left)) (after-put-windings .put-windings .ensures))
 
 pub wind-lists-spec : {M : Type 1} → statement M
 wind-lists-spec =

@@ -27,8 +27,10 @@ wind-laid-requires c κs = image-long _ _ _ (sym (c .before .before .before .bef
 returns : tie.Need-returns
 unfolding windingVerdict
 returns c =
-    let a = c .before .before .before .before .before .before .before .args in
-    (layout-refuses (a .image .now) _ (sym (c .before .before .before .image-layout .ensures) ∙ ap imageLaid (c .before .at .given .1)) _, as-it-was _ _ _ refl)
+    let after-image-layout = c .before .before .before in
+    let start = after-image-layout .before .before .before .before in
+    let a = start .args in
+    (layout-refuses (a .image .now) _ (sym (after-image-layout .image-layout .ensures) ∙ ap imageLaid (c .before .at .given .1)) _, as-it-was _ _ _ refl)
 
 same-length : tie.Need-same-length
 same-length c = search needs
@@ -36,10 +38,14 @@ same-length c = search needs
 returns-2 : tie.Need-returns-2
 unfolding windingVerdict
 returns-2 c =
-    let a = c .before .before .before .before .before .before .before .before .before .before .before .args in
-    let laid = sym (c .before .before .before .before .before .before .before .image-layout .ensures) ∙ ap imageLaid (c .before .before .before .before .before .count .given .1) in (
-      inner-decides (a .image .now) _ _ laid (λ x. woundRefusal (x .triangles) (a .points .now) (length (a .out .now))) _ (c .before .before .wind-laid .ensures .0),
-      c .before .before .wind-laid .ensures .1 ∙ ap (λ (x : Image). afterBytes (asVerdict (c .before .before .wind-laid .result)) (windingBytes (x .triangles) (a .points .now)) (a .out .now)) (sym (contents-are (a .image .now) _ _ laid)),
+    let after-wind-laid = c .before .before in
+    let at-count = after-wind-laid .before .before .before in
+    let after-image-layout = at-count .before .before in
+    let start = after-image-layout .before .before .before .before in
+    let a = start .args in
+    let laid = sym (after-image-layout .image-layout .ensures) ∙ ap imageLaid (at-count .count .given .1) in (
+      inner-decides (a .image .now) _ _ laid (λ x. woundRefusal (x .triangles) (a .points .now) (length (a .out .now))) _ (after-wind-laid .wind-laid .ensures .0),
+      after-wind-laid .wind-laid .ensures .1 ∙ ap (λ (x : Image). afterBytes (asVerdict (after-wind-laid .wind-laid .result)) (windingBytes (x .triangles) (a .points .now)) (a .out .now)) (sym (contents-are (a .image .now) _ _ laid)),
     )
 
 pub wind-spec : {M : Type 1} → statement M

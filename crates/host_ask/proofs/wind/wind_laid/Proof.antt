@@ -23,8 +23,10 @@ refuses-requires c κs = search needs
 returns : tie.Need-returns
 unfolding woundRefusal
 returns c =
-    let a = c .before .before .before .before .before .before .args in
-    (count-stops _ (a .count) (triangles-long (a .image .now) (a .count) (a .nodes)) _ _ _ (c .before .before .count-refusal .ensures) (c .before .refuses .ensures) (c .if1 .taken), as-it-was _ _ _ (sym (c .before .refuses .ensures) ∙ c .if1 .taken))
+    let after-count-refusal = c .before .before in
+    let start = after-count-refusal .before .before .before .before in
+    let a = start .args in
+    (count-stops _ (a .count) (triangles-long (a .image .now) (a .count) (a .nodes)) _ _ _ (after-count-refusal .count-refusal .ensures) (c .before .refuses .ensures) (c .if1 .taken), as-it-was _ _ _ (sym (c .before .refuses .ensures) ∙ c .if1 .taken))
 
 mul-numbers : tie.Need-mul-numbers
 mul-numbers c = search needs
@@ -34,17 +36,26 @@ slice-aggregate-read-f32s c = search needs
 
 read-f32s-requires : tie.Need-read-f32s-requires
 read-f32s-requires c κs =
-    let few = count-few _ _ _ (c .before .before .before .count-refusal .ensures) (c .before .before .refuses .ensures) (c .before .if1 .left) in
-    (omega (arith, c .before .before .before .before .before .before .before .pre), omega arith)
+    let after-refuses = c .before .before in
+    let after-count-refusal = after-refuses .before in
+    let start = after-count-refusal .before .before .before .before in
+    let few = count-few _ _ _ (after-count-refusal .count-refusal .ensures) (after-refuses .refuses .ensures) (c .before .if1 .left) in
+    (omega (arith, start .pre), omega arith)
 
 array-share-prefix-triangles : tie.Need-array-share-prefix-triangles
 array-share-prefix-triangles c =
-    let few = count-few _ _ _ (c .before .before .before .before .before .count-refusal .ensures) (c .before .before .before .before .refuses .ensures) (c .before .before .before .if1 .left) in
+    let chosen = c .before .before .before in
+    let after-refuses = chosen .before in
+    let after-count-refusal = after-refuses .before in
+    let few = count-few _ _ _ (after-count-refusal .count-refusal .ensures) (after-refuses .refuses .ensures) (chosen .if1 .left) in
     omega (arith, c .triangles2 .given)
 
 slice-aggregate-wind-lists : tie.Need-slice-aggregate-wind-lists
 slice-aggregate-wind-lists c =
-    let few = count-few _ _ _ (c .before .before .before .before .before .before .count-refusal .ensures) (c .before .before .before .before .before .refuses .ensures) (c .before .before .before .before .if1 .left) in
+    let chosen = c .before .before .before .before in
+    let after-refuses = chosen .before in
+    let after-count-refusal = after-refuses .before in
+    let few = count-few _ _ _ (after-count-refusal .count-refusal .ensures) (after-refuses .refuses .ensures) (chosen .if1 .left) in
     sym (length-take-le _ _ (omega (arith, c .before .triangles2 .given)))
 
 wind-lists-requires : tie.Need-wind-lists-requires
@@ -55,10 +66,14 @@ same-length c = search needs
 
 returns-2 : tie.Need-returns-2
 returns-2 c =
-    let a = c .before .before .before .before .before .before .before .before .before .before .before .before .before .before .args in
-    let read = triangles-read (a .image .now) (a .count) (a .nodes) _ _ (c .before .before .before .before .before .before .read-f32s .ensures) in (
-      c .before .before .wind-lists .ensures .0 ∙ ap (λ (l : List Float). woundRefusal l (a .points .now) (length (a .out .now))) read,
-      c .before .before .wind-lists .ensures .1 ∙ ap (λ (l : List Float). afterBytes (asVerdict (c .before .before .wind-lists .result)) (windingBytes l (a .points .now)) (a .out .now)) read,
+    let after-wind-lists = c .before .before in
+    let after-read-f32s = after-wind-lists .before .before .before .before in
+    let after-count-refusal = after-read-f32s .before .before .before .before in
+    let start = after-count-refusal .before .before .before .before in
+    let a = start .args in
+    let read = triangles-read (a .image .now) (a .count) (a .nodes) _ _ (after-read-f32s .read-f32s .ensures) in (
+      after-wind-lists .wind-lists .ensures .0 ∙ ap (λ (l : List Float). woundRefusal l (a .points .now) (length (a .out .now))) read,
+      after-wind-lists .wind-lists .ensures .1 ∙ ap (λ (l : List Float). afterBytes (asVerdict (after-wind-lists .wind-lists .result)) (windingBytes l (a .points .now)) (a .out .now)) read,
     )
 
 pub wind-laid-spec : {M : Type 1} → statement M

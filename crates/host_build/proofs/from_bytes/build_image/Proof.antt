@@ -34,12 +34,16 @@ read-triangles-requires c κs =
 
 array-share-prefix-list : tie.Need-array-share-prefix-list
 array-share-prefix-list c =
-    let few = length-passed _ (sym (c .before .before .before .before .before .length-refusal .ensures) ∙ ap asVerdict (c .before .before .before .enum-told .given .1)) in
+    let at-enum-told = c .before .before .before in
+    let after-length-refusal = at-enum-told .before .before in
+    let few = length-passed _ (sym (after-length-refusal .length-refusal .ensures) ∙ ap asVerdict (at-enum-told .enum-told .given .1)) in
     omega (arith, c .list2 .given)
 
 slice-aggregate-build-list : tie.Need-slice-aggregate-build-list
 slice-aggregate-build-list c =
-    let few = length-passed _ (sym (c .before .before .before .before .before .before .length-refusal .ensures) ∙ ap asVerdict (c .before .before .before .before .enum-told .given .1)) in
+    let at-enum-told = c .before .before .before .before in
+    let after-length-refusal = at-enum-told .before .before in
+    let few = length-passed _ (sym (after-length-refusal .length-refusal .ensures) ∙ ap asVerdict (at-enum-told .enum-told .given .1)) in
     sym (length-take-le _ _ (omega (arith, c .before .list2 .given)))
 
 build-list-requires : tie.Need-build-list-requires
@@ -49,7 +53,12 @@ same-length : tie.Need-same-length
 same-length c = search needs
 
 returns-2 : tie.Need-returns-2
-returns-2 c = put-as (bytes-whole _ _ _ (length-passed _ (sym (c .before .before .before .before .before .before .before .before .before .before .length-refusal .ensures) ∙ ap asVerdict (c .before .before .before .before .before .before .before .before .enum-told .given .1)) .0)) refl refl (rw (numbers-read _ _ _ (c .before .before .before .before .before .before .read-triangles .ensures)) at (c .before .before .build-list .ensures))
+returns-2 c =
+    let after-build-list = c .before .before in
+    let after-read-triangles = after-build-list .before .before .before .before in
+    let at-enum-told = after-read-triangles .before .before in
+    let after-length-refusal = at-enum-told .before .before in
+    put-as (bytes-whole _ _ _ (length-passed _ (sym (after-length-refusal .length-refusal .ensures) ∙ ap asVerdict (at-enum-told .enum-told .given .1)) .0)) refl refl (rw (numbers-read _ _ _ (after-read-triangles .read-triangles .ensures)) at (after-build-list .build-list .ensures))
 
 pub build-image-spec : {M : Type 1} → statement M
 build-image-spec =

@@ -47,8 +47,13 @@ as-told : (t : List Float) (s : Settings) (order links : List ℕ) (boxes : List
 as-told t s order links boxes e b = rw e at b
 
 built : (c : tie.After-build) {told : Built} → c .build .result ≡ told
-    → BuildIs binary32 (now (c .before .before .before .before .before .before .args .triangles)) (asSettings (c .before .before .before .before .before .before .args .settings)) lent-order lent-links lent-boxes (asBuilt told) (c .build .last .1 .1 .1 .1 .0) (c .build .last .1 .1 .1 .1 .1 .0) (c .build .last .1 .1 .1 .1 .1 .1 .0)
-built c e = as-told (now (c .before .before .before .before .before .before .args .triangles)) (c .before .before .before .before .before .before .args .settings) lent-order lent-links lent-boxes e (c .build .ensures)
+    → let at-order = c .before .before .before in
+    let start = at-order .before .before .before in
+    BuildIs binary32 (now (start .args .triangles)) (asSettings (start .args .settings)) lent-order lent-links lent-boxes (asBuilt told) (c .build .last .1 .1 .1 .1 .0) (c .build .last .1 .1 .1 .1 .1 .0) (c .build .last .1 .1 .1 .1 .1 .1 .0)
+built c e =
+    let at-order = c .before .before .before in
+    let start = at-order .before .before .before in
+    as-told (now (start .args .triangles)) (start .args .settings) lent-order lent-links lent-boxes e (c .build .ensures)
 
 slice-aggregate-build : tie.Need-slice-aggregate-build
 slice-aggregate-build c = sym order-long
@@ -67,8 +72,12 @@ enum-known-built c = search needs
 
 tell-refusal-requires : tie.Need-tell-refusal-requires
 tell-refusal-requires c κs =
-    let a = c .before .before .before .before .before .before .before .before .before .before .before .before .args in
-    build-told (now (a .triangles)) (asSettings (a .settings)) lent-order lent-links lent-boxes order-long links-long boxes-long (built (c .before .before .before .before .before .before) (c .before .built .given .1))
+    let at-boxes2 = c .before .before .before in
+    let after-build = at-boxes2 .before .before .before in
+    let at-order = after-build .before .before .before in
+    let start = at-order .before .before .before in
+    let a = start .args in
+    build-told (now (a .triangles)) (asSettings (a .settings)) lent-order lent-links lent-boxes order-long links-long boxes-long (built after-build (c .before .built .given .1))
 
 enum-known-built-2 : tie.Need-enum-known-built-2
 enum-known-built-2 c = search needs
@@ -78,38 +87,68 @@ triangle-count-requires c κs = search needs
 
 array-share-prefix-order : tie.Need-array-share-prefix-order
 array-share-prefix-order c =
-    let a = c .before .before .before .before .before .before .before .before .before .before .before .before .before .args in
-    within (c .triangle-count .ensures) (c .before .before .before .before .before .before .order2 .given) (listed-few (now (a .triangles)) (asSettings (a .settings)) lent-order lent-links lent-boxes order-long links-long boxes-long (built (c .before .before .before .before .before .before .before) (c .before .before .built2 .given .1)))
+    let at-built2 = c .before .before in
+    let at-order2 = at-built2 .before .before .before .before in
+    let after-build = at-order2 .before in
+    let at-order = after-build .before .before .before in
+    let start = at-order .before .before .before in
+    let a = start .args in
+    within (c .triangle-count .ensures) (at-order2 .order2 .given) (listed-few (now (a .triangles)) (asSettings (a .settings)) lent-order lent-links lent-boxes order-long links-long boxes-long (built after-build (at-built2 .built2 .given .1)))
 
 slice-aggregate-put-built : tie.Need-slice-aggregate-put-built
 slice-aggregate-put-built c = sym (length-take-le _ _ (array-share-prefix-order (c .before)))
 
 slice-aggregate-put-built-2 : tie.Need-slice-aggregate-put-built-2
-slice-aggregate-put-built-2 c = sym (c .before .before .before .before .before .before .before .links2 .given)
+slice-aggregate-put-built-2 c =
+    let at-built2 = c .before .before .before .before in
+    let at-links2 = at-built2 .before .before .before in
+    sym (at-links2 .links2 .given)
 
 slice-aggregate-put-built-3 : tie.Need-slice-aggregate-put-built-3
-slice-aggregate-put-built-3 c = sym (c .before .before .before .before .before .before .before .boxes2 .given)
+slice-aggregate-put-built-3 c =
+    let after-triangle-count = c .before .before .before in
+    let at-boxes2 = after-triangle-count .before .before .before .before in
+    sym (at-boxes2 .boxes2 .given)
 
 put-built-requires : tie.Need-put-built-requires
 put-built-requires c κs =
-    let a = c .before .before .before .before .before .before .before .before .before .before .before .before .before .before .before .before .before .args in
-    rw (c .before .before .before .before .triangle-count .ensures) (listed-puttable (now (a .triangles)) (asSettings (a .settings)) lent-order lent-links lent-boxes order-long links-long boxes-long (built (c .before .before .before .before .before .before .before .before .before .before .before) (c .before .before .before .before .before .before .built2 .given .1)))
+    let after-triangle-count = c .before .before .before .before in
+    let at-built2 = after-triangle-count .before .before in
+    let at-boxes2 = at-built2 .before .before in
+    let after-build = at-boxes2 .before .before .before in
+    let at-order = after-build .before .before .before in
+    let start = at-order .before .before .before in
+    let a = start .args in
+    rw (after-triangle-count .triangle-count .ensures) (listed-puttable (now (a .triangles)) (asSettings (a .settings)) lent-order lent-links lent-boxes order-long links-long boxes-long (built after-build (at-built2 .built2 .given .1)))
 
 returns : tie.Need-returns
 returns c =
-    let a = c .before .before .before .before .before .before .before .before .before .before .before .before .before .args in
-    put-nothing (build-refused (now (a .triangles)) (asSettings (a .settings)) lent-order lent-links lent-boxes order-long links-long boxes-long (built (c .before .before .before .before .before .before .before) (c .before .before .built .given .1)) _) (c .tell-refusal .ensures)
+    let at-built = c .before .before in
+    let at-boxes2 = at-built .before .before in
+    let after-build = at-boxes2 .before .before .before in
+    let at-order = after-build .before .before .before in
+    let start = at-order .before .before .before in
+    let a = start .args in
+    put-nothing (build-refused (now (a .triangles)) (asSettings (a .settings)) lent-order lent-links lent-boxes order-long links-long boxes-long (built after-build (at-built .built .given .1)) _) (c .tell-refusal .ensures)
 
 same-length : tie.Need-same-length
 same-length c = search needs
 
 returns-2 : tie.Need-returns-2
 returns-2 c =
-    let a = c .before .before .before .before .before .before .before .before .before .before .before .before .before .before .before .before .before .before .before .before .args in
+    let after-put-built = c .before .before in
+    let at-boxes3 = after-put-built .before .before in
+    let after-triangle-count = at-boxes3 .before .before .before in
+    let at-built2 = after-triangle-count .before .before in
+    let at-boxes2 = at-built2 .before .before in
+    let after-build = at-boxes2 .before .before .before in
+    let at-order = after-build .before .before .before in
+    let start = at-order .before .before .before in
+    let a = start .args in
     let t = now (a .triangles) in
     let s = asSettings (a .settings) in
-    let b = built (c .before .before .before .before .before .before .before .before .before .before .before .before .before .before) (c .before .before .before .before .before .before .before .before .before .built2 .given .1) in
-    put-as (listed-refusal t s lent-order lent-links lent-boxes order-long links-long boxes-long b _) (listed-bytes t s lent-order lent-links lent-boxes order-long links-long boxes-long b) (listed-size t s lent-order lent-links lent-boxes order-long links-long boxes-long b) (rw (c .before .before .before .before .before .before .before .triangle-count .ensures) at (c .before .before .put-built .ensures))
+    let b = built after-build (at-built2 .built2 .given .1) in
+    put-as (listed-refusal t s lent-order lent-links lent-boxes order-long links-long boxes-long b _) (listed-bytes t s lent-order lent-links lent-boxes order-long links-long boxes-long b) (listed-size t s lent-order lent-links lent-boxes order-long links-long boxes-long b) (rw (after-triangle-count .triangle-count .ensures) at (after-put-built .put-built .ensures))
 
 pub build-list-spec : {M : Type 1} → statement M
 build-list-spec =

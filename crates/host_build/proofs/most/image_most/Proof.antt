@@ -13,7 +13,9 @@ returns c = rw (lt-leb 1 (c .before .args .triangles) (c .if1 .taken))
 
 returns-2 : tie.Need-returns-2
 unfolding imageMost
-returns-2 c = rw (le-leb 1 (c .before .before .args .triangles) (c .before .if1 .left), lt-leb (c .before .before .args .triangles) mostTriangles (c .if2 .taken))
+returns-2 c =
+    let start = c .before .before in
+    rw (le-leb 1 (start .args .triangles) (c .before .if1 .left), lt-leb (start .args .triangles) mostTriangles (c .if2 .taken))
 
 mul-image-size : tie.Need-mul-image-size
 mul-image-size c = search needs
@@ -26,7 +28,10 @@ image-size-requires c κs = search needs
 
 returns-3 : tie.Need-returns-3
 unfolding imageMost
-returns-3 c = rw (le-leb 1 (c .before .before .before .args .triangles) (c .before .before .if1 .left), le-leb (c .before .before .before .args .triangles) mostTriangles (c .before .if2 .left)) (c .image-size .ensures)
+returns-3 c =
+    let chosen = c .before .before in
+    let start = chosen .before in
+    rw (le-leb 1 (start .args .triangles) (chosen .if1 .left), le-leb (start .args .triangles) mostTriangles (c .before .if2 .left)) (c .image-size .ensures)
 
 pub image-most-spec : {M : Type 1} → statement M
 image-most-spec =

@@ -29,8 +29,14 @@ same-length c = search needs
 
 returns-2 : tie.Need-returns-2
 returns-2 c =
-    put-all (room-passes _ _ (omega (arith, c .before .before .before .before .before .if1 .left, c .before .before .before .before .before .before .image-size .ensures, c .before .before .before .before .before .before .before .triangle-count .ensures)))
-    (omega (arith, c .tell .ensures, c .before .before .before .put-image .ensures .1, c .before .before .before .before .before .before .before .before .before .before .before .before .before .pre .counted)) (c .before .before .before .put-image .ensures .0)
+    let after-put-image = c .before .before .before in
+    let chosen = after-put-image .before .before in
+    let after-image-size = chosen .before in
+    let after-triangle-count = after-image-size .before in
+    let known3 = after-triangle-count .before .before .before in
+    let start = known3 .before .before .before in
+    put-all (room-passes _ _ (omega (arith, chosen .if1 .left, after-image-size .image-size .ensures, after-triangle-count .triangle-count .ensures)))
+    (omega (arith, c .tell .ensures, after-put-image .put-image .ensures .1, start .pre .counted)) (after-put-image .put-image .ensures .0)
 
 pub put-built-spec : {M : Type 1} → statement M
 put-built-spec =

@@ -28,9 +28,12 @@ same-length c = search needs
 
 returns : tie.Need-returns
 returns c =
-    let a = c .before .before .before .before .before .before .before .before .before .args in
-    c .before .before .put-u32s .ensures .0 .written
-    ∙ ap (λ (words : List ℕ). over (a .at) (numberBytes 4 words 0 6) (now (a .out))) (c .before .before .before .before .before .before .put-answer .ensures)
+    let after-put-u32s = c .before .before in
+    let after-put-answer = after-put-u32s .before .before .before .before in
+    let start = after-put-answer .before .before .before in
+    let a = start .args in
+    after-put-u32s .put-u32s .ensures .0 .written
+    ∙ ap (λ (words : List ℕ). over (a .at) (numberBytes 4 words 0 6) (now (a .out))) (after-put-answer .put-answer .ensures)
     ∙ ap (λ (new : List ℕ). over (a .at) new (now (a .out))) (six-bytes (asAnswer (a .answer)) _ refl)
 
 pub put-answer-bytes-spec : {M : Type 1} → statement M

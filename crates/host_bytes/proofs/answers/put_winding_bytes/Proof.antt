@@ -22,8 +22,11 @@ same-length c = search needs
 
 returns : tie.Need-returns
 returns c =
-    let a = c .before .before .before .before .before .before .args in
-    c .before .before .put-u32 .ensures .0 .written ∙ ap (λ (n : ℕ). over (a .at) (little 4 n) (now (a .out))) (c .before .before .before .bits-of .ensures)
+    let after-put-u32 = c .before .before in
+    let after-bits-of = after-put-u32 .before in
+    let start = after-bits-of .before .before .before in
+    let a = start .args in
+    after-put-u32 .put-u32 .ensures .0 .written ∙ ap (λ (n : ℕ). over (a .at) (little 4 n) (now (a .out))) (after-bits-of .bits-of .ensures)
 
 pub put-winding-bytes-spec : {M : Type 1} → statement M
 put-winding-bytes-spec =

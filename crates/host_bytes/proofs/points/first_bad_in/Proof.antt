@@ -30,9 +30,13 @@ is-coordinate-requires c κs = search needs
 
 returns : tie.Need-returns Inv-loop μ-loop
 returns c =
-    let loop = c .before .before .before .before .loop in
-    let s = c .before .before .before .before .before .before .args .bytes .now in
-    let found = bad-here (numbersOf s) (loop .i) (rw (numbers-long s) (c .before .before .before .loop-test .taken)) (ap isCoordinate (sym (c .before .before .number-in .ensures)) ∙ sym (c .before .is-coordinate .ensures) ∙ not-true _ (c .if1 .taken)) in
+    let after-number-in = c .before .before in
+    let tested = after-number-in .before in
+    let turn = tested .before in
+    let start = turn .before .before in
+    let loop = turn .loop in
+    let s = start .args .bytes .now in
+    let found = bad-here (numbersOf s) (loop .i) (rw (numbers-long s) (tested .loop-test .taken)) (ap isCoordinate (sym (after-number-in .number-in .ensures)) ∙ sym (c .before .is-coordinate .ensures) ∙ not-true _ (c .if1 .taken)) in
     omega (arith, loop .inv)
 
 add-i : tie.Need-add-i Inv-loop μ-loop
@@ -43,9 +47,13 @@ loop-less c = omega arith
 
 loop-again : tie.Need-loop-again Inv-loop μ-loop
 loop-again c =
-    let loop = c .before .before .before .before .loop in
-    let s = c .before .before .before .before .before .before .args .bytes .now in
-    let next = good-here (numbersOf s) (loop .i) (rw (numbers-long s) (c .before .before .before .loop-test .taken)) (ap isCoordinate (sym (c .before .before .number-in .ensures)) ∙ sym (c .before .is-coordinate .ensures) ∙ not-false _ (c .if1 .left)) in
+    let after-number-in = c .before .before in
+    let tested = after-number-in .before in
+    let turn = tested .before in
+    let start = turn .before .before in
+    let loop = turn .loop in
+    let s = start .args .bytes .now in
+    let next = good-here (numbersOf s) (loop .i) (rw (numbers-long s) (tested .loop-test .taken)) (ap isCoordinate (sym (after-number-in .number-in .ensures)) ∙ sym (c .before .is-coordinate .ensures) ∙ not-false _ (c .if1 .left)) in
     omega (arith, loop .inv)
 
 returns-2 : tie.Need-returns-2 Inv-loop μ-loop

@@ -17,7 +17,9 @@ from-bits-requires : tie.Need-from-bits-requires
 from-bits-requires c κs = search needs
 
 returns : tie.Need-returns
-returns c = c .from-bits .ensures ∙ ap (ofBits binary32) (c .before .u32-at .ensures) ∙ sym (number-is (c .before .before .before .args .bytes .now) (c .before .before .before .args .i) (omega arith))
+returns c =
+    let start = c .before .before .before in
+    c .from-bits .ensures ∙ ap (ofBits binary32) (c .before .u32-at .ensures) ∙ sym (number-is (start .args .bytes .now) (start .args .i) (omega arith))
 
 pub number-in-spec : {M : Type 1} → statement M
 number-in-spec = tie.close (tie.spec mul-u32-at u32-at-requires from-bits-requires returns)

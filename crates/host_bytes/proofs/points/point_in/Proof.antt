@@ -35,11 +35,16 @@ plus-zero-requires-3 c κs = search needs
 
 returns : tie.Need-returns
 unfolding pointAt numberAt
-returns c = λ i. record {
-  x = (c .before .before .before .before .plus-zero .ensures ∙ ap plusZero (c .before .before .before .before .before .number-in .ensures)) i;
-  y = (c .before .before .plus-zero2 .ensures ∙ ap plusZero (c .before .before .before .number-in2 .ensures)) i;
-  z = (c .plus-zero3 .ensures ∙ ap plusZero (c .before .number-in3 .ensures)) i;
-}
+returns c =
+    let after-plus-zero2 = c .before .before in
+    let after-number-in2 = after-plus-zero2 .before in
+    let after-plus-zero = after-number-in2 .before in
+    let after-number-in = after-plus-zero .before in
+    λ i. record {
+      x = (after-plus-zero .plus-zero .ensures ∙ ap plusZero (after-number-in .number-in .ensures)) i;
+      y = (after-plus-zero2 .plus-zero2 .ensures ∙ ap plusZero (after-number-in2 .number-in2 .ensures)) i;
+      z = (c .plus-zero3 .ensures ∙ ap plusZero (c .before .number-in3 .ensures)) i;
+    }
 
 pub point-in-spec : {M : Type 1} → statement M
 point-in-spec =

@@ -27,7 +27,12 @@ same-length-4 c = search needs
 
 returns : tie.Need-returns
 unfolding imageIn
-returns c = record { triangles = c .before .before .before .before .before .before .before .before .before .before .before .before .«read-f32s» .ensures; order = c .before .before .before .before .before .before .«read-tree» .ensures .order; links = c .before .before .before .before .before .before .«read-tree» .ensures .links; boxes = c .before .before .before .before .before .before .«read-tree» .ensures .boxes }
+returns c =
+    let at-links = c .before .before .before in
+    let after-read-tree = at-links .before .before .before in
+    let at-read-tree-arg = after-read-tree .before .before .before in
+    let after-read-f32s = at-read-tree-arg .before .before .before in
+    record { triangles = after-read-f32s .«read-f32s» .ensures; order = after-read-tree .«read-tree» .ensures .order; links = after-read-tree .«read-tree» .ensures .links; boxes = after-read-tree .«read-tree» .ensures .boxes }
 
 pub read-lists-spec : {M : Type 1} → statement M
 read-lists-spec =

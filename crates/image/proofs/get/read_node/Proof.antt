@@ -48,8 +48,13 @@ same-length-2 c = search needs
 returns : tie.Need-returns
 unfolding sidesIn
 returns c =
-    let a = c .before .before .before .before .before .before .before .before .before .before .before .before .before .before .before .args in
-    (links-over (now (a .bytes)) (a .start) (a .node) (now (a .links)) _ _ (c .before .before .before .before .before .before .before .before .before .before .before .before .before .before .before .pre .1 .0) (c .before .before .before .before .before .before .before .before .before .before .«read-u16s» .ensures) (c .before .before .before .before .before .before .«read-u16s2» .ensures), c .before .before .«read-f32s» .ensures)
+    let after-read-f32s = c .before .before in
+    let after-read-u16s2 = after-read-f32s .before .before .before .before in
+    let after-read-u16s = after-read-u16s2 .before .before .before .before in
+    let at-read-u16s-arg = after-read-u16s .before in
+    let start = at-read-u16s-arg .before .before .before .before in
+    let a = start .args in
+    (links-over (now (a .bytes)) (a .start) (a .node) (now (a .links)) _ _ (start .pre .1 .0) (after-read-u16s .«read-u16s» .ensures) (after-read-u16s2 .«read-u16s2» .ensures), after-read-f32s .«read-f32s» .ensures)
 
 pub read-node-spec : {M : Type 1} → statement M
 read-node-spec =

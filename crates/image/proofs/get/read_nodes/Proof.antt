@@ -31,10 +31,14 @@ loop-less c = search needs
 
 loop-again : tie.Need-loop-again Inv-loop μ-loop
 loop-again c =
-    let a = c .before .before .before .before .before .before .before .before .before .before .before .before .args in
-    let v = c .before .before .before .before .before .before .before .before .loop .inv in (
-      run-front (linksIn version1 (now (a .bytes)) (a .start)) 3 (a .nodes) (now (a .links)) _ _ (c .before .before .before .before .before .before .before .before .loop .i) (length-links version1 (now (a .bytes)) (a .start)) (c .before .before .before .before .before .before .before .before .before .before .before .before .pre .1 .0) (c .before .before .before .before .before .before .before .«loop-test» .taken) (v .0) (c .before .before .before .before .«read-node» .ensures .0),
-      run-front (sidesIn version1 (now (a .bytes)) (a .start)) 6 (a .nodes) (now (a .boxes)) _ _ (c .before .before .before .before .before .before .before .before .loop .i) (length-box version1 (now (a .bytes)) (a .start)) (c .before .before .before .before .before .before .before .before .before .before .before .before .pre .1 .1) (c .before .before .before .before .before .before .before .«loop-test» .taken) (v .1) (c .before .before .before .before .«read-node» .ensures .1),
+    let after-read-node = c .before .before .before .before in
+    let tested = after-read-node .before .before .before in
+    let turn = tested .before in
+    let start = turn .before .before .before .before in
+    let a = start .args in
+    let v = turn .loop .inv in (
+      run-front (linksIn version1 (now (a .bytes)) (a .start)) 3 (a .nodes) (now (a .links)) _ _ (turn .loop .i) (length-links version1 (now (a .bytes)) (a .start)) (start .pre .1 .0) (tested .«loop-test» .taken) (v .0) (after-read-node .«read-node» .ensures .0),
+      run-front (sidesIn version1 (now (a .bytes)) (a .start)) 6 (a .nodes) (now (a .boxes)) _ _ (turn .loop .i) (length-box version1 (now (a .bytes)) (a .start)) (start .pre .1 .1) (tested .«loop-test» .taken) (v .1) (after-read-node .«read-node» .ensures .1),
     )
 
 same-length : tie.Need-same-length Inv-loop μ-loop
@@ -45,10 +49,12 @@ same-length-2 c = c .before .loop .inv .1 .long
 
 returns : tie.Need-returns Inv-loop μ-loop
 returns c =
-    let a = c .before .before .before .before .before .args in
-    let v = c .before .loop .inv in (
-      run-end (linksIn version1 (now (a .bytes)) (a .start)) 0 (a .nodes) (now (a .links)) _ (c .before .loop .i) (c .«loop-test» .left) (v .0),
-      run-end (sidesIn version1 (now (a .bytes)) (a .start)) 0 (a .nodes) (now (a .boxes)) _ (c .before .loop .i) (c .«loop-test» .left) (v .1),
+    let turn = c .before in
+    let start = turn .before .before .before .before in
+    let a = start .args in
+    let v = turn .loop .inv in (
+      run-end (linksIn version1 (now (a .bytes)) (a .start)) 0 (a .nodes) (now (a .links)) _ (turn .loop .i) (c .«loop-test» .left) (v .0),
+      run-end (sidesIn version1 (now (a .bytes)) (a .start)) 0 (a .nodes) (now (a .boxes)) _ (turn .loop .i) (c .«loop-test» .left) (v .1),
     )
 
 pub read-nodes-spec : {M : Type 1} → statement M

@@ -39,7 +39,11 @@ same-length-3 c = search needs
 
 returns : tie.Need-returns
 unfolding imageIn
-returns c = record { order = c .before .before .before .before .before .before .before .before .before .«read-u16s» .ensures; links = c .before .before .before .before .«read-nodes» .ensures .0; boxes = c .before .before .before .before .«read-nodes» .ensures .1 }
+returns c =
+    let after-read-nodes = c .before .before .before .before in
+    let at-read-nodes-arg = after-read-nodes .before .before in
+    let after-read-u16s = at-read-nodes-arg .before .before .before in
+    record { order = after-read-u16s .«read-u16s» .ensures; links = after-read-nodes .«read-nodes» .ensures .0; boxes = after-read-nodes .«read-nodes» .ensures .1 }
 
 pub read-tree-spec : {M : Type 1} → statement M
 read-tree-spec =

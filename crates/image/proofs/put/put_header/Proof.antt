@@ -17,7 +17,10 @@ same-length c = search needs
 
 returns : tie.Need-returns
 unfolding header
-returns c = (put-then (c .before .before .before .before .before .before .«put-u32» .ensures .0) (c .before .before .«put-u16» .ensures .0), omega arith)
+returns c =
+    let after-put-u16 = c .before .before in
+    let after-put-u32 = after-put-u16 .before .before .before .before in
+    (put-then (after-put-u32 .«put-u32» .ensures .0) (after-put-u16 .«put-u16» .ensures .0), omega arith)
 
 pub put-header-spec : {M : Type 1} → statement M
 put-header-spec = tie.close (tie.spec put-u32-requires put-u16-requires same-length returns)

@@ -36,10 +36,17 @@ same-length c = search needs
 returns : tie.Need-returns
 unfolding imageBytes
 returns c =
-    let a = c .before .before .before .before .before .before .before .before .before .before .before .before .before .before .before .before .before .before .before .before .before .before .before .before .before .args in
+    let after-put-nodes = c .before .before in
+    let after-put-header = after-put-nodes .before .before .before .before in
+    let after-put-order = after-put-header .before .before .before .before in
+    let after-put-triangles = after-put-order .before .before .before .before in
+    let after-put-settings = after-put-triangles .before .before .before .before in
+    let known4 = after-put-settings .before .before .before in
+    let start = known4 .before .before .before .before in
+    let a = start .args in
     let x = imageOf (a .settings) (now (a .triangles)) (now (a .order)) (now (a .links)) (now (a .boxes)) (a .nodes) in
-    let nodes = record-put 4 (30 * a .nodes) (length-nodes version1 x) (c .before .before .before .before .before .before .«put-header» .ensures .0) (c .before .before .«put-nodes» .ensures .0) in
-    (put-then (put-then (put-then (c .before .before .before .before .before .before .before .before .before .before .before .before .before .before .before .before .before .before .«put-settings» .ensures .0) (c .before .before .before .before .before .before .before .before .before .before .before .before .before .before .«put-triangles» .ensures .0)) (c .before .before .before .before .before .before .before .before .before .before .«put-order» .ensures .0)) nodes, omega (arith, c .before .before .before .before .before .before .before .before .before .before .before .before .before .before .before .before .before .before .before .before .before .before .before .before .before .pre .0 .triples))
+    let nodes = record-put 4 (30 * a .nodes) (length-nodes version1 x) (after-put-header .«put-header» .ensures .0) (after-put-nodes .«put-nodes» .ensures .0) in
+    (put-then (put-then (put-then (after-put-settings .«put-settings» .ensures .0) (after-put-triangles .«put-triangles» .ensures .0)) (after-put-order .«put-order» .ensures .0)) nodes, omega (arith, start .pre .0 .triples))
 
 pub put-image-spec : {M : Type 1} → statement M
 put-image-spec =

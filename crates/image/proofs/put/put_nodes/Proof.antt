@@ -16,8 +16,9 @@ abbrev μ-loop : tie.MeasureT-loop
 
 loop-holds : tie.Need-loop-holds Inv-loop μ-loop
 loop-holds c =
-    let a = c .before .before .before .args in
-    puts-start (nodeBytes version1 (now (a .links)) (now (a .boxes))) 30 (a .at) (a .nodes) (now (a .out)) (c .before .before .before .pre .1)
+    let start = c .before .before .before in
+    let a = start .args in
+    puts-start (nodeBytes version1 (now (a .links)) (now (a .boxes))) 30 (a .at) (a .nodes) (now (a .out)) (start .pre .1)
 
 put-node-requires : tie.Need-put-node-requires Inv-loop μ-loop
 put-node-requires c κs = search needs
@@ -30,16 +31,22 @@ loop-less c = search needs
 
 loop-again : tie.Need-loop-again Inv-loop μ-loop
 loop-again c =
-    let a = c .before .before .before .before .before .before .before .before .before .args in
-    puts-more (nodeBytes version1 (now (a .links)) (now (a .boxes))) 30 (a .at) (a .nodes) (c .before .before .before .before .«loop-test» .taken) (c .before .before .before .before .before .loop .inv) (c .before .before .«put-node» .ensures .0) (c .before .before .«put-node» .ensures .1)
+    let after-put-node = c .before .before in
+    let tested = after-put-node .before .before in
+    let turn = tested .before in
+    let start = turn .before .before .before .before in
+    let a = start .args in
+    puts-more (nodeBytes version1 (now (a .links)) (now (a .boxes))) 30 (a .at) (a .nodes) (tested .«loop-test» .taken) (turn .loop .inv) (after-put-node .«put-node» .ensures .0) (after-put-node .«put-node» .ensures .1)
 
 same-length : tie.Need-same-length Inv-loop μ-loop
 same-length c = c .before .loop .inv .long
 
 returns : tie.Need-returns Inv-loop μ-loop
 returns c =
-    let a = c .before .before .before .before .before .args in
-    puts-end (nodeBytes version1 (now (a .links)) (now (a .boxes))) 30 (a .at) (a .nodes) (c .«loop-test» .left) (c .before .loop .inv)
+    let turn = c .before in
+    let start = turn .before .before .before .before in
+    let a = start .args in
+    puts-end (nodeBytes version1 (now (a .links)) (now (a .boxes))) 30 (a .at) (a .nodes) (c .«loop-test» .left) (turn .loop .inv)
 
 pub put-nodes-spec : {M : Type 1} → statement M
 put-nodes-spec =

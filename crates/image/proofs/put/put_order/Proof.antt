@@ -23,8 +23,11 @@ same-length c = search needs
 
 returns : tie.Need-returns
 returns c =
-    let order = now (c .before .before .before .before .before .before .before .before .before .before .args .order) in
-    (record-put 3 (2 * length order) (length-numbers 2 order 0 (length order)) (c .before .before .before .before .before .before .«put-header» .ensures .0) (c .before .before .«put-u16s» .ensures .0), omega arith)
+    let after-put-u16s = c .before .before in
+    let after-put-header = after-put-u16s .before .before .before .before in
+    let start = after-put-header .before .before .before .before in
+    let order = now (start .args .order) in
+    (record-put 3 (2 * length order) (length-numbers 2 order 0 (length order)) (after-put-header .«put-header» .ensures .0) (after-put-u16s .«put-u16s» .ensures .0), omega arith)
 
 pub put-order-spec : {M : Type 1} → statement M
 put-order-spec =

@@ -24,8 +24,11 @@ same-length c = search needs
 
 returns : tie.Need-returns
 returns c =
-    let triangles = now (c .before .before .before .before .before .before .before .before .before .before .args .triangles) in
-    (record-put 2 (4 * length triangles) (length-floats binary32 triangles 0 (length triangles)) (c .before .before .before .before .before .before .«put-header» .ensures .0) (c .before .before .«put-f32s» .ensures .0), omega arith)
+    let after-put-f32s = c .before .before in
+    let after-put-header = after-put-f32s .before .before .before .before in
+    let start = after-put-header .before .before .before .before in
+    let triangles = now (start .args .triangles) in
+    (record-put 2 (4 * length triangles) (length-floats binary32 triangles 0 (length triangles)) (after-put-header .«put-header» .ensures .0) (after-put-f32s .«put-f32s» .ensures .0), omega arith)
 
 pub put-triangles-spec : {M : Type 1} → statement M
 put-triangles-spec =

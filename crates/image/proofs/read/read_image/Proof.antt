@@ -19,18 +19,35 @@ enum-known-count c = search needs
 
 has-room-requires : tie.Need-has-room-requires
 has-room-requires c κs =
-    let long = image-long (now (c .before .before .before .before .before .before .before .before .before .args .bytes)) (c .before .before .before .«image-layout» .ensures) (c .before .count .given .1) in
+    let after-image-layout = c .before .before .before in
+    let known2 = after-image-layout .before .before .before in
+    let start = known2 .before .before .before in
+    let long = image-long (now (start .args .bytes)) (after-image-layout .«image-layout» .ensures) (c .before .count .given .1) in
     (omega (arith, long), omega (arith, long))
 
 read-lists-requires : tie.Need-read-lists-requires
 read-lists-requires c κs =
-    let a = c .before .before .before .before .before .before .before .before .before .before .before .before .before .before .before .args in
-    let long = image-long (now (a .bytes)) (c .before .before .before .before .before .before .before .before .before .«image-layout» .ensures) (c .before .before .before .before .before .before .before .count .given .1) in
-    let room = enough (roomsIn (now (a .triangles)) (now (a .order)) (now (a .links)) (now (a .boxes))) _ _ (sym (c .before .before .before .before .before .«has-room» .ensures) ∙ c .before .before .before .before .if1 .taken) in
+    let chosen = c .before .before .before .before in
+    let after-has-room = chosen .before in
+    let at-count = after-has-room .before .before in
+    let after-image-layout = at-count .before .before in
+    let known2 = after-image-layout .before .before .before in
+    let start = known2 .before .before .before in
+    let a = start .args in
+    let long = image-long (now (a .bytes)) (after-image-layout .«image-layout» .ensures) (at-count .count .given .1) in
+    let room = enough (roomsIn (now (a .triangles)) (now (a .order)) (now (a .links)) (now (a .boxes))) _ _ (sym (after-has-room .«has-room» .ensures) ∙ chosen .if1 .taken) in
     (omega (arith, long), ((room .triangles, room .order), (room .links, room .boxes)))
 
 settings-of-requires : tie.Need-settings-of-requires
-settings-of-requires c κs = omega (arith, image-long (now (c .before .before .before .before .before .before .before .before .before .before .before .before .before .before .before .before .before .before .before .before .before .before .before .before .args .bytes)) (c .before .before .before .before .before .before .before .before .before .before .before .before .before .before .before .before .before .before .«image-layout» .ensures) (c .before .before .before .before .before .before .before .before .before .before .before .before .before .before .before .before .count .given .1))
+settings-of-requires c κs =
+    let known6 = c .before .before .before .before in
+    let after-read-lists = known6 .before .before .before .before in
+    let at-read-lists-arg = after-read-lists .before .before .before .before in
+    let at-count = at-read-lists-arg .before .before .before .before in
+    let after-image-layout = at-count .before .before in
+    let known2 = after-image-layout .before .before .before in
+    let start = known2 .before .before .before in
+    omega (arith, image-long (now (start .args .bytes)) (after-image-layout .«image-layout» .ensures) (at-count .count .given .1))
 
 same-length : tie.Need-same-length
 same-length c = search needs
@@ -46,28 +63,45 @@ same-length-4 c = search needs
 
 returns : tie.Need-returns
 returns c =
-    let a = c .before .before .before .before .before .before .before .before .before .before .before .before .before .before .before .before .before .before .before .before .before .before .before .before .before .args in
+    let at-boxes = c .before .before in
+    let at-order = at-boxes .before .before .before .before in
+    let after-read-lists = at-order .before .before .before in
+    let at-read-lists-arg3 = after-read-lists .before .before in
+    let chosen = at-read-lists-arg3 .before .before .before in
+    let after-has-room = chosen .before in
+    let at-count = after-has-room .before .before in
+    let after-image-layout = at-count .before .before in
+    let known2 = after-image-layout .before .before .before in
+    let start = known2 .before .before .before in
+    let a = start .args in
     let s = now (a .bytes) in
     let rooms = roomsIn (now (a .triangles)) (now (a .order)) (now (a .links)) (now (a .boxes)) in
-    let answer = answer-by-room s (c .before .before .before .before .before .before .before .before .before .before .before .before .before .before .before .before .before .before .before .«image-layout» .ensures) (c .before .before .before .before .before .before .before .before .before .before .before .before .before .before .before .before .before .count .given .1) rooms in
-    let room = sym (c .before .before .before .before .before .before .before .before .before .before .before .before .before .before .before .«has-room» .ensures) ∙ c .before .before .before .before .before .before .before .before .before .before .before .before .before .before .if1 .taken in
-    record { answer = rw (answer, room, c .«settings-of» .ensures); filled = c .before .before .before .before .before .before .before .before .before .«read-lists» .ensures }
+    let answer = answer-by-room s (after-image-layout .«image-layout» .ensures) (at-count .count .given .1) rooms in
+    let room = sym (after-has-room .«has-room» .ensures) ∙ chosen .if1 .taken in
+    record { answer = rw (answer, room, c .«settings-of» .ensures); filled = after-read-lists .«read-lists» .ensures }
 
 returns-2 : tie.Need-returns-2
 returns-2 c =
-    let a = c .before .before .before .before .before .before .before .before .before .args in
+    let after-image-layout = c .before .before .before in
+    let known2 = after-image-layout .before .before .before in
+    let start = known2 .before .before .before in
+    let a = start .args in
     let s = now (a .bytes) in
     record {
-      answer = answer-wrong s (c .before .before .before .«image-layout» .ensures) (roomsIn (now (a .triangles)) (now (a .order)) (now (a .links)) (now (a .boxes))) (c .before .at .given .1);
+      answer = answer-wrong s (after-image-layout .«image-layout» .ensures) (roomsIn (now (a .triangles)) (now (a .order)) (now (a .links)) (now (a .boxes))) (c .before .at .given .1);
       filled = unchanged 10 (c .before .at .given .0 .0) s (now (a .triangles)) (now (a .order)) (now (a .links)) (now (a .boxes));
     }
 
 returns-3 : tie.Need-returns-3
 returns-3 c =
-    let a = c .before .before .before .before .before .before .before .before .before .before .before .args in
+    let at-count = c .before .before .before in
+    let after-image-layout = at-count .before .before in
+    let known2 = after-image-layout .before .before .before in
+    let start = known2 .before .before .before in
+    let a = start .args in
     let s = now (a .bytes) in
     let rooms = roomsIn (now (a .triangles)) (now (a .order)) (now (a .links)) (now (a .boxes)) in
-    let answer = answer-by-room s (c .before .before .before .before .before .«image-layout» .ensures) (c .before .before .before .count .given .1) rooms in
+    let answer = answer-by-room s (after-image-layout .«image-layout» .ensures) (at-count .count .given .1) rooms in
     let room = sym (c .before .«has-room» .ensures) ∙ c .if1 .left in
     record { answer = rw (answer, room); filled = unchanged 6 0 s (now (a .triangles)) (now (a .order)) (now (a .links)) (now (a .boxes)) }
 

@@ -17,21 +17,32 @@ enum-told c = search needs
 
 put-image-requires : tie.Need-put-image-requires
 put-image-requires c κs =
-    let a = c .before .before .before .before .before .before .before .before .before .args in
-    can-put (imageFrom (a .strategy) (a .leaf-minimum) (a .maximum-depth) (now (a .triangles)) (now (a .order)) (now (a .links)) (now (a .boxes)) (a .nodes)) (now (a .out)) (c .before .before .before .write-refusal .ensures) (c .before .enum-told .given .1)
+    let after-write-refusal = c .before .before .before in
+    let known3 = after-write-refusal .before .before .before in
+    let start = known3 .before .before .before in
+    let a = start .args in
+    can-put (imageFrom (a .strategy) (a .leaf-minimum) (a .maximum-depth) (now (a .triangles)) (now (a .order)) (now (a .links)) (now (a .boxes)) (a .nodes)) (now (a .out)) (after-write-refusal .write-refusal .ensures) (c .before .enum-told .given .1)
 
 returns : tie.Need-returns
 returns c =
-    let a = c .before .before .before .before .before .before .before .before .before .args in
-    wrote-nothing (imageFrom (a .strategy) (a .leaf-minimum) (a .maximum-depth) (now (a .triangles)) (now (a .order)) (now (a .links)) (now (a .boxes)) (a .nodes)) (now (a .out)) (c .before .before .before .write-refusal .ensures) (c .before .verdict .given .1)
+    let after-write-refusal = c .before .before .before in
+    let known3 = after-write-refusal .before .before .before in
+    let start = known3 .before .before .before in
+    let a = start .args in
+    wrote-nothing (imageFrom (a .strategy) (a .leaf-minimum) (a .maximum-depth) (now (a .triangles)) (now (a .order)) (now (a .links)) (now (a .boxes)) (a .nodes)) (now (a .out)) (after-write-refusal .write-refusal .ensures) (c .before .verdict .given .1)
 
 same-length : tie.Need-same-length
 same-length c = search needs
 
 returns-2 : tie.Need-returns-2
 returns-2 c =
-    let a = c .before .before .before .before .before .before .before .before .before .before .before .before .args in
-    wrote-image (imageFrom (a .strategy) (a .leaf-minimum) (a .maximum-depth) (now (a .triangles)) (now (a .order)) (now (a .links)) (now (a .boxes)) (a .nodes)) (now (a .out)) (c .before .before .before .before .before .before .write-refusal .ensures) (c .before .before .before .before .enum-told .given .1) (c .before .before .put-image .ensures .0) (c .before .before .put-image .ensures .1)
+    let after-put-image = c .before .before in
+    let at-enum-told = after-put-image .before .before in
+    let after-write-refusal = at-enum-told .before .before in
+    let known3 = after-write-refusal .before .before .before in
+    let start = known3 .before .before .before in
+    let a = start .args in
+    wrote-image (imageFrom (a .strategy) (a .leaf-minimum) (a .maximum-depth) (now (a .triangles)) (now (a .order)) (now (a .links)) (now (a .boxes)) (a .nodes)) (now (a .out)) (after-write-refusal .write-refusal .ensures) (at-enum-told .enum-told .given .1) (after-put-image .put-image .ensures .0) (after-put-image .put-image .ensures .1)
 
 pub write-image-spec : {M : Type 1} → statement M
 write-image-spec =

@@ -30,9 +30,12 @@ is-coordinate-requires c κs = search needs
 
 returns : tie.Need-returns Inv-loop μ-loop
 returns c =
-    let loop = c .before .before .before .before .loop in
-    let list = c .before .before .before .before .before .before .args .numbers .now in
-    let found = bad-here list (loop .i) (c .before .before .before .loop-test .taken) (sym (c .before .is-coordinate .ensures) ∙ not-true _ (c .if1 .taken)) in
+    let tested = c .before .before .before in
+    let turn = tested .before in
+    let start = turn .before .before in
+    let loop = turn .loop in
+    let list = start .args .numbers .now in
+    let found = bad-here list (loop .i) (tested .loop-test .taken) (sym (c .before .is-coordinate .ensures) ∙ not-true _ (c .if1 .taken)) in
     omega (arith, loop .inv)
 
 add-i : tie.Need-add-i Inv-loop μ-loop
@@ -43,9 +46,12 @@ loop-less c = omega arith
 
 loop-again : tie.Need-loop-again Inv-loop μ-loop
 loop-again c =
-    let loop = c .before .before .before .before .loop in
-    let list = c .before .before .before .before .before .before .args .numbers .now in
-    let next = good-here list (loop .i) (c .before .before .before .loop-test .taken) (sym (c .before .is-coordinate .ensures) ∙ not-false _ (c .if1 .left)) in
+    let tested = c .before .before .before in
+    let turn = tested .before in
+    let start = turn .before .before in
+    let loop = turn .loop in
+    let list = start .args .numbers .now in
+    let next = good-here list (loop .i) (tested .loop-test .taken) (sym (c .before .is-coordinate .ensures) ∙ not-false _ (c .if1 .left)) in
     omega (arith, loop .inv)
 
 returns-2 : tie.Need-returns-2 Inv-loop μ-loop

@@ -33,7 +33,13 @@ same-length c = search needs
 returns : tie.Need-returns
 unfolding trianglesWord nodesWord depthWord countsLine
 returns c =
-    (put-then (put-then (put-then (c .before .before .before .before .before .before .before .before .before .before .before .before .before .before .before .before .«put-named» .ensures .0) (c .before .before .before .before .before .before .before .before .before .before .before .«put-named2» .ensures .0)) (c .before .before .before .before .before .before .«put-named3» .ensures .0)) (c .before .before .«put-byte» .ensures .0), omega arith)
+    let after-put-byte = c .before .before in
+    let after-put-named3 = after-put-byte .before .before .before .before in
+    let at-put-named-arg5 = after-put-named3 .before .before in
+    let after-put-named2 = at-put-named-arg5 .before .before .before in
+    let at-put-named-arg3 = after-put-named2 .before .before in
+    let after-put-named = at-put-named-arg3 .before .before .before in
+    (put-then (put-then (put-then (after-put-named .«put-named» .ensures .0) (after-put-named2 .«put-named2» .ensures .0)) (after-put-named3 .«put-named3» .ensures .0)) (after-put-byte .«put-byte» .ensures .0), omega arith)
 
 pub put-counts-spec : {M : Type 1} → statement M
 put-counts-spec =

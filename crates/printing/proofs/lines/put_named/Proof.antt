@@ -17,7 +17,10 @@ same-length c = search needs
 
 returns : tie.Need-returns
 unfolding named
-returns c = (put-then (c .before .before .before .before .before .before .«put-word» .ensures) (c .before .before .«put-spaced-decimal» .ensures .0), omega arith)
+returns c =
+    let after-put-spaced-decimal = c .before .before in
+    let after-put-word = after-put-spaced-decimal .before .before .before .before in
+    (put-then (after-put-word .«put-word» .ensures) (after-put-spaced-decimal .«put-spaced-decimal» .ensures .0), omega arith)
 
 pub put-named-spec : {M : Type 1} → statement M
 put-named-spec =

@@ -23,7 +23,12 @@ same-length c = search needs
 
 returns : tie.Need-returns
 unfolding nothingWord nothingLine
-returns c = (put-then (put-then (c .before .before .before .before .before .before .before .before .before .before .before .«put-decimal» .ensures .0) (c .before .before .before .before .before .before .«put-word» .ensures)) (c .before .before .«put-byte» .ensures .0), omega arith)
+returns c =
+    let after-put-byte = c .before .before in
+    let after-put-word = after-put-byte .before .before .before .before in
+    let at-put-word-arg = after-put-word .before .before in
+    let after-put-decimal = at-put-word-arg .before .before .before in
+    (put-then (put-then (after-put-decimal .«put-decimal» .ensures .0) (after-put-word .«put-word» .ensures)) (after-put-byte .«put-byte» .ensures .0), omega arith)
 
 pub put-nothing-spec : {M : Type 1} → statement M
 put-nothing-spec =

@@ -23,7 +23,11 @@ same-length c = search needs
 
 returns : tie.Need-returns
 unfolding refusedWord refusedLine
-returns c = (put-then (put-then (c .before .before .before .before .before .before .before .before .before .before .«put-named» .ensures .0) (c .before .before .before .before .before .before .«put-spaced-decimal» .ensures .0)) (c .before .before .«put-byte» .ensures .0), omega arith)
+returns c =
+    let after-put-byte = c .before .before in
+    let after-put-spaced-decimal = after-put-byte .before .before .before .before in
+    let after-put-named = after-put-spaced-decimal .before .before .before .before in
+    (put-then (put-then (after-put-named .«put-named» .ensures .0) (after-put-spaced-decimal .«put-spaced-decimal» .ensures .0)) (after-put-byte .«put-byte» .ensures .0), omega arith)
 
 pub put-refused-spec : {M : Type 1} → statement M
 put-refused-spec =

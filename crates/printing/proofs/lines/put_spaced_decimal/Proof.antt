@@ -17,7 +17,10 @@ same-length c = search needs
 
 returns : tie.Need-returns
 unfolding spacedDecimal
-returns c = (put-then (c .before .before .before .before .before .before .«put-byte» .ensures .0) (c .before .before .«put-decimal» .ensures .0), omega arith)
+returns c =
+    let after-put-decimal = c .before .before in
+    let after-put-byte = after-put-decimal .before .before .before .before in
+    (put-then (after-put-byte .«put-byte» .ensures .0) (after-put-decimal .«put-decimal» .ensures .0), omega arith)
 
 pub put-spaced-decimal-spec : {M : Type 1} → statement M
 put-spaced-decimal-spec =

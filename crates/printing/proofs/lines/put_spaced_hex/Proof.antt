@@ -17,7 +17,10 @@ same-length c = search needs
 
 returns : tie.Need-returns
 unfolding spacedHex
-returns c = (put-then (c .before .before .before .before .before .before .«put-byte» .ensures .0) (c .before .before .«put-hex» .ensures .0), omega arith)
+returns c =
+    let after-put-hex = c .before .before in
+    let after-put-byte = after-put-hex .before .before .before .before in
+    (put-then (after-put-byte .«put-byte» .ensures .0) (after-put-hex .«put-hex» .ensures .0), omega arith)
 
 pub put-spaced-hex-spec : {M : Type 1} → statement M
 put-spaced-hex-spec = tie.close (tie.spec put-byte-requires put-hex-requires same-length returns)

@@ -37,8 +37,10 @@ loop-less c = search needs
 
 loop-again : tie.Need-loop-again Inv-loop μ-loop
 loop-again c =
-    let a = c .before .before .before .args in
-    run-store (λ j. getD (now (a .word)) j 0) (a .at) (length (now (a .word))) (now (a .out)) _ (c .before .before .loop .i) _ (c .before .before .before .pre) (c .before .«loop-test» .taken) (c .before .before .loop .inv) refl
+    let turn = c .before .before in
+    let start = turn .before in
+    let a = start .args in
+    run-store (λ j. getD (now (a .word)) j 0) (a .at) (length (now (a .word))) (now (a .out)) _ (turn .loop .i) _ (start .pre) (c .before .«loop-test» .taken) (turn .loop .inv) refl
 
 add-result : tie.Need-add-result Inv-loop μ-loop
 add-result c = search needs
@@ -48,8 +50,9 @@ same-length c = c .before .loop .inv .long
 
 returns : tie.Need-returns Inv-loop μ-loop
 returns c =
-    let a = c .before .before .args in
-    copy-end 0 (now (a .word)) (a .at) (now (a .out)) _ (c .before .loop .i) (c .before .before .pre) (c .«loop-test» .left) (c .before .loop .inv)
+    let start = c .before .before in
+    let a = start .args in
+    copy-end 0 (now (a .word)) (a .at) (now (a .out)) _ (c .before .loop .i) (start .pre) (c .«loop-test» .left) (c .before .loop .inv)
 
 pub put-word-spec : {M : Type 1} → statement M
 put-word-spec =

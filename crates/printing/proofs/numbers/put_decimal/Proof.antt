@@ -20,7 +20,10 @@ same-length c = search needs
 returns : tie.Need-returns
 unfolding decimal
 returns c =
-    (put-same (ap (λ (k : ℕ). digits 10 k (c .before .before .before .before .before .before .args .n)) (c .before .before .before .«width-of» .ensures .0)) (c .before .before .«put-digits» .ensures .0), omega arith)
+    let after-put-digits = c .before .before in
+    let after-width-of = after-put-digits .before in
+    let start = after-width-of .before .before .before in
+    (put-same (ap (λ (k : ℕ). digits 10 k (start .args .n)) (after-width-of .«width-of» .ensures .0)) (after-put-digits .«put-digits» .ensures .0), omega arith)
 
 pub put-decimal-spec : {M : Type 1} → statement M
 put-decimal-spec = tie.close (tie.spec width-of-requires put-digits-requires same-length returns)

@@ -33,7 +33,9 @@ add-out : tie.Need-add-out Inv-loop μ-loop
 add-out c = omega (arith, c .before .before .loop .inv .sized)
 
 slice-write-out : tie.Need-slice-write-out Inv-loop μ-loop
-slice-write-out c = omega (arith, c .before .before .loop .inv .sized, c .before .before .loop .inv .long)
+slice-write-out c =
+    let turn = c .before .before in
+    omega (arith, turn .loop .inv .sized, turn .loop .inv .long)
 
 div-rest : tie.Need-div-rest Inv-loop μ-loop
 div-rest c = search needs
@@ -43,8 +45,10 @@ loop-less c = search needs
 
 loop-again : tie.Need-loop-again Inv-loop μ-loop
 loop-again c =
-    let a = c .before .before .before .before .args in
-    back-more (a .base) (a .at) (a .count) (a .n) (now (a .out)) _ (c .before .before .loop .left) (c .before .before .loop .rest) _ (c .before .before .loop .left - 1) (c .before .before .before .before .pre .0) (omega arith) (c .«digit-of» .ensures) (c .before .before .loop .inv)
+    let turn = c .before .before in
+    let start = turn .before .before in
+    let a = start .args in
+    back-more (a .base) (a .at) (a .count) (a .n) (now (a .out)) _ (turn .loop .left) (turn .loop .rest) _ (turn .loop .left - 1) (start .pre .0) (omega arith) (c .«digit-of» .ensures) (turn .loop .inv)
 
 add-result : tie.Need-add-result Inv-loop μ-loop
 add-result c = search needs
@@ -54,8 +58,9 @@ same-length c = c .before .loop .inv .long
 
 returns : tie.Need-returns Inv-loop μ-loop
 returns c =
-    let a = c .before .before .before .args in
-    (back-end (a .base) (a .at) (a .count) (a .n) (now (a .out)) _ (c .before .loop .left) (c .before .loop .rest) (c .before .before .before .pre .0) (c .«loop-test» .left) (c .before .loop .inv), refl)
+    let start = c .before .before .before in
+    let a = start .args in
+    (back-end (a .base) (a .at) (a .count) (a .n) (now (a .out)) _ (c .before .loop .left) (c .before .loop .rest) (start .pre .0) (c .«loop-test» .left) (c .before .loop .inv), refl)
 
 pub put-digits-spec : {M : Type 1} → statement M
 put-digits-spec =

@@ -18,7 +18,9 @@ loop-holds : tie.Need-loop-holds Inv-loop μ-loop
 loop-holds c = omega arith
 
 add-count : tie.Need-add-count Inv-loop μ-loop
-add-count c = omega (arith, width-pos (c .before .loop .rest), width-most (c .before .before .args .n) (c .before .before .fits .n .fits), c .before .loop .inv)
+add-count c =
+    let start = c .before .before in
+    omega (arith, width-pos (c .before .loop .rest), width-most (start .args .n) (start .fits .n .fits), c .before .loop .inv)
 
 loop-less : tie.Need-loop-less Inv-loop μ-loop
 loop-less c = search needs
@@ -28,8 +30,9 @@ loop-again c = omega (arith, width-more (c .before .loop .rest) (c .«loop-test�
 
 returns : tie.Need-returns Inv-loop μ-loop
 returns c =
-    let all : c .before .loop .count ≡ width (c .before .before .args .n) = omega (arith, width-one (c .before .loop .rest) (c .«loop-test» .left), c .before .loop .inv) in
-    (all, omega (arith, all, width-most (c .before .before .args .n) (c .before .before .fits .n .fits)))
+    let start = c .before .before in
+    let all : c .before .loop .count ≡ width (start .args .n) = omega (arith, width-one (c .before .loop .rest) (c .«loop-test» .left), c .before .loop .inv) in
+    (all, omega (arith, all, width-most (start .args .n) (start .fits .n .fits)))
 
 pub width-of-spec : {M : Type 1} → statement M
 width-of-spec =

@@ -18,23 +18,36 @@ refuses-requires c κs = search needs
 
 returns : tie.Need-returns
 returns c =
-    let a = c .before .before .before .before .before .before .before .before .before .args in
-    (c .before .before .query-refusal .ensures, as-it-was binary32 (answerBy binary32 (asQuery (a .query)) (a .triangles .now) (a .order .now) (a .links .now) (a .boxes .now) (a .nodes) (a .distance)) (a .points .now) (a .answers .now) _ (sym (c .before .refuses .ensures) ∙ c .if1 .taken))
+    let after-query-refusal = c .before .before in
+    let known4 = after-query-refusal .before .before .before in
+    let start = known4 .before .before .before .before in
+    let a = start .args in
+    (after-query-refusal .query-refusal .ensures, as-it-was binary32 (answerBy binary32 (asQuery (a .query)) (a .triangles .now) (a .order .now) (a .links .now) (a .boxes .now) (a .nodes) (a .distance)) (a .points .now) (a .answers .now) _ (sym (c .before .refuses .ensures) ∙ c .if1 .taken))
 
 put-answers-requires : tie.Need-put-answers-requires
 put-answers-requires c κs =
-    let a = c .before .before .before .before .before .before .before .before .before .before .args in
+    let after-refuses = c .before .before in
+    let after-query-refusal = after-refuses .before in
+    let known4 = after-query-refusal .before .before .before in
+    let start = known4 .before .before .before .before in
+    let a = start .args in
     query-passed (a .triangles .now) (a .order .now) (a .links .now) (a .boxes .now) (a .nodes) (a .points .now) (a .distance) (length (a .answers .now))
-    (did-pass _ _ _ (c .before .before .before .query-refusal .ensures) (c .before .before .refuses .ensures) (c .before .if1 .left))
+    (did-pass _ _ _ (after-query-refusal .query-refusal .ensures) (after-refuses .refuses .ensures) (c .before .if1 .left))
 
 same-length : tie.Need-same-length
 same-length c = search needs
 
 returns-2 : tie.Need-returns-2
 returns-2 c =
-    let a = c .before .before .before .before .before .before .before .before .before .before .before .before .before .args in (
-      c .before .before .before .before .before .before .query-refusal .ensures,
-      is-answered binary32 (answerBy binary32 (asQuery (a .query)) (a .triangles .now) (a .order .now) (a .links .now) (a .boxes .now) (a .nodes) (a .distance)) (a .points .now) (a .answers .now) _ _ (c .before .before .before .before .before .before .query-refusal .ensures ∙ did-pass _ _ _ (c .before .before .before .before .before .before .query-refusal .ensures) (c .before .before .before .before .before .refuses .ensures) (c .before .before .before .before .if1 .left)) (c .before .before .put-answers .ensures),
+    let after-put-answers = c .before .before in
+    let chosen = after-put-answers .before .before in
+    let after-refuses = chosen .before in
+    let after-query-refusal = after-refuses .before in
+    let known4 = after-query-refusal .before .before .before in
+    let start = known4 .before .before .before .before in
+    let a = start .args in (
+      after-query-refusal .query-refusal .ensures,
+      is-answered binary32 (answerBy binary32 (asQuery (a .query)) (a .triangles .now) (a .order .now) (a .links .now) (a .boxes .now) (a .nodes) (a .distance)) (a .points .now) (a .answers .now) _ _ (after-query-refusal .query-refusal .ensures ∙ did-pass _ _ _ (after-query-refusal .query-refusal .ensures) (after-refuses .refuses .ensures) (chosen .if1 .left)) (after-put-answers .put-answers .ensures),
     )
 
 pub ask-spec : {M : Type 1} → statement M

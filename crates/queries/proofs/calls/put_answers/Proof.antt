@@ -21,7 +21,10 @@ point-count-requires : tie.Need-point-count-requires Inv-loop μ-loop
 point-count-requires c κs = search needs
 
 loop-holds : tie.Need-loop-holds Inv-loop μ-loop
-loop-holds c = let a = c .before .before .before .before .before .before .before .args in answered-start binary32 (answerBy binary32 (asQuery (a .query)) (a .triangles .now) (a .order .now) (a .links .now) (a .boxes .now) (a .nodes) (a .distance)) (a .points .now) (a .answers .now) _
+loop-holds c =
+    let known4 = c .before .before .before in
+    let start = known4 .before .before .before .before in
+    let a = start .args in answered-start binary32 (answerBy binary32 (asQuery (a .query)) (a .triangles .now) (a .order .now) (a .links .now) (a .boxes .now) (a .nodes) (a .distance)) (a .points .now) (a .answers .now) _
 
 mul-point-at : tie.Need-mul-point-at Inv-loop μ-loop
 mul-point-at c = omega (arith, point-inside _ _ (rw (c .before .before .point-count .ensures) at (c .loop-test .taken)))
@@ -31,14 +34,22 @@ point-at-requires c κs = omega (arith, point-inside _ _ (rw (c .before .before 
 
 answer-at-requires : tie.Need-answer-at-requires Inv-loop μ-loop
 answer-at-requires c κs =
-    let start = c .before .before .before .before .before .before .before .before .before .before in
-    (start .pre .0 .searchable, rw (c .point-at .ensures) (point-finite _ (start .pre .0 .points-good .coordinates) _ (omega (arith, point-inside _ _ (rw (c .before .before .before .point-count .ensures) at (c .before .loop-test .taken))))))
+    let after-point-count = c .before .before .before in
+    let known4 = after-point-count .before .before .before in
+    let start = known4 .before .before .before .before in
+    (start .pre .0 .searchable, rw (c .point-at .ensures) (point-finite _ (start .pre .0 .points-good .coordinates) _ (omega (arith, point-inside _ _ (rw (after-point-count .point-count .ensures) at (c .before .loop-test .taken))))))
 
 mul-put-answer : tie.Need-mul-put-answer Inv-loop μ-loop
 mul-put-answer c = search needs
 
 put-answer-requires : tie.Need-put-answer-requires Inv-loop μ-loop
-put-answer-requires c κs = omega (arith, c .before .before .before .before .before .before .before .before .before .before .before .before .pre .1, c .before .before .before .before .before .point-count .ensures, c .before .before .before .before .loop .inv .long, c .before .before .before .loop-test .taken)
+put-answer-requires c κs =
+    let tested = c .before .before .before in
+    let turn = tested .before in
+    let after-point-count = turn .before in
+    let known4 = after-point-count .before .before .before in
+    let start = known4 .before .before .before .before in
+    omega (arith, start .pre .1, after-point-count .point-count .ensures, turn .loop .inv .long, tested .loop-test .taken)
 
 add-k : tie.Need-add-k Inv-loop μ-loop
 add-k c = omega arith
@@ -48,16 +59,28 @@ loop-less c = omega arith
 
 loop-again : tie.Need-loop-again Inv-loop μ-loop
 loop-again c =
-    let a = c .before .before .before .before .before .before .before .before .before .before .before .before .before .before .before .args in
+    let after-put-answer = c .before .before in
+    let after-answer-at = after-put-answer .before .before in
+    let after-point-at = after-answer-at .before in
+    let tested = after-point-at .before in
+    let turn = tested .before in
+    let after-point-count = turn .before in
+    let known4 = after-point-count .before .before .before in
+    let start = known4 .before .before .before .before in
+    let a = start .args in
     answered-more binary32 (answerBy binary32 (asQuery (a .query)) (a .triangles .now) (a .order .now) (a .links .now) (a .boxes .now) (a .nodes) (a .distance)) (a .points .now) (a .answers .now) _ _ _ _ _
-    (omega (arith, c .before .before .before .before .before .before .before .before .before .before .before .before .before .before .before .pre .1, c .before .before .before .before .before .before .before .before .point-count .ensures)) (c .before .before .before .before .before .before .loop-test .taken) (c .before .before .before .before .before .before .before .loop .inv)
-    (c .before .before .before .before .answer-at .ensures ∙ ap (answerBy binary32 (asQuery (a .query)) (a .triangles .now) (a .order .now) (a .links .now) (a .boxes .now) (a .nodes) (a .distance)) (c .before .before .before .before .before .point-at .ensures)) (c .before .before .put-answer .ensures)
+    (omega (arith, start .pre .1, after-point-count .point-count .ensures)) (tested .loop-test .taken) (turn .loop .inv)
+    (after-answer-at .answer-at .ensures ∙ ap (answerBy binary32 (asQuery (a .query)) (a .triangles .now) (a .order .now) (a .links .now) (a .boxes .now) (a .nodes) (a .distance)) (after-point-at .point-at .ensures)) (after-put-answer .put-answer .ensures)
 
 same-length : tie.Need-same-length Inv-loop μ-loop
 same-length c = c .before .loop .inv .long
 
 returns : tie.Need-returns Inv-loop μ-loop
-returns c = let a = c .before .before .before .before .before .before .before .before .before .args in answered-end binary32 (answerBy binary32 (asQuery (a .query)) (a .triangles .now) (a .order .now) (a .links .now) (a .boxes .now) (a .nodes) (a .distance)) (a .points .now) (a .answers .now) _ _ _ (c .before .before .point-count .ensures) (c .loop-test .left) (c .before .loop .inv)
+returns c =
+    let after-point-count = c .before .before in
+    let known4 = after-point-count .before .before .before in
+    let start = known4 .before .before .before .before in
+    let a = start .args in answered-end binary32 (answerBy binary32 (asQuery (a .query)) (a .triangles .now) (a .order .now) (a .links .now) (a .boxes .now) (a .nodes) (a .distance)) (a .points .now) (a .answers .now) _ _ _ (after-point-count .point-count .ensures) (c .loop-test .left) (c .before .loop .inv)
 
 pub put-answers-spec : {M : Type 1} → statement M
 put-answers-spec =

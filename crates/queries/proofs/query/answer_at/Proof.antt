@@ -25,7 +25,8 @@ search-requires-2 c κs = search needs
 returns : tie.Need-returns
 unfolding sureAnswer limitOf
 returns c =
-    let start = c .before .before .before .before .before .before .before in
+    let known4 = c .before .before .before in
+    let start = known4 .before .before .before .before in
     rw (c .before .enum-told .given .1)
     (ap (λ (s : Sought Answer). s .best) (c .search .ensures)
     ∙ walk-is-scan binary32 (start .args .triangles .now) (start .pre .0 .triangles-good) _ (start .pre .1) _ (start .args .order .now) (start .args .links .now) (start .args .boxes .now) (start .args .nodes) (start .pre .0 .tree-accepted))

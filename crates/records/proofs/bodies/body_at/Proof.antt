@@ -8,13 +8,17 @@ use Rattle.records.proofs.bodies.body_at.Statement.{statement}
 use Rattle.records.proofs.bodies.body_at.Tie as tie
 
 returns : tie.Need-returns
-returns c = rw (record-past (c .before .before .args .kind) (now (c .before .before .args .bytes)) (c .before .before .args .at) (omega arith))
+returns c =
+    let start = c .before .before in
+    rw (record-past (start .args .kind) (now (start .args .bytes)) (start .args .at) (omega arith))
 
 sub-last : tie.Need-sub-last
 sub-last c = search needs
 
 returns-2 : tie.Need-returns-2
-returns-2 c = rw (record-past (c .before .before .before .args .kind) (now (c .before .before .before .args .bytes)) (c .before .before .before .args .at) (omega arith))
+returns-2 c =
+    let start = c .before .before .before in
+    rw (record-past (start .args .kind) (now (start .args .bytes)) (start .args .at) (omega arith))
 
 u32-at-requires : tie.Need-u32-at-requires
 u32-at-requires c κs = search needs
@@ -23,7 +27,10 @@ cast-size : tie.Need-cast-size
 cast-size c = search needs
 
 returns-3 : tie.Need-returns-3
-returns-3 c = rw (record-past (c .before .before .before .before .before .args .kind) (now (c .before .before .before .before .before .args .bytes)) (c .before .before .before .before .before .args .at) (omega (arith, c .before .«u32-at» .ensures)))
+returns-3 c =
+    let chosen2 = c .before .before in
+    let start = chosen2 .before .before .before in
+    rw (record-past (start .args .kind) (now (start .args .bytes)) (start .args .at) (omega (arith, c .before .«u32-at» .ensures)))
 
 add-u16-at : tie.Need-add-u16-at
 add-u16-at c = search needs
@@ -32,10 +39,16 @@ u16-at-requires : tie.Need-u16-at-requires
 u16-at-requires c κs = search needs
 
 returns-4 : tie.Need-returns-4
-returns-4 c = rw (record-other (c .before .before .before .before .before .before .before .args .kind) (now (c .before .before .before .before .before .before .before .args .bytes)) (c .before .before .before .before .before .before .before .args .at) (λ e. c .if4 .taken (c .before .«u16-at» .ensures .0 ∙ e)))
+returns-4 c =
+    let after-u32-at = c .before .before .before in
+    let start = after-u32-at .before .before .before .before in
+    rw (record-other (start .args .kind) (now (start .args .bytes)) (start .args .at) (λ e. c .if4 .taken (c .before .«u16-at» .ensures .0 ∙ e)))
 
 returns-5 : tie.Need-returns-5
-returns-5 c = rw (record-there (c .before .before .before .before .before .before .before .args .kind) (now (c .before .before .before .before .before .before .before .args .bytes)) (c .before .before .before .before .before .before .before .args .at) (omega (arith, c .before .before .before .«u32-at» .ensures)) (sym (c .before .«u16-at» .ensures .0) ∙ c .if4 .left), ← c .before .before .before .«u32-at» .ensures)
+returns-5 c =
+    let after-u32-at = c .before .before .before in
+    let start = after-u32-at .before .before .before .before in
+    rw (record-there (start .args .kind) (now (start .args .bytes)) (start .args .at) (omega (arith, after-u32-at .«u32-at» .ensures)) (sym (c .before .«u16-at» .ensures .0) ∙ c .if4 .left), ← after-u32-at .«u32-at» .ensures)
 
 pub body-at-spec : {M : Type 1} → statement M
 body-at-spec =

@@ -25,8 +25,10 @@ returns c =
 
 returns-2 : tie.Need-returns-2
 returns-2 c =
-    let a = c .before .before .before .before .before .args in
-    let there = is-there (a .kind) (now (a .bytes)) (a .at) (c .before .before .before .«body-at» .ensures) (c .before .size .given .1) in
+    let after-body-at = c .before .before .before in
+    let start = after-body-at .before .before in
+    let a = start .args in
+    let there = is-there (a .kind) (now (a .bytes)) (a .at) (after-body-at .«body-at» .ensures) (c .before .size .given .1) in
     sym (exactly-decides (a .kind) (now (a .bytes)) (a .at) _ (there .0) (there .1) (a .wanted))
 
 pub has-body-spec : {M : Type 1} → statement M

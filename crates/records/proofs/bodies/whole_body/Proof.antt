@@ -29,16 +29,22 @@ rem-if1 c = search needs
 
 returns-2 : tie.Need-returns-2
 returns-2 c =
-    let a = c .before .before .before .before .before .before .args in
-    let size = c .before .before .size .given .0 .0 in
-    let there = is-there (a .kind) (now (a .bytes)) (a .at) (c .before .before .before .before .«body-at» .ensures) (c .before .before .size .given .1) in
+    let at-size = c .before .before in
+    let after-body-at = at-size .before .before in
+    let start = after-body-at .before .before in
+    let a = start .args in
+    let size = at-size .size .given .0 .0 in
+    let there = is-there (a .kind) (now (a .bytes)) (a .at) (after-body-at .«body-at» .ensures) (at-size .size .given .1) in
     rw (whole-decides (a .kind) (now (a .bytes)) (a .at) size (there .0) (there .1) (a .entry), ne-eqb (size % a .entry) 0 (c .if1 .taken))
 
 returns-3 : tie.Need-returns-3
 returns-3 c =
-    let a = c .before .before .before .before .before .before .args in
-    let size = c .before .before .size .given .0 .0 in
-    let there = is-there (a .kind) (now (a .bytes)) (a .at) (c .before .before .before .before .«body-at» .ensures) (c .before .before .size .given .1) in
+    let at-size = c .before .before in
+    let after-body-at = at-size .before .before in
+    let start = after-body-at .before .before in
+    let a = start .args in
+    let size = at-size .size .given .0 .0 in
+    let there = is-there (a .kind) (now (a .bytes)) (a .at) (after-body-at .«body-at» .ensures) (at-size .size .given .1) in
     rw (whole-decides (a .kind) (now (a .bytes)) (a .at) size (there .0) (there .1) (a .entry), eq-eqb (size % a .entry) 0 (c .if1 .left), there .1)
 
 pub whole-body-spec : {M : Type 1} → statement M

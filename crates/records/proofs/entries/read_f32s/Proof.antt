@@ -53,8 +53,11 @@ loop-less c = search needs
 
 loop-again : tie.Need-loop-again Inv-loop μ-loop
 loop-again c =
-    let a = c .before .before .before .before .before .before .args in
-    run-store (entry (now (a .bytes)) (a .start)) (a .at) (a .count) (now (a .out)) _ (c .before .before .before .loop .i) _ (c .before .before .before .before .before .before .pre .1) (c .before .before .«loop-test» .taken) (c .before .before .before .loop .inv) (c .«from-bits» .ensures ∙ ap (ofBits binary32) (c .before .«u32-at» .ensures))
+    let tested = c .before .before in
+    let turn = tested .before in
+    let start = turn .before .before .before in
+    let a = start .args in
+    run-store (entry (now (a .bytes)) (a .start)) (a .at) (a .count) (now (a .out)) _ (turn .loop .i) _ (start .pre .1) (tested .«loop-test» .taken) (turn .loop .inv) (c .«from-bits» .ensures ∙ ap (ofBits binary32) (c .before .«u32-at» .ensures))
 
 same-length : tie.Need-same-length Inv-loop μ-loop
 same-length c = c .before .loop .inv .long

@@ -48,8 +48,10 @@ loop-less c = search needs
 
 loop-again : tie.Need-loop-again Inv-loop μ-loop
 loop-again c =
-    let a = c .before .before .before .before .before .args in
-    run-store (entry (now (a .bytes)) (a .start)) (a .at) (a .count) (now (a .out)) _ (c .before .before .loop .i) _ (c .before .before .before .before .before .pre .1) (c .before .«loop-test» .taken) (c .before .before .loop .inv) (c .«u16-at» .ensures .0)
+    let turn = c .before .before in
+    let start = turn .before .before .before in
+    let a = start .args in
+    run-store (entry (now (a .bytes)) (a .start)) (a .at) (a .count) (now (a .out)) _ (turn .loop .i) _ (start .pre .1) (c .before .«loop-test» .taken) (turn .loop .inv) (c .«u16-at» .ensures .0)
 
 same-length : tie.Need-same-length Inv-loop μ-loop
 same-length c = c .before .loop .inv .long

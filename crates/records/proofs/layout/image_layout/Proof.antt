@@ -32,14 +32,20 @@ enum-told c = search needs
 
 returns-2 : tie.Need-returns-2
 returns-2 c =
-    let s = now (c .before .before .before .before .before .before .args .bytes) in
-    let settings = settings-right version1 s (sym (c .before .before .before .before .«has-settings» .ensures) ∙ not-false _ (c .before .before .before .if1 .left)) in
-    sym (reach-wrong (reach-on (reach-start (imageWants version1) s) settings) (is-wrong 2 (whole 36) s 14 (c .before .before .«whole-body» .ensures) (c .«enum-told» .given .1)))
+    let after-whole-body = c .before .before in
+    let chosen = after-whole-body .before in
+    let after-has-settings = chosen .before in
+    let start = after-has-settings .before .before in
+    let s = now (start .args .bytes) in
+    let settings = settings-right version1 s (sym (after-has-settings .«has-settings» .ensures) ∙ not-false _ (chosen .if1 .left)) in
+    sym (reach-wrong (reach-on (reach-start (imageWants version1) s) settings) (is-wrong 2 (whole 36) s 14 (after-whole-body .«whole-body» .ensures) (c .«enum-told» .given .1)))
 
 add-third : tie.Need-add-third
 add-third c =
-    let s = now (c .before .before .before .before .before .before .before .args .bytes) in
-    let triangles = is-right 2 (whole 36) s 14 (c .before .before .before .«whole-body» .ensures) (c .before .triangles .given .1) in
+    let after-whole-body = c .before .before .before in
+    let start = after-whole-body .before .before .before .before in
+    let s = now (start .args .bytes) in
+    let triangles = is-right 2 (whole 36) s 14 (after-whole-body .«whole-body» .ensures) (c .before .triangles .given .1) in
     omega (arith, right-within triangles)
 
 mul-order : tie.Need-mul-order
@@ -50,22 +56,33 @@ has-body-requires c κs = search needs
 
 returns-3 : tie.Need-returns-3
 returns-3 c =
-    let s = now (c .before .before .before .before .before .before .before .before .before .args .bytes) in
-    let settings = settings-right version1 s (sym (c .before .before .before .before .before .before .before .«has-settings» .ensures) ∙ not-false _ (c .before .before .before .before .before .before .if1 .left)) in
-    let triangles = is-right 2 (whole 36) s 14 (c .before .before .before .before .before .«whole-body» .ensures) (c .before .before .before .triangles .given .1) in
+    let at-triangles = c .before .before .before in
+    let after-whole-body = at-triangles .before .before in
+    let chosen = after-whole-body .before in
+    let after-has-settings = chosen .before in
+    let start = after-has-settings .before .before in
+    let s = now (start .args .bytes) in
+    let settings = settings-right version1 s (sym (after-has-settings .«has-settings» .ensures) ∙ not-false _ (chosen .if1 .left)) in
+    let triangles = is-right 2 (whole 36) s 14 (after-whole-body .«whole-body» .ensures) (at-triangles .triangles .given .1) in
     sym (reach-wrong (tree-wanted settings triangles) (sym (c .before .«has-body» .ensures) ∙ not-true _ (c .if2 .taken)))
 
 add-fourth : tie.Need-add-fourth
 add-fourth c =
-    let s = now (c .before .before .before .before .before .before .before .before .before .args .bytes) in
-    let size = c .before .before .before .triangles .given .0 .0 in
+    let at-triangles = c .before .before .before in
+    let chosen = at-triangles .before .before .before in
+    let start = chosen .before .before .before in
+    let s = now (start .args .bytes) in
+    let size = at-triangles .triangles .given .0 .0 in
     let order = exactly-right 3 (2 * (size / 36)) s (20 + size) (sym (c .before .«has-body» .ensures) ∙ not-false _ (c .if2 .left)) in
     omega (arith, right-within order)
 
 add-fourth-2 : tie.Need-add-fourth-2
 add-fourth-2 c =
-    let s = now (c .before .before .before .before .before .before .before .before .before .args .bytes) in
-    let size = c .before .before .before .triangles .given .0 .0 in
+    let at-triangles = c .before .before .before in
+    let chosen = at-triangles .before .before .before in
+    let start = chosen .before .before .before in
+    let s = now (start .args .bytes) in
+    let size = at-triangles .triangles .given .0 .0 in
     let order = exactly-right 3 (2 * (size / 36)) s (20 + size) (sym (c .before .«has-body» .ensures) ∙ not-false _ (c .if2 .left)) in
     omega (arith, right-within order)
 
@@ -80,43 +97,77 @@ enum-told-2 c = search needs
 
 returns-4 : tie.Need-returns-4
 returns-4 c =
-    let s = now (c .before .before .before .before .before .before .before .before .before .before .before .before .args .bytes) in
-    let settings = settings-right version1 s (sym (c .before .before .before .before .before .before .before .before .before .before .«has-settings» .ensures) ∙ not-false _ (c .before .before .before .before .before .before .before .before .before .if1 .left)) in
-    let size = c .before .before .before .before .before .before .triangles .given .0 .0 in
-    let triangles = is-right 2 (whole 36) s 14 (c .before .before .before .before .before .before .before .before .«whole-body» .ensures) (c .before .before .before .before .before .before .triangles .given .1) in
-    let order = exactly-right 3 (2 * (size / 36)) s (20 + size) (sym (c .before .before .before .before .«has-body» .ensures) ∙ not-false _ (c .before .before .before .if2 .left)) in
-    sym (reach-wrong (reach-on (tree-wanted settings triangles) order) (is-wrong 4 (whole 30) s _ (c .before .before .«whole-body2» .ensures) (c .«enum-told2» .given .1)))
+    let after-whole-body2 = c .before .before in
+    let chosen2 = after-whole-body2 .before in
+    let after-has-body = chosen2 .before in
+    let at-triangles = after-has-body .before .before in
+    let after-whole-body = at-triangles .before .before in
+    let chosen = after-whole-body .before in
+    let after-has-settings = chosen .before in
+    let start = after-has-settings .before .before in
+    let s = now (start .args .bytes) in
+    let settings = settings-right version1 s (sym (after-has-settings .«has-settings» .ensures) ∙ not-false _ (chosen .if1 .left)) in
+    let size = at-triangles .triangles .given .0 .0 in
+    let triangles = is-right 2 (whole 36) s 14 (after-whole-body .«whole-body» .ensures) (at-triangles .triangles .given .1) in
+    let order = exactly-right 3 (2 * (size / 36)) s (20 + size) (sym (after-has-body .«has-body» .ensures) ∙ not-false _ (chosen2 .if2 .left)) in
+    sym (reach-wrong (reach-on (tree-wanted settings triangles) order) (is-wrong 4 (whole 30) s _ (after-whole-body2 .«whole-body2» .ensures) (c .«enum-told2» .given .1)))
 
 add-end : tie.Need-add-end
 add-end c =
-    let s = now (c .before .before .before .before .before .before .before .before .before .before .before .before .before .args .bytes) in
-    let nodes = is-right 4 (whole 30) s _ (c .before .before .before .«whole-body2» .ensures) (c .before .nodes .given .1) in
+    let after-whole-body2 = c .before .before .before in
+    let after-has-body = after-whole-body2 .before .before in
+    let after-whole-body = after-has-body .before .before .before .before in
+    let start = after-whole-body .before .before .before .before in
+    let s = now (start .args .bytes) in
+    let nodes = is-right 4 (whole 30) s _ (after-whole-body2 .«whole-body2» .ensures) (c .before .nodes .given .1) in
     omega (arith, right-within nodes)
 
 add-end-2 : tie.Need-add-end-2
 add-end-2 c =
-    let s = now (c .before .before .before .before .before .before .before .before .before .before .before .before .before .args .bytes) in
-    let nodes = is-right 4 (whole 30) s _ (c .before .before .before .«whole-body2» .ensures) (c .before .nodes .given .1) in
+    let after-whole-body2 = c .before .before .before in
+    let after-has-body = after-whole-body2 .before .before in
+    let after-whole-body = after-has-body .before .before .before .before in
+    let start = after-whole-body .before .before .before .before in
+    let s = now (start .args .bytes) in
+    let nodes = is-right 4 (whole 30) s _ (after-whole-body2 .«whole-body2» .ensures) (c .before .nodes .given .1) in
     omega (arith, right-within nodes)
 
 returns-5 : tie.Need-returns-5
 returns-5 c =
-    let s = now (c .before .before .before .before .before .before .before .before .before .before .before .before .before .before .args .bytes) in
-    let settings = settings-right version1 s (sym (c .before .before .before .before .before .before .before .before .before .before .before .before .«has-settings» .ensures) ∙ not-false _ (c .before .before .before .before .before .before .before .before .before .before .before .if1 .left)) in
-    let size = c .before .before .before .before .before .before .before .before .triangles .given .0 .0 in
-    let triangles = is-right 2 (whole 36) s 14 (c .before .before .before .before .before .before .before .before .before .before .«whole-body» .ensures) (c .before .before .before .before .before .before .before .before .triangles .given .1) in
-    let order = exactly-right 3 (2 * (size / 36)) s (20 + size) (sym (c .before .before .before .before .before .before .«has-body» .ensures) ∙ not-false _ (c .before .before .before .before .before .if2 .left)) in
-    let nodes = is-right 4 (whole 30) s _ (c .before .before .before .before .«whole-body2» .ensures) (c .before .before .nodes .given .1) in
+    let at-nodes = c .before .before in
+    let after-whole-body2 = at-nodes .before .before in
+    let chosen2 = after-whole-body2 .before in
+    let after-has-body = chosen2 .before in
+    let at-triangles = after-has-body .before .before in
+    let after-whole-body = at-triangles .before .before in
+    let chosen = after-whole-body .before in
+    let after-has-settings = chosen .before in
+    let start = after-has-settings .before .before in
+    let s = now (start .args .bytes) in
+    let settings = settings-right version1 s (sym (after-has-settings .«has-settings» .ensures) ∙ not-false _ (chosen .if1 .left)) in
+    let size = at-triangles .triangles .given .0 .0 in
+    let triangles = is-right 2 (whole 36) s 14 (after-whole-body .«whole-body» .ensures) (at-triangles .triangles .given .1) in
+    let order = exactly-right 3 (2 * (size / 36)) s (20 + size) (sym (after-has-body .«has-body» .ensures) ∙ not-false _ (chosen2 .if2 .left)) in
+    let nodes = is-right 4 (whole 30) s _ (after-whole-body2 .«whole-body2» .ensures) (at-nodes .nodes .given .1) in
     sym (reach-extra (reach-on (reach-on (tree-wanted settings triangles) order) nodes) (c .if3 .taken))
 
 returns-6 : tie.Need-returns-6
 returns-6 c =
-    let s = now (c .before .before .before .before .before .before .before .before .before .before .before .before .before .before .args .bytes) in
-    let settings = settings-right version1 s (sym (c .before .before .before .before .before .before .before .before .before .before .before .before .«has-settings» .ensures) ∙ not-false _ (c .before .before .before .before .before .before .before .before .before .before .before .if1 .left)) in
-    let size = c .before .before .before .before .before .before .before .before .triangles .given .0 .0 in
-    let triangles = is-right 2 (whole 36) s 14 (c .before .before .before .before .before .before .before .before .before .before .«whole-body» .ensures) (c .before .before .before .before .before .before .before .before .triangles .given .1) in
-    let order = exactly-right 3 (2 * (size / 36)) s (20 + size) (sym (c .before .before .before .before .before .before .«has-body» .ensures) ∙ not-false _ (c .before .before .before .before .before .if2 .left)) in
-    let nodes = is-right 4 (whole 30) s _ (c .before .before .before .before .«whole-body2» .ensures) (c .before .before .nodes .given .1) in
+    let at-nodes = c .before .before in
+    let after-whole-body2 = at-nodes .before .before in
+    let chosen2 = after-whole-body2 .before in
+    let after-has-body = chosen2 .before in
+    let at-triangles = after-has-body .before .before in
+    let after-whole-body = at-triangles .before .before in
+    let chosen = after-whole-body .before in
+    let after-has-settings = chosen .before in
+    let start = after-has-settings .before .before in
+    let s = now (start .args .bytes) in
+    let settings = settings-right version1 s (sym (after-has-settings .«has-settings» .ensures) ∙ not-false _ (chosen .if1 .left)) in
+    let size = at-triangles .triangles .given .0 .0 in
+    let triangles = is-right 2 (whole 36) s 14 (after-whole-body .«whole-body» .ensures) (at-triangles .triangles .given .1) in
+    let order = exactly-right 3 (2 * (size / 36)) s (20 + size) (sym (after-has-body .«has-body» .ensures) ∙ not-false _ (chosen2 .if2 .left)) in
+    let nodes = is-right 4 (whole 30) s _ (after-whole-body2 .«whole-body2» .ensures) (at-nodes .nodes .given .1) in
     ap bodies (image-spans size _ (whole-size 36 triangles) (whole-size 30 nodes)) ∙ sym (reach-end (reach-on (reach-on (tree-wanted settings triangles) order) nodes) (c .if3 .left))
 
 pub image-layout-spec : {M : Type 1} → statement M

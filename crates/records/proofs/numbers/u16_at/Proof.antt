@@ -25,16 +25,26 @@ wide-requires-2 : tie.Need-wide-requires-2
 wide-requires-2 c κs = search needs
 
 mul-result : tie.Need-mul-result
-mul-result c = omega (arith, c .wide2 .ensures, c .before .«shared-slice-known3» .given (c .before .before .before .before .before .args .at + 1))
+mul-result c =
+    let after-wide = c .before .before in
+    let start = after-wide .before .before .before in
+    omega (arith, c .wide2 .ensures, c .before .«shared-slice-known3» .given (start .args .at + 1))
 
 add-result : tie.Need-add-result
-add-result c = omega (arith, c .wide2 .ensures, c .before .before .wide .ensures, c .before .«shared-slice-known3» .given (c .before .before .before .before .before .args .at + 1), c .before .before .before .before .«shared-slice-known» .given (c .before .before .before .before .before .args .at))
+add-result c =
+    let after-wide = c .before .before in
+    let known = after-wide .before .before in
+    let start = known .before in
+    omega (arith, c .wide2 .ensures, after-wide .wide .ensures, c .before .«shared-slice-known3» .given (start .args .at + 1), known .«shared-slice-known» .given (start .args .at))
 
 returns : tie.Need-returns
 returns c =
-    let a = c .before .before .before .before .before .args in
-    let v : c .before .before .wide .result + 256 * c .wide2 .result ≡ getD (now (a .bytes)) (a .at) 0 + 256 * getD (now (a .bytes)) (a .at + 1) 0 = omega (arith, c .wide2 .ensures, c .before .before .wide .ensures) in
-    (omega (arith, two-at (now (a .bytes)) (a .at) (c .before .before .before .before .before .pre)), omega (arith, v, c .before .«shared-slice-known3» .given (a .at + 1), c .before .before .before .before .«shared-slice-known» .given (a .at)))
+    let after-wide = c .before .before in
+    let known = after-wide .before .before in
+    let start = known .before in
+    let a = start .args in
+    let v : after-wide .wide .result + 256 * c .wide2 .result ≡ getD (now (a .bytes)) (a .at) 0 + 256 * getD (now (a .bytes)) (a .at + 1) 0 = omega (arith, c .wide2 .ensures, after-wide .wide .ensures) in
+    (omega (arith, two-at (now (a .bytes)) (a .at) (start .pre)), omega (arith, v, c .before .«shared-slice-known3» .given (a .at + 1), known .«shared-slice-known» .given (a .at)))
 
 pub u16-at-spec : {M : Type 1} → statement M
 u16-at-spec =

@@ -22,7 +22,9 @@ add-result : tie.Need-add-result
 add-result c = search needs
 
 returns : tie.Need-returns
-returns c = omega (arith, four-at (now (c .before .before .before .args .bytes)) (c .before .before .before .args .at) (c .before .before .before .pre), c .«u16-at2» .ensures, c .before .«u16-at» .ensures)
+returns c =
+    let start = c .before .before .before in
+    omega (arith, four-at (now (start .args .bytes)) (start .args .at) (start .pre), c .«u16-at2» .ensures, c .before .«u16-at» .ensures)
 
 pub u32-at-spec : {M : Type 1} → statement M
 u32-at-spec =

@@ -15,7 +15,10 @@ absolute-requires-3 c κs = search needs
 
 returns : tie.Need-returns
 unfolding reach
-returns c = rw (c .before .before .before .before .before .absolute .ensures, c .before .before .before .absolute2 .ensures, c .before .absolute3 .ensures)
+returns c =
+    let after-absolute2 = c .before .before .before in
+    let after-absolute = after-absolute2 .before .before in
+    rw (after-absolute .absolute .ensures, after-absolute2 .absolute2 .ensures, c .before .absolute3 .ensures)
 
 pub reach-of-spec : {M : Type 1} → statement M
 reach-of-spec =

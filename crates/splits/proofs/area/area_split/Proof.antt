@@ -35,13 +35,17 @@ cut-by-requires c κs = search needs
 returns : tie.Need-returns
 unfolding areaSplit
 returns c =
-    let args = c .before .before .before .before .before .before .before .args in
-    let within = c .before .before .before .before .centre-span in
+    let after-costs-of = c .before .before in
+    let after-fill = after-costs-of .before in
+    let after-centre-span = after-fill .before in
+    let start = after-centre-span .before .before .before in
+    let args = start .args in
+    let within = after-centre-span .centre-span in
     rw (
       c .cut-by .ensures,
       c .before .cheapest-of .ensures,
-      c .before .before .costs-of .ensures,
-      c .before .before .before .fill .ensures,
+      after-costs-of .costs-of .ensures,
+      after-fill .fill .ensures,
       bucket-on-axis binary32 (asAxis (args .axis)) _ (within .result .lo) (within .result .hi) (within .ensures),
     )
 

@@ -31,14 +31,20 @@ shared-slice-read-bucket-of : tie.Need-shared-slice-read-bucket-of Inv-loop μ-l
 shared-slice-read-bucket-of c = search needs
 
 bucket-of-requires : tie.Need-bucket-of-requires Inv-loop μ-loop
-bucket-of-requires c κs = c .before .before .before .before .before .pre (c .before .before .loop .i) (c .before .loop-test .taken)
+bucket-of-requires c κs =
+    let turn = c .before .before in
+    let start = turn .before .before .before in
+    start .pre (turn .loop .i) (c .before .loop-test .taken)
 
 returns : tie.Need-returns Inv-loop μ-loop
 returns c =
-    let args = c .before .before .before .before .before .before .before .args in
-    let loop = c .before .before .before .before .loop in
+    let tested = c .before .before .before in
+    let turn = tested .before in
+    let start = turn .before .before .before in
+    let args = start .args in
+    let loop = turn .loop in
     looking-finds (bucketBetween binary32 (asAxis (args .axis)) (args .within .lo) (args .within .hi)) (args .k) (boxIn (args .bounds .now)) (args .part .now) (loop .i) _
-    (c .before .before .before .loop-test .taken) (sym (ap (ltb (args .k)) (c .before .bucket-of .ensures)) ∙ lt-ltb _ _ (c .if1 .taken)) (loop .inv)
+    (tested .loop-test .taken) (sym (ap (ltb (args .k)) (c .before .bucket-of .ensures)) ∙ lt-ltb _ _ (c .if1 .taken)) (loop .inv)
 
 add-i : tie.Need-add-i Inv-loop μ-loop
 add-i c = search needs
@@ -48,10 +54,13 @@ loop-less c = omega arith
 
 loop-again : tie.Need-loop-again Inv-loop μ-loop
 loop-again c =
-    let args = c .before .before .before .before .before .before .before .args in
-    let loop = c .before .before .before .before .loop in
+    let tested = c .before .before .before in
+    let turn = tested .before in
+    let start = turn .before .before .before in
+    let args = start .args in
+    let loop = turn .loop in
     looking-goes-on (bucketBetween binary32 (asAxis (args .axis)) (args .within .lo) (args .within .hi)) (args .k) (boxIn (args .bounds .now)) (args .part .now) (loop .i) _
-    (c .before .before .before .loop-test .taken) (sym (ap (ltb (args .k)) (c .before .bucket-of .ensures)) ∙ le-ltb _ _ (c .if1 .left)) (loop .inv)
+    (tested .loop-test .taken) (sym (ap (ltb (args .k)) (c .before .bucket-of .ensures)) ∙ le-ltb _ _ (c .if1 .left)) (loop .inv)
 
 returns-2 : tie.Need-returns-2 Inv-loop μ-loop
 returns-2 c =

@@ -34,7 +34,10 @@ shared-slice-read-t : tie.Need-shared-slice-read-t Inv-loop μ-loop
 shared-slice-read-t c = search needs
 
 bucket-of-requires : tie.Need-bucket-of-requires Inv-loop μ-loop
-bucket-of-requires c κs = c .before .before .before .before .before .before .pre .1 (c .before .before .loop .i) (c .before .loop-test .taken)
+bucket-of-requires c κs =
+    let turn = c .before .before in
+    let start = turn .before .before .before .before in
+    start .pre .1 (turn .loop .i) (c .before .loop-test .taken)
 
 mul-old : tie.Need-mul-old Inv-loop μ-loop
 mul-old c = omega (arith, between-below binary32 _ _ _ _ (c .bucket-of .result) (c .bucket-of .ensures))
@@ -43,20 +46,32 @@ element-copy-out-old : tie.Need-element-copy-out-old Inv-loop μ-loop
 element-copy-out-old c = between-below binary32 _ _ _ _ (c .bucket-of .result) (c .bucket-of .ensures)
 
 box-at-requires : tie.Need-box-at-requires Inv-loop μ-loop
-box-at-requires c κs = c .before .before .before .before .before .before .before .before .pre .1 (c .before .before .before .before .loop .i) (c .before .before .before .loop-test .taken)
+box-at-requires c κs =
+    let tested = c .before .before .before in
+    let turn = tested .before in
+    let start = turn .before .before .before .before in
+    start .pre .1 (turn .loop .i) (tested .loop-test .taken)
 
 with-box-requires : tie.Need-with-box-requires Inv-loop μ-loop
 with-box-requires c κs =
-    let args = c .before .before .before .before .before .before .before .before .before .args in
-    let loop = c .before .before .before .before .before .loop in
-    filling-small asBucket binary32 (bucketBetween binary32 (asAxis (args .axis)) (args .within .lo) (args .within .hi)) (boxIn (args .bounds .now)) (args .part .now) (loop .buckets .each) (loop .i) (c .before .before .bucket-of .result) noBucket (loop .inv)
-    (between-below binary32 _ _ _ _ (c .before .before .bucket-of .result) (c .before .before .bucket-of .ensures)) (c .before .before .before .before .loop-test .taken) (c .before .before .before .before .before .before .before .before .before .pre .0)
+    let after-bucket-of = c .before .before in
+    let tested = after-bucket-of .before .before in
+    let turn = tested .before in
+    let start = turn .before .before .before .before in
+    let args = start .args in
+    let loop = turn .loop in
+    filling-small asBucket binary32 (bucketBetween binary32 (asAxis (args .axis)) (args .within .lo) (args .within .hi)) (boxIn (args .bounds .now)) (args .part .now) (loop .buckets .each) (loop .i) (after-bucket-of .bucket-of .result) noBucket (loop .inv)
+    (between-below binary32 _ _ _ _ (after-bucket-of .bucket-of .result) (after-bucket-of .bucket-of .ensures)) (tested .loop-test .taken) (start .pre .0)
 
 mul-new : tie.Need-mul-new Inv-loop μ-loop
-mul-new c = omega (arith, between-below binary32 _ _ _ _ (c .before .before .before .bucket-of .result) (c .before .before .before .bucket-of .ensures))
+mul-new c =
+    let after-bucket-of = c .before .before .before in
+    omega (arith, between-below binary32 _ _ _ _ (after-bucket-of .bucket-of .result) (after-bucket-of .bucket-of .ensures))
 
 element-set-from-new : tie.Need-element-set-from-new Inv-loop μ-loop
-element-set-from-new c = between-below binary32 _ _ _ _ (c .before .before .before .bucket-of .result) (c .before .before .before .bucket-of .ensures)
+element-set-from-new c =
+    let after-bucket-of = c .before .before .before in
+    between-below binary32 _ _ _ _ (after-bucket-of .bucket-of .result) (after-bucket-of .bucket-of .ensures)
 
 add-i : tie.Need-add-i Inv-loop μ-loop
 add-i c = search needs
@@ -66,14 +81,20 @@ loop-less c = omega arith
 
 loop-again : tie.Need-loop-again Inv-loop μ-loop
 loop-again c =
-    let args = c .before .before .before .before .before .before .before .before .before .before .args in
-    let loop = c .before .before .before .before .before .before .loop in
-    filling-goes-on asBucket binary32 (bucketBetween binary32 (asAxis (args .axis)) (args .within .lo) (args .within .hi)) (boxIn (args .bounds .now)) (args .part .now) (loop .buckets .each) (loop .i) (c .before .before .before .bucket-of .result) noBucket (loop .inv)
-    (between-below binary32 _ _ _ _ (c .before .before .before .bucket-of .result) (c .before .before .before .bucket-of .ensures)) (c .with-box .result) (asBox (c .before .box-at .result)) (c .before .before .before .before .before .loop-test .taken) (c .before .before .before .bucket-of .ensures) (c .with-box .ensures) (c .before .box-at .ensures)
+    let after-bucket-of = c .before .before .before in
+    let tested = after-bucket-of .before .before in
+    let turn = tested .before in
+    let start = turn .before .before .before .before in
+    let args = start .args in
+    let loop = turn .loop in
+    filling-goes-on asBucket binary32 (bucketBetween binary32 (asAxis (args .axis)) (args .within .lo) (args .within .hi)) (boxIn (args .bounds .now)) (args .part .now) (loop .buckets .each) (loop .i) (after-bucket-of .bucket-of .result) noBucket (loop .inv)
+    (between-below binary32 _ _ _ _ (after-bucket-of .bucket-of .result) (after-bucket-of .bucket-of .ensures)) (c .with-box .result) (asBox (c .before .box-at .result)) (tested .loop-test .taken) (after-bucket-of .bucket-of .ensures) (c .with-box .ensures) (c .before .box-at .ensures)
 
 returns : tie.Need-returns Inv-loop μ-loop
 returns c =
-    let args = c .before .before .before .before .before .args in
+    let after-empty = c .before .before in
+    let start = after-empty .before .before .before in
+    let args = start .args in
     let loop = c .before .loop in
     filling-ends asBucket binary32 (bucketBetween binary32 (asAxis (args .axis)) (args .within .lo) (args .within .hi)) (boxIn (args .bounds .now)) (args .part .now) (loop .buckets .each) (loop .i) (c .loop-test .left) (loop .inv)
 

@@ -45,8 +45,9 @@ element-copy-out-merged c = omega arith
 
 merged-requires : tie.Need-merged-requires Inv-loop μ-loop
 merged-requires c κs =
-    let loop = c .before .before .loop in
-    let start = c .before .before .before .before .before in
+    let turn = c .before .before in
+    let start = turn .before .before .before in
+    let loop = turn .loop in
     up-fits asBucket binary32 (start .args .t1 .each) noBucket (search (unmapped, start .good)) _ (loop .i) (loop .inv .0) (start .pre .0)
 
 mul-cost-of : tie.Need-mul-cost-of Inv-loop μ-loop

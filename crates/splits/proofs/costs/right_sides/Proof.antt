@@ -36,8 +36,9 @@ element-copy-out-merged c = omega (arith, c .before .loop .inv .within)
 
 merged-requires : tie.Need-merged-requires Inv-loop μ-loop
 merged-requires c κs =
-    let loop = c .before .before .loop in
-    let start = c .before .before .before .before .before in
+    let turn = c .before .before in
+    let start = turn .before .before .before in
+    let loop = turn .loop in
     down-fits asBucket binary32 (start .args .t1 .each) noBucket (search (unmapped, start .good)) _ _ (loop .i) (loop .inv) (start .pre)
 
 sub-i : tie.Need-sub-i Inv-loop μ-loop

@@ -29,17 +29,24 @@ shared-slice-read-box-at : tie.Need-shared-slice-read-box-at Inv-loop μ-loop
 shared-slice-read-box-at c = search needs
 
 box-at-requires : tie.Need-box-at-requires Inv-loop μ-loop
-box-at-requires c κs = c .before .before .before .before .before .pre (c .before .before .loop .i) (c .before .loop-test .taken)
+box-at-requires c κs =
+    let turn = c .before .before in
+    let start = turn .before .before .before in
+    start .pre (turn .loop .i) (c .before .loop-test .taken)
 
 intersects-box3-requires : tie.Need-intersects-box3-requires Inv-loop μ-loop
 intersects-box3-requires c κs = search needs
 
 returns : tie.Need-returns Inv-loop μ-loop
 returns c =
-    let args = c .before .before .before .before .before .before .before .before .args in
-    let loop = c .before .before .before .before .before .loop in
-    let test = sym (c .before .intersects-box3 .ensures ∙ ap (meetsBox binary32 (asPlane (args .plane))) (c .before .before .box-at .ensures)) in
-    meeting-stops binary32 (asPlane (args .plane)) (boxIn (args .bounds .now)) (args .part .now) (loop .i) _ (c .before .before .before .before .loop-test .taken) (test ∙ not-true _ (c .if1 .taken)) (loop .inv)
+    let after-box-at = c .before .before in
+    let tested = after-box-at .before .before in
+    let turn = tested .before in
+    let start = turn .before .before .before in
+    let args = start .args in
+    let loop = turn .loop in
+    let test = sym (c .before .intersects-box3 .ensures ∙ ap (meetsBox binary32 (asPlane (args .plane))) (after-box-at .box-at .ensures)) in
+    meeting-stops binary32 (asPlane (args .plane)) (boxIn (args .bounds .now)) (args .part .now) (loop .i) _ (tested .loop-test .taken) (test ∙ not-true _ (c .if1 .taken)) (loop .inv)
 
 add-i : tie.Need-add-i Inv-loop μ-loop
 add-i c = search needs
@@ -49,10 +56,14 @@ loop-less c = omega arith
 
 loop-again : tie.Need-loop-again Inv-loop μ-loop
 loop-again c =
-    let args = c .before .before .before .before .before .before .before .before .args in
-    let loop = c .before .before .before .before .before .loop in
-    let test = sym (c .before .intersects-box3 .ensures ∙ ap (meetsBox binary32 (asPlane (args .plane))) (c .before .before .box-at .ensures)) in
-    meeting-goes-on binary32 (asPlane (args .plane)) (boxIn (args .bounds .now)) (args .part .now) (loop .i) _ (c .before .before .before .before .loop-test .taken) (test ∙ not-false _ (c .if1 .left)) (loop .inv)
+    let after-box-at = c .before .before in
+    let tested = after-box-at .before .before in
+    let turn = tested .before in
+    let start = turn .before .before .before in
+    let args = start .args in
+    let loop = turn .loop in
+    let test = sym (c .before .intersects-box3 .ensures ∙ ap (meetsBox binary32 (asPlane (args .plane))) (after-box-at .box-at .ensures)) in
+    meeting-goes-on binary32 (asPlane (args .plane)) (boxIn (args .bounds .now)) (args .part .now) (loop .i) _ (tested .loop-test .taken) (test ∙ not-false _ (c .if1 .left)) (loop .inv)
 
 returns-2 : tie.Need-returns-2 Inv-loop μ-loop
 returns-2 c =

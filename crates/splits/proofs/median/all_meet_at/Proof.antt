@@ -27,8 +27,9 @@ shared-slice-read-plane-between-2 c = search needs
 
 plane-between-requires : tie.Need-plane-between-requires
 plane-between-requires c κs =
-    let args = c .before .before .before .before .args in
-    let pre = c .before .before .before .before .pre in
+    let start = c .before .before .before .before in
+    let args = start .args in
+    let pre = start .pre in
     (pre .1 .1 (args .cut) (pre .1 .0), pre .1 .1 (args .cut - 1) (omega arith))
 
 all-meet-requires : tie.Need-all-meet-requires
@@ -37,8 +38,10 @@ all-meet-requires c κs = search needs
 returns : tie.Need-returns
 unfolding allMeetAt
 returns c =
-    let args = c .before .before .before .before .before .before .args in
-    let pre = c .before .before .before .before .before .before .pre in
+    let known3 = c .before .before .before in
+    let start = known3 .before .before .before in
+    let args = start .args in
+    let pre = start .pre in
     rw (
       c .all-meet .ensures,
       c .before .plane-between .ensures,

@@ -14,8 +14,9 @@ slice-aggregate-is-large c = simp length-take (omega arith)
 
 is-large-requires : tie.Need-is-large-requires
 is-large-requires c κs =
-    let args = c .before .before .before .args in
-    let pre = c .before .before .before .pre in
+    let start = c .before .before .before in
+    let args = start .args in
+    let pre = start .pre in
     let inside = pre .1 .0 in
     (simp length-take (omega arith), in-table-before (args .bounds .now) (args .part .now) (pre .1 .1) (args .cut) (omega arith))
 
@@ -33,22 +34,29 @@ part-is-large-end c = search needs
 
 is-large-requires-2 : tie.Need-is-large-requires-2
 is-large-requires-2 c κs =
-    let args = c .before .before .before .before .before .before .args in
-    let pre = c .before .before .before .before .before .before .pre in
+    let after-is-large = c .before .before in
+    let start = after-is-large .before .before .before .before in
+    let args = start .args in
+    let pre = start .pre in
     rw (to-the-end (args .cut) (args .part .now)) (simp length-drop (omega arith), in-table-after (args .bounds .now) (args .part .now) (pre .1 .1) (args .cut))
 
 returns : tie.Need-returns
 unfolding areBothLarge
 returns c =
-    let args = c .before .before .before .before .before .before .before .args in
-    let left = rw (map-take (boxIn (args .bounds .now))) at (sym (c .before .before .before .is-large .ensures) ∙ c .before .before .if1 .taken) in
+    let chosen = c .before .before in
+    let after-is-large = chosen .before in
+    let start = after-is-large .before .before .before .before in
+    let args = start .args in
+    let left = rw (map-take (boxIn (args .bounds .now))) at (sym (after-is-large .is-large .ensures) ∙ chosen .if1 .taken) in
     rw (c .is-large2 .ensures, to-the-end (args .cut) (args .part .now), map-drop (boxIn (args .bounds .now)), left)
 
 returns-2 : tie.Need-returns-2
 unfolding areBothLarge
 returns-2 c =
-    let args = c .before .before .before .before .before .args in
-    let left = rw (map-take (boxIn (args .bounds .now))) at (sym (c .before .is-large .ensures) ∙ c .if1 .left) in
+    let after-is-large = c .before in
+    let start = after-is-large .before .before .before .before in
+    let args = start .args in
+    let left = rw (map-take (boxIn (args .bounds .now))) at (sym (after-is-large .is-large .ensures) ∙ c .if1 .left) in
     rw left
 
 pub are-both-large-spec : {M : Type 1} → statement M

@@ -33,7 +33,10 @@ shared-slice-read-result-2 c = omega (arith, c .before .before .place-of .ensure
 
 returns : tie.Need-returns
 unfolding ofBits
-returns c = rw (c .before .before .place-of .ensures) (centre-in binary32 (c .before .before .before .before .args .bounds .now) (c .before .before .before .before .args .t) (asAxis (c .before .before .before .before .args .axis)))
+returns c =
+    let after-place-of = c .before .before in
+    let start = after-place-of .before .before in
+    rw (after-place-of .place-of .ensures) (centre-in binary32 (start .args .bounds .now) (start .args .t) (asAxis (start .args .axis)))
 
 pub centre-on-spec : {M : Type 1} → statement M
 centre-on-spec =

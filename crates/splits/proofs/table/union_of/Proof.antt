@@ -24,12 +24,15 @@ shared-slice-read-box-at : tie.Need-shared-slice-read-box-at Inv-loop μ-loop
 shared-slice-read-box-at c = search needs
 
 box-at-requires : tie.Need-box-at-requires Inv-loop μ-loop
-box-at-requires c κs = c .before .before .before .pre .1 0 (c .before .before .before .pre .0)
+box-at-requires c κs =
+    let start = c .before .before .before in
+    start .pre .1 0 (start .pre .0)
 
 loop-holds : tie.Need-loop-holds Inv-loop μ-loop
 loop-holds c =
-    let args = c .before .before .before .before .args in
-    ap (λ (b : Box). foldl union b (boxesIn (args .bounds .now) (drop 1 (args .part .now)))) (c .box-at .ensures) ∙ union-from-first binary32 (boxIn (args .bounds .now)) (args .part .now) (c .before .before .before .before .pre .0)
+    let start = c .before .before .before .before in
+    let args = start .args in
+    ap (λ (b : Box). foldl union b (boxesIn (args .bounds .now) (drop 1 (args .part .now)))) (c .box-at .ensures) ∙ union-from-first binary32 (boxIn (args .bounds .now)) (args .part .now) (start .pre .0)
 
 mul-box-at : tie.Need-mul-box-at Inv-loop μ-loop
 mul-box-at c = search needs
@@ -38,7 +41,11 @@ shared-slice-read-box-at-2 : tie.Need-shared-slice-read-box-at-2 Inv-loop μ-loo
 shared-slice-read-box-at-2 c = search needs
 
 box-at-requires-2 : tie.Need-box-at-requires-2 Inv-loop μ-loop
-box-at-requires-2 c κs = c .before .before .before .before .before .before .before .pre .1 (c .before .before .loop .i) (c .before .loop-test .taken)
+box-at-requires-2 c κs =
+    let turn = c .before .before in
+    let after-box-at = turn .before in
+    let start = after-box-at .before .before .before .before in
+    start .pre .1 (turn .loop .i) (c .before .loop-test .taken)
 
 union-box-requires : tie.Need-union-box-requires Inv-loop μ-loop
 union-box-requires c κs = search needs
@@ -51,14 +58,20 @@ loop-less c = omega arith
 
 loop-again : tie.Need-loop-again Inv-loop μ-loop
 loop-again c =
-    let args = c .before .before .before .before .before .before .before .before .before .args in
-    let loop = c .before .before .before .before .loop in
-    fold-on-named union (boxIn (args .bounds .now)) (args .part .now) (loop .i) (asBox (loop .joined)) _ (asBox (c .union-box .result)) (c .before .before .before .loop-test .taken)
+    let tested = c .before .before .before in
+    let turn = tested .before in
+    let after-box-at = turn .before in
+    let start = after-box-at .before .before .before .before in
+    let args = start .args in
+    let loop = turn .loop in
+    fold-on-named union (boxIn (args .bounds .now)) (args .part .now) (loop .i) (asBox (loop .joined)) _ (asBox (c .union-box .result)) (tested .loop-test .taken)
     (c .union-box .ensures ∙ ap (union (asBox (loop .joined))) (c .before .box-at2 .ensures)) (loop .inv)
 
 returns : tie.Need-returns Inv-loop μ-loop
 returns c =
-    let args = c .before .before .before .before .before .before .args in
+    let after-box-at = c .before .before in
+    let start = after-box-at .before .before .before .before in
+    let args = start .args in
     let loop = c .before .loop in
     fold-ended-named union (boxIn (args .bounds .now)) (args .part .now) (loop .i) (asBox (loop .joined)) _ (c .loop-test .left) (loop .inv)
 

@@ -33,7 +33,15 @@ is-near-units-requires c κs = search needs
 
 returns : tie.Need-returns
 unfolding angleCase
-returns c = rw (c .is-near-units .ensures, c .before .word-at2 .ensures, c .before .before .place3 .ensures, c .before .before .before .word-at .ensures, c .before .before .before .before .place2 .ensures, c .before .before .before .before .before .angle-or-nan .ensures, c .before .before .before .before .before .before .number-at2 .ensures, c .before .before .before .before .before .before .before .place .ensures, c .before .before .before .before .before .before .before .before .number-at .ensures)
+returns c =
+    let after-place3 = c .before .before in
+    let after-word-at = after-place3 .before in
+    let after-place2 = after-word-at .before in
+    let after-angle-or-nan = after-place2 .before in
+    let after-number-at2 = after-angle-or-nan .before in
+    let after-place = after-number-at2 .before in
+    let after-number-at = after-place .before in
+    rw (c .is-near-units .ensures, c .before .word-at2 .ensures, after-place3 .place3 .ensures, after-word-at .word-at .ensures, after-place2 .place2 .ensures, after-angle-or-nan .angle-or-nan .ensures, after-number-at2 .number-at2 .ensures, after-place .place .ensures, after-number-at .number-at .ensures)
 
 pub angle-case-spec : {M : Type 1} → statement M
 angle-case-spec =

@@ -30,7 +30,14 @@ is-near-requires c κs = search needs
 
 returns : tie.Need-returns
 unfolding solidCase
-returns c = rw (c .is-near .ensures, c .before .from-bits .ensures, c .before .before .word-at .ensures, c .before .before .before .place2 .ensures, c .before .before .before .before .solid-angle .ensures, c .before .before .before .before .before .point-of .ensures, c .before .before .before .before .before .before .place .ensures, c .before .before .before .before .before .before .before .triangle-of .ensures)
+returns c =
+    let after-word-at = c .before .before in
+    let after-place2 = after-word-at .before in
+    let after-solid-angle = after-place2 .before in
+    let after-point-of = after-solid-angle .before in
+    let after-place = after-point-of .before in
+    let after-triangle-of = after-place .before in
+    rw (c .is-near .ensures, c .before .from-bits .ensures, after-word-at .word-at .ensures, after-place2 .place2 .ensures, after-solid-angle .solid-angle .ensures, after-point-of .point-of .ensures, after-place .place .ensures, after-triangle-of .triangle-of .ensures)
 
 pub solid-case-spec : {M : Type 1} → statement M
 solid-case-spec =

@@ -24,7 +24,12 @@ number-at-requires-3 c κs = search needs
 
 returns : tie.Need-returns
 unfolding pointAt
-returns c = rw (c .number-at3 .ensures, c .before .place3 .ensures, c .before .before .number-at2 .ensures, c .before .before .before .place2 .ensures, c .before .before .before .before .number-at .ensures, c .before .before .before .before .before .place .ensures)
+returns c =
+    let after-number-at2 = c .before .before in
+    let after-place2 = after-number-at2 .before in
+    let after-number-at = after-place2 .before in
+    let after-place = after-number-at .before in
+    rw (c .number-at3 .ensures, c .before .place3 .ensures, after-number-at2 .number-at2 .ensures, after-place2 .place2 .ensures, after-number-at .number-at .ensures, after-place .place .ensures)
 
 pub point-of-spec : {M : Type 1} → statement M
 point-of-spec =

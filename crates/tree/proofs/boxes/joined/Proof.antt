@@ -26,10 +26,15 @@ wide-requires : tie.Need-wide-requires Inv-loop μ-loop
 wide-requires c κs = search needs
 
 box-at-requires : tie.Need-box-at-requires Inv-loop μ-loop
-box-at-requires c κs = rw (c .wide .ensures) (triangle-inside _ _ (c .before .before .before .before .pre .1 0 (c .before .before .before .before .pre .0)))
+box-at-requires c κs =
+    let start = c .before .before .before .before in
+    rw (c .wide .ensures) (triangle-inside _ _ (start .pre .1 0 (start .pre .0)))
 
 loop-holds : tie.Need-loop-holds Inv-loop μ-loop
-loop-holds c = joining-starts _ _ _ (c .before .before .before .before .before .pre .0) (c .box-at .ensures ∙ ap (boxAt _) (c .before .wide .ensures))
+loop-holds c =
+    let after-wide = c .before in
+    let start = after-wide .before .before .before .before in
+    joining-starts _ _ _ (start .pre .0) (c .box-at .ensures ∙ ap (boxAt _) (after-wide .wide .ensures))
 
 mul-wide : tie.Need-mul-wide Inv-loop μ-loop
 mul-wide c = search needs
@@ -41,19 +46,32 @@ wide-requires-2 : tie.Need-wide-requires-2 Inv-loop μ-loop
 wide-requires-2 c κs = search needs
 
 box-at-requires-2 : tie.Need-box-at-requires-2 Inv-loop μ-loop
-box-at-requires-2 c κs = rw (c .wide2 .ensures) (triangle-inside _ _ (c .before .before .before .before .before .before .before .before .before .pre .1 (c .before .before .before .loop .i) (c .before .before .loop-test .taken)))
+box-at-requires-2 c κs =
+    let tested = c .before .before in
+    let turn = tested .before in
+    let after-wide = turn .before .before in
+    let start = after-wide .before .before .before .before in
+    rw (c .wide2 .ensures) (triangle-inside _ _ (start .pre .1 (turn .loop .i) (tested .loop-test .taken)))
 
 union-box-requires : tie.Need-union-box-requires Inv-loop μ-loop
 union-box-requires c κs = search needs
 
 add-i : tie.Need-add-i Inv-loop μ-loop
-add-i c = omega (arith, c .before .before .before .before .loop-test .taken, c .before .before .before .before .before .before .before .before .before .before .before .good .1 .0)
+add-i c =
+    let tested = c .before .before .before .before in
+    let after-wide = tested .before .before .before in
+    let start = after-wide .before .before .before .before in
+    omega (arith, tested .loop-test .taken, start .good .1 .0)
 
 loop-less : tie.Need-loop-less Inv-loop μ-loop
 loop-less c = search needs
 
 loop-again : tie.Need-loop-again Inv-loop μ-loop
-loop-again c = joining-goes-on _ _ (c .before .before .before .before .before .loop .i) (asBox (c .before .before .before .before .before .loop .over)) _ (c .before .before .before .before .loop-test .taken) (c .union-box .ensures ∙ ap (union _) (c .before .box-at2 .ensures ∙ ap (boxAt _) (c .before .before .wide2 .ensures))) (c .before .before .before .before .before .loop .inv)
+loop-again c =
+    let after-wide2 = c .before .before in
+    let tested = after-wide2 .before .before in
+    let turn = tested .before in
+    joining-goes-on _ _ (turn .loop .i) (asBox (turn .loop .over)) _ (tested .loop-test .taken) (c .union-box .ensures ∙ ap (union _) (c .before .box-at2 .ensures ∙ ap (boxAt _) (after-wide2 .wide2 .ensures))) (turn .loop .inv)
 
 returns : tie.Need-returns Inv-loop μ-loop
 returns c = joining-ends _ _ (c .before .loop .i) _ (c .loop-test .left) (c .before .loop .inv)

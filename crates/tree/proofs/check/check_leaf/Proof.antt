@@ -31,16 +31,25 @@ part-joined-end : tie.Need-part-joined-end
 part-joined-end c = search needs
 
 joined-requires : tie.Need-joined-requires
-joined-requires c κs = let start = c .before .before .before .before .before .before .before .before .before in
-    let entry = c .before .before .before .before .left-at .result in
+joined-requires c κs =
+    let chosen = c .before .before .before in
+    let after-left-at = chosen .before in
+    let known3 = after-left-at .before .before in
+    let start = known3 .before .before .before in
+    let entry = after-left-at .left-at .result in
     let size = start .args .last - entry in
-    (part-some _ _ _ (c .before .before .before .if1 .left) (start .pre .room .order-there), part-entries _ (start .args .order .now) entry size (start .pre .entries))
+    (part-some _ _ _ (chosen .if1 .left) (start .pre .room .order-there), part-entries _ (start .args .order .now) entry size (start .pre .entries))
 
 boxed-requires : tie.Need-boxed-requires
 boxed-requires c κs = search needs
 
 returns-3 : tie.Need-returns-3
-returns-3 c = rw (leaf-fits _ _ _ _ _ _ _ (c .before .before .before .before .before .before .left-at .ensures) (c .before .before .before .before .before .if1 .left) (sym (c .before .before .before .before .right-at .ensures) ∙ c .before .before .before .if2 .left), ← c .before .joined .ensures) (c .boxed .ensures)
+returns-3 c =
+    let chosen2 = c .before .before .before in
+    let after-right-at = chosen2 .before in
+    let chosen = after-right-at .before in
+    let after-left-at = chosen .before in
+    rw (leaf-fits _ _ _ _ _ _ _ (after-left-at .left-at .ensures) (chosen .if1 .left) (sym (after-right-at .right-at .ensures) ∙ chosen2 .if2 .left), ← c .before .joined .ensures) (c .boxed .ensures)
 
 pub check-leaf-spec : {M : Type 1} → statement M
 check-leaf-spec =

@@ -33,7 +33,13 @@ is-whole-requires : tie.Need-is-whole-requires
 is-whole-requires c κs = search needs
 
 returns-3 : tie.Need-returns-3
-returns-3 c = rw (← c .before .before .before .before .before .before .triangle-count .ensures, accepted-looked _ _ _ _ _ _ (sym (c .before .before .before .before .before .is-permutation .ensures) ∙ not-false _ (c .before .before .before .before .if1 .left)) (sym (c .before .before .before .is-present .ensures) ∙ not-false _ (c .before .before .if2 .left)), ← c .before .check-node .ensures) (c .is-whole .ensures)
+returns-3 c =
+    let chosen2 = c .before .before in
+    let after-is-present = chosen2 .before in
+    let chosen = after-is-present .before in
+    let after-is-permutation = chosen .before in
+    let after-triangle-count = after-is-permutation .before in
+    rw (← after-triangle-count .triangle-count .ensures, accepted-looked _ _ _ _ _ _ (sym (after-is-permutation .is-permutation .ensures) ∙ not-false _ (chosen .if1 .left)) (sym (after-is-present .is-present .ensures) ∙ not-false _ (chosen2 .if2 .left)), ← c .before .check-node .ensures) (c .is-whole .ensures)
 
 pub is-accepted-spec : {M : Type 1} → statement M
 is-accepted-spec =

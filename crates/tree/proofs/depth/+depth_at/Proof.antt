@@ -45,26 +45,51 @@ depth-at-left-at-requires : (t : ℕ) → depth-at-lts.Need-left-at-requires (de
 depth-at-left-at-requires t c κs = c .before .before .before .before .pre .1 .there
 
 depth-at-depth-at-requires : (t : ℕ) → depth-at-lts.Need-depth-at-requires (depth-at-calls t) (depth-at-at t) depth-at.Post
-depth-at-depth-at-requires t c κs = (omega (arith, c .before .before .before .before .before .pre .0, c .before .before .before .if1 .left), rw (c .left-at .ensures) (descends-left _ _ (c .before .before .before .before .before .pre .1) (sym (c .before .before .kind-at .ensures) ∙ c .before .if2 .left)))
+depth-at-depth-at-requires t c κs =
+    let after-kind-at = c .before .before in
+    let chosen = after-kind-at .before in
+    let start = chosen .before .before in
+    (omega (arith, start .pre .0, chosen .if1 .left), rw (c .left-at .ensures) (descends-left _ _ (start .pre .1) (sym (after-kind-at .kind-at .ensures) ∙ c .before .if2 .left)))
 
 depth-at-sub-depth-at-2 : (t : ℕ) → depth-at-lts.Need-sub-depth-at-2 (depth-at-calls t) (depth-at-at t) depth-at.Post
 depth-at-sub-depth-at-2 t c = omega (arith, c .before .before .before .before .if1 .left)
 
 depth-at-right-at-requires : (t : ℕ) → depth-at-lts.Need-right-at-requires (depth-at-calls t) (depth-at-at t) depth-at.Post
-depth-at-right-at-requires t c κs = c .before .before .before .before .before .before .pre .1 .there
+depth-at-right-at-requires t c κs =
+    let after-kind-at = c .before .before .before in
+    let start = after-kind-at .before .before .before in
+    start .pre .1 .there
 
 depth-at-depth-at-requires-2 : (t : ℕ) → depth-at-lts.Need-depth-at-requires-2 (depth-at-calls t) (depth-at-at t) depth-at.Post
-depth-at-depth-at-requires-2 t c κs = (omega (arith, c .before .before .before .before .before .before .before .pre .0, c .before .before .before .before .before .if1 .left), rw (c .right-at .ensures) (descends-right _ _ (c .before .before .before .before .before .before .before .pre .1) (sym (c .before .before .before .before .kind-at .ensures) ∙ c .before .before .before .if2 .left)))
+depth-at-depth-at-requires-2 t c κs =
+    let chosen2 = c .before .before .before in
+    let after-kind-at = chosen2 .before in
+    let chosen = after-kind-at .before in
+    let start = chosen .before .before in
+    (omega (arith, start .pre .0, chosen .if1 .left), rw (c .right-at .ensures) (descends-right _ _ (start .pre .1) (sym (after-kind-at .kind-at .ensures) ∙ chosen2 .if2 .left)))
 
 depth-at-deeper-requires : (t : ℕ) → depth-at-lts.Need-deeper-requires (depth-at-calls t) (depth-at-at t) depth-at.Post
 depth-at-deeper-requires t c κs = tt
 
 depth-at-add-result : (t : ℕ) → depth-at-lts.Need-add-result (depth-at-calls t) (depth-at-at t) depth-at.Post
-depth-at-add-result t c = let args = c .before .before .before .before .before .before .before .before .before .args in
-    omega (arith, c .deeper .ensures, c .before .depth-at2 .ensures, c .before .before .before .depth-at .ensures, depth-most (args .links .now) (args .most - 1) (c .before .before .before .before .left-at .result), depth-most (args .links .now) (args .most - 1) (c .before .before .right-at .result), c .before .before .before .before .before .before .before .if1 .left, c .before .before .before .before .before .before .before .before .before .good .1 .0)
+depth-at-add-result t c =
+    let after-right-at = c .before .before in
+    let after-depth-at = after-right-at .before in
+    let after-left-at = after-depth-at .before in
+    let chosen = after-left-at .before .before .before in
+    let start = chosen .before .before in
+    let args = start .args in
+    omega (arith, c .deeper .ensures, c .before .depth-at2 .ensures, after-depth-at .depth-at .ensures, depth-most (args .links .now) (args .most - 1) (after-left-at .left-at .result), depth-most (args .links .now) (args .most - 1) (after-right-at .right-at .result), chosen .if1 .left, start .good .1 .0)
 
 depth-at-returns-3 : (t : ℕ) → depth-at-lts.Need-returns-3 (depth-at-calls t) (depth-at-at t) depth-at.Post
-depth-at-returns-3 t c = rw (depth-branch _ _ _ (c .before .before .before .before .before .before .before .if1 .left) (sym (c .before .before .before .before .before .before .kind-at .ensures) ∙ c .before .before .before .before .before .if2 .left), ← c .before .before .before .before .left-at .ensures, ← c .before .before .right-at .ensures, ← c .before .before .before .depth-at .ensures, ← c .before .depth-at2 .ensures, c .deeper .ensures)
+depth-at-returns-3 t c =
+    let after-right-at = c .before .before in
+    let after-depth-at = after-right-at .before in
+    let after-left-at = after-depth-at .before in
+    let chosen2 = after-left-at .before in
+    let after-kind-at = chosen2 .before in
+    let chosen = after-kind-at .before in
+    rw (depth-branch _ _ _ (chosen .if1 .left) (sym (after-kind-at .kind-at .ensures) ∙ chosen2 .if2 .left), ← after-left-at .left-at .ensures, ← after-right-at .right-at .ensures, ← after-depth-at .depth-at .ensures, ← c .before .depth-at2 .ensures, c .deeper .ensures)
 
 pub +depth-at-spec : {M : Type 1} → statement M
 +depth-at-spec = close μ-depth-at λ t. depth-at-lts.spec (depth-at-calls t)

@@ -15,9 +15,11 @@ node-box-requires c κs = search needs
 
 returns : tie.Need-returns
 returns c =
+    let after-left-at = c .before .before in
+    let start = after-left-at .before .before .before in
     λ i. Leaves.found (record {
-      node = c .before .before .before .before .before .args .node;
-      first = c .before .before .left-at .ensures i;
+      node = start .args .node;
+      first = after-left-at .left-at .ensures i;
       last = c .before .right-at .ensures i;
       box = c .node-box .ensures i;
     })

@@ -31,11 +31,13 @@ loop-less c = search needs
 
 loop-again : tie.Need-loop-again Inv-loop μ-loop
 loop-again c =
+    let tested = c .before .before in
+    let turn = tested .before in
     ⊎-elim
     (λ w.
     let kind = sym (c .before .kind-at .ensures) ∙ w .0 .taken in
-    rw (w .1) (omega arith, omega arith, counting-leaf _ _ _ (c .before .before .loop-test .taken) _ kind (c .before .before .before .loop .inv .2)))
-    (λ w. rw (w .1) (omega arith, omega arith, counting-other _ _ _ (c .before .before .loop-test .taken) _ (λ p. w .0 .left (c .before .kind-at .ensures ∙ p)) (c .before .before .before .loop .inv .2)))
+    rw (w .1) (omega arith, omega arith, counting-leaf _ _ _ (tested .loop-test .taken) _ kind (turn .loop .inv .2)))
+    (λ w. rw (w .1) (omega arith, omega arith, counting-other _ _ _ (tested .loop-test .taken) _ (λ p. w .0 .left (c .before .kind-at .ensures ∙ p)) (turn .loop .inv .2)))
     (c .if1 .came)
 
 returns : tie.Need-returns Inv-loop μ-loop

@@ -22,13 +22,20 @@ kind-at-requires : tie.Need-kind-at-requires Inv-loop μ-loop
 kind-at-requires c κs = omega (arith, c .before .before .before .before .pre .links-there)
 
 leaf-at-requires : tie.Need-leaf-at-requires Inv-loop μ-loop
-leaf-at-requires c κs = (omega (arith, c .before .before .before .before .before .before .before .pre .links-there), omega (arith, c .before .before .before .before .before .before .before .pre .boxes-there))
+leaf-at-requires c κs =
+    let tested = c .before .before .before in
+    let start = tested .before .before .before .before in
+    (omega (arith, start .pre .links-there), omega (arith, start .pre .boxes-there))
 
 returns : tie.Need-returns Inv-loop μ-loop
 returns c =
+    let chosen = c .before .before in
+    let after-kind-at = chosen .before in
+    let tested = after-kind-at .before in
+    let turn = tested .before in
     c .leaf-at .ensures
-    ∙ sym (seek-here _ _ _ _ (c .before .before .before .before .loop-test .taken) _ (sym (c .before .before .before .kind-at .ensures) ∙ c .before .before .if1 .taken) (c .before .if2 .taken))
-    ∙ c .before .before .before .before .before .loop .inv
+    ∙ sym (seek-here _ _ _ _ (tested .loop-test .taken) _ (sym (after-kind-at .kind-at .ensures) ∙ chosen .if1 .taken) (c .before .if2 .taken))
+    ∙ turn .loop .inv
 
 sub-left : tie.Need-sub-left Inv-loop μ-loop
 sub-left c = omega (arith, c .if2 .left)
@@ -41,9 +48,11 @@ loop-less c = search needs
 
 loop-again : tie.Need-loop-again Inv-loop μ-loop
 loop-again c =
+    let tested = c .before .before in
+    let turn = tested .before in
     ⊎-elim
-    (λ w. ap (leafFrom _ _ _ _) (w .2) ∙ seek-past _ _ _ _ (c .before .before .loop-test .taken) _ (sym (c .before .kind-at .ensures) ∙ w .0 .taken) (w .1 .left) ∙ c .before .before .before .loop .inv)
-    (λ w. ap (leafFrom _ _ _ _) (w .1) ∙ seek-on _ _ _ _ (c .before .before .loop-test .taken) _ (λ p. w .0 .left (c .before .kind-at .ensures ∙ p)) ∙ c .before .before .before .loop .inv)
+    (λ w. ap (leafFrom _ _ _ _) (w .2) ∙ seek-past _ _ _ _ (tested .loop-test .taken) _ (sym (c .before .kind-at .ensures) ∙ w .0 .taken) (w .1 .left) ∙ turn .loop .inv)
+    (λ w. ap (leafFrom _ _ _ _) (w .1) ∙ seek-on _ _ _ _ (tested .loop-test .taken) _ (λ p. w .0 .left (c .before .kind-at .ensures ∙ p)) ∙ turn .loop .inv)
     (c .if1 .came)
 
 returns-2 : tie.Need-returns-2 Inv-loop μ-loop

@@ -9,13 +9,17 @@ use Rattle.tree.proofs.permutation.is_permutation.Tie as tie
 
 returns : tie.Need-returns
 unfolding permutes
-returns c = rw (ne-eqb (length (c .before .before .args .order .now)) (c .before .before .args .n) (c .if1 .taken))
+returns c =
+    let start = c .before .before in
+    rw (ne-eqb (length (start .args .order .now)) (start .args .n) (c .if1 .taken))
 
 slice-aggregate-marks-all : tie.Need-slice-aggregate-marks-all
 slice-aggregate-marks-all c = search needs
 
 marks-all-requires : tie.Need-marks-all-requires
-marks-all-requires c κs = (c .before .if1 .left, all-unmarked (c .before .before .before .args .n) 4096 (c .before .before .before .pre))
+marks-all-requires c κs =
+    let start = c .before .before .before in
+    (c .before .if1 .left, all-unmarked (start .args .n) 4096 (start .pre))
 
 returns-2 : tie.Need-returns-2
 returns-2 c = search needs

@@ -21,7 +21,10 @@ mul-wide : tie.Need-mul-wide Inv-loop μ-loop
 mul-wide c = search needs
 
 shared-slice-read-wide : tie.Need-shared-slice-read-wide Inv-loop μ-loop
-shared-slice-read-wide c = omega (arith, c .before .before .before .before .before .pre .0, c .before .loop-test .taken)
+shared-slice-read-wide c =
+    let turn = c .before .before in
+    let start = turn .before .before .before in
+    omega (arith, start .pre .0, c .before .loop-test .taken)
 
 wide-requires : tie.Need-wide-requires Inv-loop μ-loop
 wide-requires c κs = search needs
@@ -30,28 +33,59 @@ same-length : tie.Need-same-length Inv-loop μ-loop
 same-length c = c .before .before .before .before .loop .inv .1
 
 returns : tie.Need-returns Inv-loop μ-loop
-returns c = sym (marked-large _ _ _ (c .before .before .before .before .loop .i) (c .before .before .before .before .loop .inv .0) (omega (arith, c .before .before .before .before .before .before .before .pre .0, c .before .before .before .loop-test .taken)) _ (c .before .wide .ensures) (c .if1 .taken))
+returns c =
+    let tested = c .before .before .before in
+    let turn = tested .before in
+    let start = turn .before .before .before in
+    sym (marked-large _ _ _ (turn .loop .i) (turn .loop .inv .0) (omega (arith, start .pre .0, tested .loop-test .taken)) _ (c .before .wide .ensures) (c .if1 .taken))
 
 slice-read-if2 : tie.Need-slice-read-if2 Inv-loop μ-loop
-slice-read-if2 c = omega (arith, c .before .if1 .left, c .before .before .before .before .before .loop .inv .0 .room)
+slice-read-if2 c =
+    let after-wide = c .before .before in
+    let turn = after-wide .before .before .before in
+    omega (arith, c .before .if1 .left, turn .loop .inv .0 .room)
 
 same-length-2 : tie.Need-same-length-2 Inv-loop μ-loop
-same-length-2 c = c .before .before .before .before .before .before .loop .inv .1
+same-length-2 c =
+    let after-wide = c .before .before .before in
+    let turn = after-wide .before .before .before in
+    turn .loop .inv .1
 
 returns-2 : tie.Need-returns-2 Inv-loop μ-loop
-returns-2 c = sym (marked-twice _ _ _ (c .before .before .before .before .before .before .loop .i) (c .before .before .before .before .before .before .loop .inv .0) (omega (arith, c .before .before .before .before .before .before .before .before .before .pre .0, c .before .before .before .before .before .loop-test .taken)) _ (c .before .before .before .wide .ensures) (c .before .before .if1 .left) (c .if2 .taken))
+returns-2 c =
+    let chosen = c .before .before in
+    let after-wide = chosen .before in
+    let tested = after-wide .before .before in
+    let turn = tested .before in
+    let start = turn .before .before .before in
+    sym (marked-twice _ _ _ (turn .loop .i) (turn .loop .inv .0) (omega (arith, start .pre .0, tested .loop-test .taken)) _ (after-wide .wide .ensures) (chosen .if1 .left) (c .if2 .taken))
 
 slice-write-seen : tie.Need-slice-write-seen Inv-loop μ-loop
-slice-write-seen c = omega (arith, c .before .before .if1 .left, c .before .before .before .before .before .before .loop .inv .0 .room)
+slice-write-seen c =
+    let chosen = c .before .before in
+    let turn = chosen .before .before .before .before in
+    omega (arith, chosen .if1 .left, turn .loop .inv .0 .room)
 
 add-i : tie.Need-add-i Inv-loop μ-loop
-add-i c = omega (arith, c .before .before .before .before .before .loop-test .taken)
+add-i c =
+    let chosen = c .before .before in
+    let tested = chosen .before .before .before in
+    omega (arith, tested .loop-test .taken)
 
 loop-less : tie.Need-loop-less Inv-loop μ-loop
-loop-less c = omega (arith, c .before .before .before .before .before .loop-test .taken)
+loop-less c =
+    let chosen = c .before .before in
+    let tested = chosen .before .before .before in
+    omega (arith, tested .loop-test .taken)
 
 loop-again : tie.Need-loop-again Inv-loop μ-loop
-loop-again c = (marked-more _ _ _ (c .before .before .before .before .before .before .loop .i) (c .before .before .before .before .before .before .loop .inv .0) (omega (arith, c .before .before .before .before .before .before .before .before .before .pre .0, c .before .before .before .before .before .loop-test .taken)) _ (c .before .before .before .wide .ensures) (c .before .before .if1 .left) (c .if2 .left), simp length-set (c .before .before .before .before .before .before .loop .inv .1))
+loop-again c =
+    let chosen = c .before .before in
+    let after-wide = chosen .before in
+    let tested = after-wide .before .before in
+    let turn = tested .before in
+    let start = turn .before .before .before in
+    (marked-more _ _ _ (turn .loop .i) (turn .loop .inv .0) (omega (arith, start .pre .0, tested .loop-test .taken)) _ (after-wide .wide .ensures) (chosen .if1 .left) (c .if2 .left), simp length-set (turn .loop .inv .1))
 
 same-length-3 : tie.Need-same-length-3 Inv-loop μ-loop
 same-length-3 c = c .before .loop .inv .1

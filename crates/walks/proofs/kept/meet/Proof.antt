@@ -13,8 +13,10 @@ keep-requires c κs = search needs
 
 returns : tie.Need-returns
 returns c =
-    let a = c .before .before .before .before .before .before .args in
-    met-smaller (asHit (a .hit)) (hitOf (a .best .now) (a .number .now)) _ (c .before .before .before .if1 .taken) (c .keep .ensures)
+    let chosen = c .before .before .before in
+    let start = chosen .before .before .before in
+    let a = start .args in
+    met-smaller (asHit (a .hit)) (hitOf (a .best .now) (a .number .now)) _ (chosen .if1 .taken) (c .keep .ensures)
 
 returns-2 : tie.Need-returns-2
 returns-2 c =

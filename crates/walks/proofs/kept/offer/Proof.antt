@@ -16,15 +16,21 @@ keep-requires c κs = search needs
 
 returns : tie.Need-returns
 returns c =
-    let a = c .before .before .before .before .before .before .before .before .args in
+    let chosen = c .before .before .before in
+    let after-is-nearer = chosen .before in
+    let after-does-count = after-is-nearer .before .before .before in
+    let start = after-does-count .before in
+    let a = start .args in
     offer-taken (asHit (a .hit)) (hitOf (a .best .now) (a .number .now)) _ (a .limit)
-    (both-said _ _ _ _ _ (c .before .before .before .before .before .before .before .does-count .ensures) (c .before .before .before .before .is-nearer .ensures) (c .before .before .before .if1 .taken)) (c .keep .ensures)
+    (both-said _ _ _ _ _ (after-does-count .does-count .ensures) (after-is-nearer .is-nearer .ensures) (chosen .if1 .taken)) (c .keep .ensures)
 
 returns-2 : tie.Need-returns-2
 returns-2 c =
-    let a = c .before .before .before .before .before .args in
+    let after-does-count = c .before .before .before .before in
+    let start = after-does-count .before in
+    let a = start .args in
     offer-left (asHit (a .hit)) (hitOf (a .best .now) (a .number .now)) (a .limit)
-    (both-said _ _ _ _ _ (c .before .before .before .before .does-count .ensures) (c .before .is-nearer .ensures) (c .if1 .left))
+    (both-said _ _ _ _ _ (after-does-count .does-count .ensures) (c .before .is-nearer .ensures) (c .if1 .left))
 
 pub offer-spec : {M : Type 1} → statement M
 offer-spec =

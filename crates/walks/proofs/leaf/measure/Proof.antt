@@ -45,15 +45,23 @@ offer-requires c κs = search needs
 returns : tie.Need-returns
 unfolding tookSure hit measured heldPoint
 returns c =
-    let a = c .before .before .before .before .before .before .before .before .before .before .before .before .args in
+    let after-hit-at = c .before .before .before in
+    let after-held = after-hit-at .before in
+    let chosen = after-held .before .before in
+    let after-closest-point = chosen .before in
+    let after-triangle-at = after-closest-point .before in
+    let after-wide = after-triangle-at .before in
+    let after-point-of = after-wide .before in
+    let start = after-point-of .before .before in
+    let a = start .args in
     let p = pointOf (a .asked .now) in
-    let read = c .before .before .before .before .before .before .before .before .triangle-at .ensures ∙ ap (triangleAt (a .triangles .now)) (c .before .before .before .before .before .before .before .before .before .wide .ensures) in
-    let point : asPoint (c .before .before .before .before .held .result) ≡ heldPoint binary32 (triangleAt (a .triangles .now) (a .t)) p =
-    c .before .before .before .before .held .ensures ∙ ap (heldFrom (asTriangle (c .before .before .before .before .before .before .before .before .triangle-at .result))) (c .before .before .before .before .before .before .before .closest-point .ensures ∙ ap (closestPoint binary32 (asTriangle (c .before .before .before .before .before .before .before .before .triangle-at .result))) (c .before .before .before .before .before .before .before .before .before .before .point-of .ensures))
+    let read = after-triangle-at .triangle-at .ensures ∙ ap (triangleAt (a .triangles .now)) (after-wide .wide .ensures) in
+    let point : asPoint (after-held .held .result) ≡ heldPoint binary32 (triangleAt (a .triangles .now) (a .t)) p =
+    after-held .held .ensures ∙ ap (heldFrom (asTriangle (after-triangle-at .triangle-at .result))) (after-closest-point .closest-point .ensures ∙ ap (closestPoint binary32 (asTriangle (after-triangle-at .triangle-at .result))) (after-point-of .point-of .ensures))
     ∙ ap (λ (t : Triangle). heldFrom t (closestPoint binary32 t p)) read in
-    let is : asHit (c .before .before .before .hit-at .result) ≡ hit binary32 (a .triangles .now) p (a .t) =
-    c .before .before .before .hit-at .ensures ∙ ap (λ (x : Point). seen (asPoint (c .before .before .before .before .held .result)) x (a .t)) (c .before .before .before .before .before .before .before .before .before .before .point-of .ensures) ∙ ap (λ (q : Point). seen q p (a .t)) point in
-    rw (c .before .before .before .before .before .before .if1 .taken) (c .offer .ensures ∙ ap (λ (h : Hit). offered (fourthOf (a .asked .now)) h (kept (hitOf (a .best .now) (a .number .now)))) is)
+    let is : asHit (after-hit-at .hit-at .result) ≡ hit binary32 (a .triangles .now) p (a .t) =
+    after-hit-at .hit-at .ensures ∙ ap (λ (x : Point). seen (asPoint (after-held .held .result)) x (a .t)) (after-point-of .point-of .ensures) ∙ ap (λ (q : Point). seen q p (a .t)) point in
+    rw (chosen .if1 .taken) (c .offer .ensures ∙ ap (λ (h : Hit). offered (fourthOf (a .asked .now)) h (kept (hitOf (a .best .now) (a .number .now)))) is)
 
 hit-at-requires-2 : tie.Need-hit-at-requires-2
 hit-at-requires-2 c κs = search needs
@@ -64,11 +72,18 @@ meet-requires c κs = search needs
 returns-2 : tie.Need-returns-2
 unfolding tookSource sourceHit
 returns-2 c =
-    let a = c .before .before .before .before .before .before .before .before .before .before .args in
+    let after-hit-at2 = c .before .before .before in
+    let chosen = after-hit-at2 .before in
+    let after-closest-point = chosen .before in
+    let after-triangle-at = after-closest-point .before in
+    let after-wide = after-triangle-at .before in
+    let after-point-of = after-wide .before in
+    let start = after-point-of .before .before in
+    let a = start .args in
     let p = pointOf (a .asked .now) in
-    let is : asHit (c .before .before .before .hit-at2 .result) ≡ sourceHit binary32 (a .triangles .now) p (a .t) =
-    rw (c .before .before .before .hit-at2 .ensures, c .before .before .before .before .before .closest-point .ensures, c .before .before .before .before .before .before .triangle-at .ensures, c .before .before .before .before .before .before .before .wide .ensures, c .before .before .before .before .before .before .before .before .point-of .ensures) in
-    rw (c .before .before .before .before .if1 .left) (c .meet .ensures ∙ ap (λ (h : Hit). strictly h (kept (hitOf (a .best .now) (a .number .now)))) is)
+    let is : asHit (after-hit-at2 .hit-at2 .result) ≡ sourceHit binary32 (a .triangles .now) p (a .t) =
+    rw (after-hit-at2 .hit-at2 .ensures, after-closest-point .closest-point .ensures, after-triangle-at .triangle-at .ensures, after-wide .wide .ensures, after-point-of .point-of .ensures) in
+    rw (chosen .if1 .left) (c .meet .ensures ∙ ap (λ (h : Hit). strictly h (kept (hitOf (a .best .now) (a .number .now)))) is)
 
 pub measure-spec : {M : Type 1} → statement M
 measure-spec =

@@ -21,7 +21,8 @@ part-measure-part-end c = search needs
 
 measure-part-requires : tie.Need-measure-part-requires
 measure-part-requires c κs =
-    let start = c .before .before .before .before .before in
+    let at-measure-part-arg = c .before .before in
+    let start = at-measure-part-arg .before .before .before in
     let args = start .args in
     let range = start .pre .1 .0 in (
       part-below _ (args .order .now) (args .first) (args .last) (range .0) (range .1) (start .pre .0),

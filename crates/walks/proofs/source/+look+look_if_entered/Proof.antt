@@ -64,50 +64,69 @@ look-links-of-requires t c κs =
 
 look-measure-leaf-requires : (t : ℕ) → look-lts.Need-measure-leaf-requires (look-calls t) (look-at t) look.Post
 look-measure-leaf-requires t c κs =
-    let start = c .before .before .before .before .before .before .before .before .before in
+    let chosen = c .before .before in
+    let after-links-of = chosen .before .before in
+    let known3 = after-links-of .before .before in
+    let start = known3 .before .before .before in
     let a = start .args in
-    leaf-asks (a .triangles .now) (a .order .now) (a .links .now) (a .boxes .now) (a .depth) (a .node) (a .measured) _ _ _ (c .before .before .before .before .links-of .ensures) (start .pre .1) (c .before .before .if1 .taken)
+    leaf-asks (a .triangles .now) (a .order .now) (a .links .now) (a .boxes .now) (a .depth) (a .node) (a .measured) _ _ _ (after-links-of .links-of .ensures) (start .pre .1) (chosen .if1 .taken)
 
 look-returns : (t : ℕ) → look-lts.Need-returns (look-calls t) (look-at t) look.Post
 look-returns t c =
-    let start = c .before .before .before .before .before .before .before .before .before .before in
+    let chosen = c .before .before .before in
+    let after-links-of = chosen .before .before in
+    let known3 = after-links-of .before .before in
+    let start = known3 .before .before .before in
     let a = start .args in
     let how = sourceSearch binary32 (a .triangles .now) (a .boxes .now) (pointOf (a .asked .now)) (fourthOf (a .asked .now)) in
     let s = soughtOf (a .best .now) (a .number .now) (a .measured) in
-    root-leaf-answers (a .triangles .now) (a .order .now) (a .links .now) (a .boxes .now) (a .depth) (a .node) (a .measured) _ _ _ (c .before .before .before .before .before .links-of .ensures) (start .pre .1) how s _ (c .before .before .before .if1 .taken) (c .measure-leaf .ensures)
+    root-leaf-answers (a .triangles .now) (a .order .now) (a .links .now) (a .boxes .now) (a .depth) (a .node) (a .measured) _ _ _ (after-links-of .links-of .ensures) (start .pre .1) how s _ (chosen .if1 .taken) (c .measure-leaf .ensures)
 
 look-sub-below : (t : ℕ) → look-lts.Need-sub-below (look-calls t) (look-at t) look.Post
 look-sub-below t c =
-    let start = c .before .before .before .before .before .before .before in
+    let after-links-of = c .before .before in
+    let known3 = after-links-of .before .before in
+    let start = known3 .before .before .before in
     let a = start .args in
-    levels-left (a .triangles .now) (a .order .now) (a .links .now) (a .boxes .now) (a .depth) (a .node) (a .measured) _ _ _ (c .before .before .links-of .ensures) (start .pre .1) (c .if1 .left)
+    levels-left (a .triangles .now) (a .order .now) (a .links .now) (a .boxes .now) (a .depth) (a .node) (a .measured) _ _ _ (after-links-of .links-of .ensures) (start .pre .1) (c .if1 .left)
 
 look-look-if-entered-requires : (t : ℕ) → look-lts.Need-look-if-entered-requires (look-calls t) (look-at t) look.Post
 look-look-if-entered-requires t c κs =
-    let start = c .before .before .before .before .before .before .before .before .before in
+    let chosen = c .before .before in
+    let after-links-of = chosen .before .before in
+    let known3 = after-links-of .before .before in
+    let start = known3 .before .before .before in
     let a = start .args in (
-      falls-in (a .depth) t (levels-left (a .triangles .now) (a .order .now) (a .links .now) (a .boxes .now) (a .depth) (a .node) (a .measured) _ _ _ (c .before .before .before .before .links-of .ensures) (start .pre .1) (c .before .before .if1 .left)) (start .pre .0),
-      right-asks (a .triangles .now) (a .order .now) (a .links .now) (a .boxes .now) (a .depth - 1) _ _ (a .measured) (pair-asks (a .triangles .now) (a .order .now) (a .links .now) (a .boxes .now) (a .depth) (a .node) (a .measured) _ _ _ (c .before .before .before .before .links-of .ensures) (start .pre .1) (c .before .before .if1 .left)),
+      falls-in (a .depth) t (levels-left (a .triangles .now) (a .order .now) (a .links .now) (a .boxes .now) (a .depth) (a .node) (a .measured) _ _ _ (after-links-of .links-of .ensures) (start .pre .1) (chosen .if1 .left)) (start .pre .0),
+      right-asks (a .triangles .now) (a .order .now) (a .links .now) (a .boxes .now) (a .depth - 1) _ _ (a .measured) (pair-asks (a .triangles .now) (a .order .now) (a .links .now) (a .boxes .now) (a .depth) (a .node) (a .measured) _ _ _ (after-links-of .links-of .ensures) (start .pre .1) (chosen .if1 .left)),
     )
 
 look-look-if-entered-requires-2 : (t : ℕ) → look-lts.Need-look-if-entered-requires-2 (look-calls t) (look-at t) look.Post
 look-look-if-entered-requires-2 t c κs =
-    let start = c .before .before .before .before .before .before .before .before .before .before .before .before in
+    let after-look-if-entered = c .before .before in
+    let chosen = after-look-if-entered .before .before .before in
+    let after-links-of = chosen .before .before in
+    let known3 = after-links-of .before .before in
+    let start = known3 .before .before .before in
     let a = start .args in
     let how = sourceSearch binary32 (a .triangles .now) (a .boxes .now) (pointOf (a .asked .now)) (fourthOf (a .asked .now)) in
     let s = soughtOf (a .best .now) (a .number .now) (a .measured) in (
-      falls-in (a .depth) t (levels-left (a .triangles .now) (a .order .now) (a .links .now) (a .boxes .now) (a .depth) (a .node) (a .measured) _ _ _ (c .before .before .before .before .before .before .before .links-of .ensures) (start .pre .1) (c .before .before .before .before .before .if1 .left)) (start .pre .0),
-      then-left-asks (a .triangles .now) (a .order .now) (a .links .now) (a .boxes .now) (a .depth - 1) _ _ (a .measured) (pair-asks (a .triangles .now) (a .order .now) (a .links .now) (a .boxes .now) (a .depth) (a .node) (a .measured) _ _ _ (c .before .before .before .before .before .before .before .links-of .ensures) (start .pre .1) (c .before .before .before .before .before .if1 .left)) how s _ refl (c .before .before .look-if-entered .ensures),
+      falls-in (a .depth) t (levels-left (a .triangles .now) (a .order .now) (a .links .now) (a .boxes .now) (a .depth) (a .node) (a .measured) _ _ _ (after-links-of .links-of .ensures) (start .pre .1) (chosen .if1 .left)) (start .pre .0),
+      then-left-asks (a .triangles .now) (a .order .now) (a .links .now) (a .boxes .now) (a .depth - 1) _ _ (a .measured) (pair-asks (a .triangles .now) (a .order .now) (a .links .now) (a .boxes .now) (a .depth) (a .node) (a .measured) _ _ _ (after-links-of .links-of .ensures) (start .pre .1) (chosen .if1 .left)) how s _ refl (after-look-if-entered .look-if-entered .ensures),
     )
 
 look-returns-2 : (t : ℕ) → look-lts.Need-returns-2 (look-calls t) (look-at t) look.Post
 look-returns-2 t c =
-    let start = c .before .before .before .before .before .before .before .before .before .before .before .before .before in
+    let after-look-if-entered = c .before .before .before in
+    let chosen = after-look-if-entered .before .before .before in
+    let after-links-of = chosen .before .before in
+    let known3 = after-links-of .before .before in
+    let start = known3 .before .before .before in
     let a = start .args in
     let how = sourceSearch binary32 (a .triangles .now) (a .boxes .now) (pointOf (a .asked .now)) (fourthOf (a .asked .now)) in
     let s = soughtOf (a .best .now) (a .number .now) (a .measured) in
-    root-pair-answers (a .triangles .now) (a .order .now) (a .links .now) (a .boxes .now) (a .depth) (a .node) (a .measured) _ _ _ (c .before .before .before .before .before .before .before .before .links-of .ensures) (start .pre .1) how s _ (c .before .before .before .before .before .before .if1 .left)
-    (right-answers how (a .order .now) (a .links .now) (a .depth - 1) _ _ s _ _ refl (c .before .before .before .look-if-entered .ensures) (c .look-if-entered2 .ensures))
+    root-pair-answers (a .triangles .now) (a .order .now) (a .links .now) (a .boxes .now) (a .depth) (a .node) (a .measured) _ _ _ (after-links-of .links-of .ensures) (start .pre .1) how s _ (chosen .if1 .left)
+    (right-answers how (a .order .now) (a .links .now) (a .depth - 1) _ _ s _ _ refl (after-look-if-entered .look-if-entered .ensures) (c .look-if-entered2 .ensures))
 
 look-if-entered-does-enter-requires : (t : ℕ) → look-if-entered-lts.Need-does-enter-requires (look-if-entered-calls t) (look-if-entered-at t) look-if-entered.Post
 look-if-entered-does-enter-requires t c κs =
@@ -117,21 +136,26 @@ look-if-entered-does-enter-requires t c κs =
 
 look-if-entered-look-requires : (t : ℕ) → look-if-entered-lts.Need-look-requires (look-if-entered-calls t) (look-if-entered-at t) look-if-entered.Post
 look-if-entered-look-requires t c κs =
-    let start = c .before .before .before .before .before .before .before .before in
+    let known4 = c .before .before .before .before in
+    let start = known4 .before .before .before .before in
     let a = start .args in
     (falls-out (a .depth) t (start .pre .0), start .pre .1)
 
 look-if-entered-returns : (t : ℕ) → look-if-entered-lts.Need-returns (look-if-entered-calls t) (look-if-entered-at t) look-if-entered.Post
 look-if-entered-returns t c =
-    let start = c .before .before .before .before .before .before .before .before .before in
+    let chosen = c .before .before .before in
+    let after-does-enter = chosen .before in
+    let known3 = after-does-enter .before .before in
+    let start = known3 .before .before .before in
     let a = start .args in
     let how = sourceSearch binary32 (a .triangles .now) (a .boxes .now) (pointOf (a .asked .now)) (fourthOf (a .asked .now)) in
     let s = soughtOf (a .best .now) (a .number .now) (a .measured) in
-    c .look .ensures ∙ walk-looked how (a .order .now) (a .links .now) (a .depth) (a .node) s (ap not (sym (c .before .before .before .before .does-enter .ensures) ∙ c .before .before .before .if1 .taken))
+    c .look .ensures ∙ walk-looked how (a .order .now) (a .links .now) (a .depth) (a .node) s (ap not (sym (after-does-enter .does-enter .ensures) ∙ chosen .if1 .taken))
 
 look-if-entered-returns-2 : (t : ℕ) → look-if-entered-lts.Need-returns-2 (look-if-entered-calls t) (look-if-entered-at t) look-if-entered.Post
 look-if-entered-returns-2 t c =
-    let start = c .before .before .before .before .before .before in
+    let known3 = c .before .before .before in
+    let start = known3 .before .before .before in
     let a = start .args in
     let how = sourceSearch binary32 (a .triangles .now) (a .boxes .now) (pointOf (a .asked .now)) (fourthOf (a .asked .now)) in
     let s = soughtOf (a .best .now) (a .number .now) (a .measured) in

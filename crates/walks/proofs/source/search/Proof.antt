@@ -12,17 +12,25 @@ sub-look : tie.Need-sub-look
 sub-look c = search needs
 
 sub-look-2 : tie.Need-sub-look-2
-sub-look-2 c = root-there _ _ _ _ _ (c .before .before .before .before .before .pre)
+sub-look-2 c =
+    let known3 = c .before .before in
+    let start = known3 .before .before .before in
+    root-there _ _ _ _ _ (start .pre)
 
 look-requires : tie.Need-look-requires
-look-requires c κs = root-safe _ _ _ _ _ (c .before .before .before .before .before .before .before .pre)
+look-requires c κs =
+    let known4 = c .before .before .before in
+    let start = known4 .before .before .before .before in
+    root-safe _ _ _ _ _ (start .pre)
 
 answer-of-requires : tie.Need-answer-of-requires
 answer-of-requires c κs = search needs
 
 returns : tie.Need-returns
 unfolding sourceWalk kept div ofBits eq
-returns c = (λ i. record { best = c .answer-of .ensures i; measured = c .before .before .look .result }) ∙ c .before .before .look .ensures
+returns c =
+    let after-look = c .before .before in
+    (λ i. record { best = c .answer-of .ensures i; measured = after-look .look .result }) ∙ after-look .look .ensures
 
 pub search-spec : {M : Type 1} → statement M
 search-spec = tie.close (tie.spec sub-look sub-look-2 look-requires answer-of-requires returns)

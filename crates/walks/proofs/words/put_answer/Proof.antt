@@ -40,7 +40,14 @@ same-length-2 c = search needs
 
 returns-2 : tie.Need-returns-2
 unfolding sixWords
-returns-2 c = rw (c .before .before .before .before .before .before .before .before .before .answer .given .1, ← c .before .before .before .before .before .before .bits-of .ensures, ← c .before .before .before .before .before .bits-of2 .ensures, ← c .before .before .before .before .bits-of3 .ensures, ← c .before .before .before .bits-of4 .ensures) (c .before .before .put-six2 .ensures)
+returns-2 c =
+    let after-put-six2 = c .before .before in
+    let after-bits-of4 = after-put-six2 .before in
+    let after-bits-of3 = after-bits-of4 .before in
+    let after-bits-of2 = after-bits-of3 .before in
+    let after-bits-of = after-bits-of2 .before in
+    let at-answer = after-bits-of .before .before .before in
+    rw (at-answer .answer .given .1, ← after-bits-of .bits-of .ensures, ← after-bits-of2 .bits-of2 .ensures, ← after-bits-of3 .bits-of3 .ensures, ← after-bits-of4 .bits-of4 .ensures) (after-put-six2 .put-six2 .ensures)
 
 pub put-answer-spec : {M : Type 1} → statement M
 put-answer-spec =

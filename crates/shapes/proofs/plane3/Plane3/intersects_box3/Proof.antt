@@ -21,7 +21,12 @@ absolute-requires c κs = search needs
 
 returns : tie.Need-returns
 unfolding meetsBox
-returns c = rw (c .absolute .ensures, c .before .before .dot .ensures, c .before .before .before .reach-of .ensures, c .before .before .before .before .minus .ensures, c .before .before .before .before .before .centre .ensures)
+returns c =
+    let after-dot = c .before .before in
+    let after-reach-of = after-dot .before in
+    let after-minus = after-reach-of .before in
+    let after-centre = after-minus .before in
+    rw (c .absolute .ensures, after-dot .dot .ensures, after-reach-of .reach-of .ensures, after-minus .minus .ensures, after-centre .centre .ensures)
 
 pub intersects-box3-spec : {M : Type 1} → statement M
 intersects-box3-spec =

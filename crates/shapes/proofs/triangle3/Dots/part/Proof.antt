@@ -18,11 +18,20 @@ vc-requires c κs = search needs
 
 returns-3 : tie.Need-returns-3
 unfolding part ofBits
-returns-3 c = rw (c .before .before .before .before .before .before .before .if1 .left, c .before .before .before .before .if2 .left, ← c .before .before .before .vc .ensures, c .if3 .taken)
+returns-3 c =
+    let after-vc = c .before .before .before in
+    let chosen2 = after-vc .before in
+    let chosen = chosen2 .before .before .before in
+    rw (chosen .if1 .left, chosen2 .if2 .left, ← after-vc .vc .ensures, c .if3 .taken)
 
 returns-4 : tie.Need-returns-4
 unfolding part ofBits
-returns-4 c = rw (c .before .before .before .before .before .before .before .before .before .before .if1 .left, c .before .before .before .before .before .before .before .if2 .left, ← c .before .before .before .before .before .before .vc .ensures, c .before .before .before .if3 .left, c .if4 .taken)
+returns-4 c =
+    let chosen3 = c .before .before .before in
+    let after-vc = chosen3 .before .before .before in
+    let chosen2 = after-vc .before in
+    let chosen = chosen2 .before .before .before in
+    rw (chosen .if1 .left, chosen2 .if2 .left, ← after-vc .vc .ensures, chosen3 .if3 .left, c .if4 .taken)
 
 vb-requires : tie.Need-vb-requires
 vb-requires c κs = search needs
@@ -30,7 +39,13 @@ vb-requires c κs = search needs
 returns-5 : tie.Need-returns-5
 unfolding part ofBits
 returns-5 c =
-    rw (c .before .before .before .before .before .before .before .before .before .before .before .before .before .before .if1 .left, c .before .before .before .before .before .before .before .before .before .before .before .if2 .left, ← c .before .before .before .before .before .before .before .before .before .before .vc .ensures, c .before .before .before .before .before .before .before .if3 .left, c .before .before .before .before .if4 .left, ← c .before .before .before .vb .ensures, c .if5 .taken)
+    let after-vb = c .before .before .before in
+    let chosen4 = after-vb .before in
+    let chosen3 = chosen4 .before .before .before in
+    let after-vc = chosen3 .before .before .before in
+    let chosen2 = after-vc .before in
+    let chosen = chosen2 .before .before .before in
+    rw (chosen .if1 .left, chosen2 .if2 .left, ← after-vc .vc .ensures, chosen3 .if3 .left, chosen4 .if4 .left, ← after-vb .vb .ensures, c .if5 .taken)
 
 va-requires : tie.Need-va-requires
 va-requires c κs = search needs
@@ -38,30 +53,46 @@ va-requires c κs = search needs
 returns-6 : tie.Need-returns-6
 unfolding part ofBits
 returns-6 c =
+    let after-va = c .before .before .before in
+    let chosen5 = after-va .before in
+    let after-vb = chosen5 .before .before .before in
+    let chosen4 = after-vb .before in
+    let chosen3 = chosen4 .before .before .before in
+    let after-vc = chosen3 .before .before .before in
+    let chosen2 = after-vc .before in
+    let chosen = chosen2 .before .before .before in
     rw (
-      c .before .before .before .before .before .before .before .before .before .before .before .before .before .before .before .before .before .before .if1 .left,
-      c .before .before .before .before .before .before .before .before .before .before .before .before .before .before .before .if2 .left,
-      ← c .before .before .before .before .before .before .before .before .before .before .before .before .before .before .vc .ensures,
-      c .before .before .before .before .before .before .before .before .before .before .before .if3 .left,
-      c .before .before .before .before .before .before .before .before .if4 .left,
-      ← c .before .before .before .before .before .before .before .vb .ensures,
-      c .before .before .before .before .if5 .left,
-      ← c .before .before .before .va .ensures,
+      chosen .if1 .left,
+      chosen2 .if2 .left,
+      ← after-vc .vc .ensures,
+      chosen3 .if3 .left,
+      chosen4 .if4 .left,
+      ← after-vb .vb .ensures,
+      chosen5 .if5 .left,
+      ← after-va .va .ensures,
       c .if6 .taken,
     )
 
 returns-7 : tie.Need-returns-7
 unfolding part ofBits
 returns-7 c =
+    let after-va = c .before .before .before in
+    let chosen5 = after-va .before in
+    let after-vb = chosen5 .before .before .before in
+    let chosen4 = after-vb .before in
+    let chosen3 = chosen4 .before .before .before in
+    let after-vc = chosen3 .before .before .before in
+    let chosen2 = after-vc .before in
+    let chosen = chosen2 .before .before .before in
     rw (
-      c .before .before .before .before .before .before .before .before .before .before .before .before .before .before .before .before .before .before .if1 .left,
-      c .before .before .before .before .before .before .before .before .before .before .before .before .before .before .before .if2 .left,
-      ← c .before .before .before .before .before .before .before .before .before .before .before .before .before .before .vc .ensures,
-      c .before .before .before .before .before .before .before .before .before .before .before .if3 .left,
-      c .before .before .before .before .before .before .before .before .if4 .left,
-      ← c .before .before .before .before .before .before .before .vb .ensures,
-      c .before .before .before .before .if5 .left,
-      ← c .before .before .before .va .ensures,
+      chosen .if1 .left,
+      chosen2 .if2 .left,
+      ← after-vc .vc .ensures,
+      chosen3 .if3 .left,
+      chosen4 .if4 .left,
+      ← after-vb .vb .ensures,
+      chosen5 .if5 .left,
+      ← after-va .va .ensures,
       c .if6 .left,
     )
 

@@ -40,18 +40,27 @@ dot-requires-6 c κs = search needs
 returns : tie.Need-returns
 unfolding dots
 returns c =
+    let after-dot4 = c .before .before in
+    let after-dot3 = after-dot4 .before in
+    let after-dot2 = after-dot3 .before in
+    let after-dot = after-dot2 .before in
+    let after-minus5 = after-dot .before in
+    let after-minus4 = after-minus5 .before in
+    let after-minus3 = after-minus4 .before in
+    let after-minus2 = after-minus3 .before in
+    let after-minus = after-minus2 .before in
     rw (
       c .dot6 .ensures,
       c .before .dot5 .ensures,
-      c .before .before .dot4 .ensures,
-      c .before .before .before .dot3 .ensures,
-      c .before .before .before .before .dot2 .ensures,
-      c .before .before .before .before .before .dot .ensures,
-      c .before .before .before .before .before .before .minus5 .ensures,
-      c .before .before .before .before .before .before .before .minus4 .ensures,
-      c .before .before .before .before .before .before .before .before .minus3 .ensures,
-      c .before .before .before .before .before .before .before .before .before .minus2 .ensures,
-      c .before .before .before .before .before .before .before .before .before .before .minus .ensures,
+      after-dot4 .dot4 .ensures,
+      after-dot3 .dot3 .ensures,
+      after-dot2 .dot2 .ensures,
+      after-dot .dot .ensures,
+      after-minus5 .minus5 .ensures,
+      after-minus4 .minus4 .ensures,
+      after-minus3 .minus3 .ensures,
+      after-minus2 .minus2 .ensures,
+      after-minus .minus .ensures,
     )
 
 pub dots-spec : {M : Type 1} → statement M

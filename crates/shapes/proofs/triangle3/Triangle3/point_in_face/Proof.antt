@@ -29,7 +29,12 @@ along-requires-2 c κs = search needs
 returns : tie.Need-returns
 unfolding facePoint ofBits
 returns c =
-    rw (c .along2 .ensures, c .before .minus2 .ensures, c .before .before .along .ensures, c .before .before .before .minus .ensures, c .before .before .before .before .va .ensures, c .before .before .before .before .before .vc .ensures, c .before .before .before .before .before .before .vb .ensures)
+    let after-along = c .before .before in
+    let after-minus = after-along .before in
+    let after-va = after-minus .before in
+    let after-vc = after-va .before in
+    let after-vb = after-vc .before in
+    rw (c .along2 .ensures, c .before .minus2 .ensures, after-along .along .ensures, after-minus .minus .ensures, after-va .va .ensures, after-vc .vc .ensures, after-vb .vb .ensures)
 
 pub point-in-face-spec : {M : Type 1} → statement M
 point-in-face-spec =

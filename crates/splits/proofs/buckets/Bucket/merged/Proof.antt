@@ -13,7 +13,9 @@ union-box-requires c κs = search needs
 
 returns : tie.Need-returns
 unfolding merged
-returns c = λ i. record { count = c .before .before .before .args .self .count + c .before .before .before .args .other .count; bounds = c .union-box .ensures i }
+returns c =
+    let start = c .before .before .before in
+    λ i. record { count = start .args .self .count + start .args .other .count; bounds = c .union-box .ensures i }
 
 pub merged-spec : {M : Type 1} → statement M
 merged-spec = tie.close (tie.spec add-t3 union-box-requires returns)
