@@ -42,7 +42,10 @@ shared-slice-read-centre-on : tie.Need-shared-slice-read-centre-on Inv-loop μ-l
 shared-slice-read-centre-on c = search needs
 
 centre-on-requires : tie.Need-centre-on-requires Inv-loop μ-loop
-centre-on-requires c κs = c .before .before .before .before .before .before .pre (c .before .before .loop .i) (c .before .loop-test .taken)
+centre-on-requires c κs =
+    let turn = c .before .before in
+    let start = turn .before .before .before .before in
+    start .pre (turn .loop .i) (c .before .loop-test .taken)
 
 min2-requires : tie.Need-min2-requires Inv-loop μ-loop
 min2-requires c κs = search needs
@@ -59,16 +62,22 @@ loop-less c = omega arith
 loop-again : tie.Need-loop-again Inv-loop μ-loop
 unfolding lowerEnd upperEnd
 loop-again c =
-    let args = c .before .before .before .before .before .before .before .before .before .args in
-    let loop = c .before .before .before .before .before .loop in (
-      fold-on-named (lowerEnd binary32 (asAxis (args .axis))) (boxIn (args .bounds .now)) (args .part .now) (loop .i) (loop .lo) _ (c .before .min2 .result) (c .before .before .before .before .loop-test .taken) (c .before .min2 .ensures ∙ ap (smaller (loop .lo)) (c .before .before .centre-on .ensures)) (loop .inv .0),
-      fold-on-named (upperEnd binary32 (asAxis (args .axis))) (boxIn (args .bounds .now)) (args .part .now) (loop .i) (loop .hi) _ (c .max2 .result) (c .before .before .before .before .loop-test .taken) (c .max2 .ensures ∙ ap (larger (loop .hi)) (c .before .before .centre-on .ensures)) (loop .inv .1),
+    let after-centre-on = c .before .before in
+    let tested = after-centre-on .before .before in
+    let turn = tested .before in
+    let start = turn .before .before .before .before in
+    let args = start .args in
+    let loop = turn .loop in (
+      fold-on-named (lowerEnd binary32 (asAxis (args .axis))) (boxIn (args .bounds .now)) (args .part .now) (loop .i) (loop .lo) _ (c .before .min2 .result) (tested .loop-test .taken) (c .before .min2 .ensures ∙ ap (smaller (loop .lo)) (after-centre-on .centre-on .ensures)) (loop .inv .0),
+      fold-on-named (upperEnd binary32 (asAxis (args .axis))) (boxIn (args .bounds .now)) (args .part .now) (loop .i) (loop .hi) _ (c .max2 .result) (tested .loop-test .taken) (c .max2 .ensures ∙ ap (larger (loop .hi)) (after-centre-on .centre-on .ensures)) (loop .inv .1),
     )
 
 returns : tie.Need-returns Inv-loop μ-loop
 returns c =
-    let args = c .before .before .before .before .before .args in
-    let loop = c .before .loop in
+    let turn = c .before in
+    let start = turn .before .before .before .before in
+    let args = start .args in
+    let loop = turn .loop in
     let boxes = boxesIn (args .bounds .now) (args .part .now) in
     record {
       lo-is = fold-ended-named (lowerEnd binary32 (asAxis (args .axis))) (boxIn (args .bounds .now)) (args .part .now) (loop .i) (loop .lo) _ (c .loop-test .left) (loop .inv .0) ∙ lower-end binary32 (asAxis (args .axis)) boxes;

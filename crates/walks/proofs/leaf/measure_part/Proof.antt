@@ -40,7 +40,11 @@ shared-slice-read-measure : tie.Need-shared-slice-read-measure Inv-loop μ-loop
 shared-slice-read-measure c = search needs
 
 measure-requires : tie.Need-measure-requires Inv-loop μ-loop
-measure-requires c κs = triangle-inside _ _ (c .before .before .before .before .before .before .before .pre .0 (c .before .before .before .before .loop .i) (c .before .before .before .loop-test .taken))
+measure-requires c κs =
+    let tested = c .before .before .before in
+    let turn = tested .before in
+    let start = turn .before .before .before in
+    triangle-inside _ _ (start .pre .0 (turn .loop .i) (tested .loop-test .taken))
 
 add-i : tie.Need-add-i Inv-loop μ-loop
 add-i c = search needs
@@ -50,12 +54,15 @@ loop-less c = omega arith
 
 loop-again : tie.Need-loop-again Inv-loop μ-loop
 loop-again c =
-    let a = c .before .before .before .before .before .before .before .before .args in
-    let loop = c .before .before .before .before .before .loop in
+    let tested = c .before .before .before .before in
+    let turn = tested .before in
+    let start = turn .before .before .before in
+    let a = start .args in
+    let loop = turn .loop in
     let next = one-more-counted (a .measured) (loop .i) in (
       omega arith,
       one-more (tookBy (a .sure) binary32 (a .triangles .now) (pointOf (a .asked .now)) (fourthOf (a .asked .now))) (a .part .now) (loop .i) (soughtOf (loop .best) (loop .number) (a .measured + loop .i)) _
-          (soughtOf (a .best .now) (a .number .now) (a .measured)) (c .before .before .before .before .loop-test .taken) (λ j. record { best = c .measure .ensures j; measured = next j }) (loop .inv .1),
+          (soughtOf (a .best .now) (a .number .now) (a .measured)) (tested .loop-test .taken) (λ j. record { best = c .measure .ensures j; measured = next j }) (loop .inv .1),
     )
 
 add-result : tie.Need-add-result Inv-loop μ-loop
