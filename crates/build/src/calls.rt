@@ -5,14 +5,14 @@ ghost use lib.ListN.{length};
 ghost use lib.Ieee.{binary32};
 ghost use Rattle.lists.specs.Values as Lists;
 ghost use Rattle.spec_lists.specs.Refusals.{passes};
-ghost use Rattle.spec_build.specs.Build.{buildRefusal, BuildIs, Asked};
+ghost use Rattle.spec_build.specs.Build.{buildRefusal, BuildIs, BuildNeeds};
 ghost use Rattle.build.specs.Values as Values;
 use crate::tests::build_refusal;
 use grow::grow::grow;
 use grow::tables::put_bounds;
 use grow::tables::put_centres;
 use grow::tables::put_order;
-use lists::limits::MOST_TRIANGLES;
+use lists::limits::MAX_TRIANGLES;
 use lists::settings::Settings;
 use lists::tests::triangle_count;
 use lists::verdict::Verdict;
@@ -44,7 +44,7 @@ fn build_with(
     links: &mut [u32],
     boxes: &mut [f32],
 ) -> Built
-    requires { ⌜ Asked (now triangles) (Lists.asSettings settings) (now bounds) (now centres) (now scratch) (now order) (now links) (now boxes) ⌝ }
+    requires { ⌜ BuildNeeds (now triangles) (Lists.asSettings settings) (now bounds) (now centres) (now scratch) (now order) (now links) (now boxes) ⌝ }
     ensures { λ r. ⌜ BuildIs binary32 (now (triangles .entry)) (Lists.asSettings settings) (now (order .entry)) (now (links .entry)) (now (boxes .entry)) (Values.asBuilt r) (now (order .exit)) (now (links .exit)) (now (boxes .exit)) ⌝ }
 {
     let count = triangle_count(triangles);
@@ -81,9 +81,9 @@ fn build_passed(
     requires { ⌜ buildRefusal (now triangles) (Lists.asSettings settings) (length (now order)) (length (now links)) (length (now boxes)) ≡ passes ⌝ }
     ensures { λ r. ⌜ BuildIs binary32 (now (triangles .entry)) (Lists.asSettings settings) (now (order .entry)) (now (links .entry)) (now (boxes .entry)) (Values.asBuilt r) (now (order .exit)) (now (links .exit)) (now (boxes .exit)) ⌝ }
 {
-    let mut bounds = [0.0f32; 6 * MOST_TRIANGLES];
-    let mut centres = [0.0f32; 3 * MOST_TRIANGLES];
-    let mut scratch = [0u32; MOST_TRIANGLES];
+    let mut bounds = [0.0f32; 6 * MAX_TRIANGLES];
+    let mut centres = [0.0f32; 3 * MAX_TRIANGLES];
+    let mut scratch = [0u32; MAX_TRIANGLES];
     build_with(
         triangles,
         settings,

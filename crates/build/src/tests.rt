@@ -24,8 +24,8 @@ pub fn build_refusal(
         return early;
     }
     let count = triangle_count(triangles);
-    let most_nodes = 2 * count - 1;
+    let max_nodes = 2 * count - 1;
     room_refusal(order, count)
-        .or(room_refusal(links, 3 * most_nodes))
-        .or(room_refusal(boxes, 6 * most_nodes))
+        .or(room_refusal(links, 3 * max_nodes))
+        .or(room_refusal(boxes, 6 * max_nodes))
 }

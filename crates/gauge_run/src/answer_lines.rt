@@ -2,7 +2,7 @@
 ghost use mathlib.Core.Path.{_≡_};
 ghost use Prim.Native.Nat.{_+_, _*_, _≤_};
 ghost use lib.ListN.{length};
-ghost use Rattle.spec_tables.specs.Tables.{Put, many};
+ghost use Rattle.spec_tables.specs.Tables.{Put, concatMap};
 ghost use Rattle.spec_gauge.specs.Lines.{wordsLine};
 use printing::lines::Found;
 use printing::lines::put_found;
@@ -38,7 +38,7 @@ fn put_answer_line(answers: &[u32], k: usize, out: &mut [u8], at: usize) -> usiz
 // Writes the lines of `count` points, one behind the other.
 pub fn put_answer_lines(answers: &[u32], count: usize, out: &mut [u8], at: usize) -> usize
     requires { ⌜ (6 * count ≤ length (now answers)) × (at + 84 * count ≤ length (now out)) ⌝ }
-    ensures { λ r. ⌜ Put at (many (wordsLine (now (answers .entry))) count) (now (out .entry)) (now (out .exit)) r ⌝ }
+    ensures { λ r. ⌜ Put at (concatMap (wordsLine (now (answers .entry))) count) (now (out .entry)) (now (out .exit)) r ⌝ }
 {
     let mut next = at;
     let mut k = 0;

@@ -1,4 +1,4 @@
 // What `gauge` prints for the bytes that came in. Each contract is an equation with a definition of `spec_gauge`.
 pub mod answer_lines;
-pub mod asked;
+pub mod request;
 pub mod run;

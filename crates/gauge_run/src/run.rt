@@ -8,9 +8,9 @@ ghost use Rattle.spec_lists.specs.Reading.{pointCount};
 ghost use Rattle.spec_lists.specs.Refusals.{passes};
 ghost use Rattle.lists.specs.Values.{asSettings};
 ghost use Rattle.spec_search.specs.Calls.{queryRefusal};
-ghost use Rattle.spec_gauge.specs.Printed.{Fits, mostBytes, mostPrinted, askedIn, askedRefusal, treeLine, answerLines, printedRun, printed};
+ghost use Rattle.spec_gauge.specs.Printed.{Fits, maxBytes, maxPrinted, requestIn, requestRefusal, treeLine, answerLines, printedRun, printed};
 use crate::answer_lines::put_answer_lines;
-use crate::asked::asked_refusal;
+use crate::request::request_refusal;
 use build::calls::Built;
 use build::calls::build;
 use floats::from_bits;
@@ -65,7 +65,7 @@ fn put_run(
     distance: f32,
     out: &mut [u8],
 ) -> usize
-    requires { ⌜ askedRefusal (record { settings = asSettings settings; triangles = now triangles; points = now points; distance = distance }) ≡ passes ⌝ }
+    requires { ⌜ requestRefusal (record { settings = asSettings settings; triangles = now triangles; points = now points; distance = distance }) ≡ passes ⌝ }
     requires { ⌜ Fits (now triangles) (now points) (now out) ⌝ }
     ensures { λ r. ⌜ Put 0 (treeLine (now (triangles .entry)) (asSettings settings) ++ answerLines (now (triangles .entry)) (now (points .entry)) distance) (now (out .entry)) (now (out .exit)) r ⌝ }
 {
@@ -99,7 +99,7 @@ fn put_run(
 }
 
 // Writes the line of a refusal, or the run.
-fn print_asked(
+fn print_request(
     triangles: &[f32],
     settings: Settings,
     points: &[f32],
@@ -109,7 +109,7 @@ fn print_asked(
     requires { ⌜ Fits (now triangles) (now points) (now out) ⌝ }
     ensures { λ r. ⌜ Put 0 (printedRun (record { settings = asSettings settings; triangles = now (triangles .entry); points = now (points .entry); distance = distance })) (now (out .entry)) (now (out .exit)) r ⌝ }
 {
-    let verdict = asked_refusal(triangles, settings, points, distance);
+    let verdict = request_refusal(triangles, settings, points, distance);
     if let Verdict::Refused { number, place } = verdict {
         return put_refused(out, 0, number, place);
     }
@@ -117,10 +117,10 @@ fn print_asked(
 }
 
 // Writes what is printed for records of `count` triangles and `touched` points.
-fn print_laid(input: &[u8], count: usize, touched: usize, out: &mut [u8]) -> usize
-    requires { ⌜ (36 + 36 * count + 12 * touched ≡ length (now input)) × (length (now input) ≤ mostBytes) ⌝ }
-    requires { ⌜ mostPrinted ≤ length (now out) ⌝ }
-    ensures { λ r. ⌜ Put 0 (printedRun (askedIn (now (input .entry)) count touched)) (now (out .entry)) (now (out .exit)) r ⌝ }
+fn print_sized(input: &[u8], count: usize, touched: usize, out: &mut [u8]) -> usize
+    requires { ⌜ (36 + 36 * count + 12 * touched ≡ length (now input)) × (length (now input) ≤ maxBytes) ⌝ }
+    requires { ⌜ maxPrinted ≤ length (now out) ⌝ }
+    ensures { λ r. ⌜ Put 0 (printedRun (requestIn (now (input .entry)) count touched)) (now (out .entry)) (now (out .exit)) r ⌝ }
 {
     let third = 20 + 36 * count + 6;
     let fourth = third + 12 * touched + 6;
@@ -130,7 +130,7 @@ fn print_laid(input: &[u8], count: usize, touched: usize, out: &mut [u8]) -> usi
     let coordinates = 3 * touched;
     let mut points = [0.0f32; 8190];
     read_f32s(input, third, coordinates, &mut points, 0);
-    print_asked(
+    print_request(
         &triangles[..numbers],
         settings_of(input),
         &points[..coordinates],
@@ -141,7 +141,7 @@ fn print_laid(input: &[u8], count: usize, touched: usize, out: &mut [u8]) -> usi
 
 // Writes what `gauge` prints for this input to the front of `out` and answers how many bytes that is.
 pub fn print(input: &[u8], out: &mut [u8]) -> usize
-    requires { ⌜ mostPrinted ≤ length (now out) ⌝ }
+    requires { ⌜ maxPrinted ≤ length (now out) ⌝ }
     ensures { λ r. ⌜ Put 0 (printed (now (input .entry))) (now (out .entry)) (now (out .exit)) r ⌝ }
 {
     if 32768 < input.len() {
@@ -152,6 +152,6 @@ pub fn print(input: &[u8], out: &mut [u8]) -> usize
         GaugeLayout::Right {
             triangles: count,
             points,
-        } => print_laid(input, count, points, out),
+        } => print_sized(input, count, points, out),
     }
 }

@@ -6,40 +6,40 @@ ghost use Rattle.spec_build.specs.Growing.{Growable, GrownIs};
 use crate::nodes::Grown;
 use crate::nodes::put_branch;
 use crate::nodes::put_leaf;
-use crate::tries::try_part;
+use crate::tries::try_slice;
 use splits::split::Split;
 
 // Grows the tree of the slice, which begins at `entry` of the order list, and answers its root, levels and box.
-// `levels_left` levels remain below this one. The slice is left in the order of the leaves, and the nodes stand in the lists from `node` on.
+// `levels_remaining` levels remain below this one. The slice is left in the order of the leaves, and the nodes stand in the lists from `node` on.
 pub fn grow(
     bounds: &[f32],
     centres: &[f32],
     strategy: usize,
     leaf_minimum: usize,
-    levels_left: usize,
-    part: &mut [u32],
+    levels_remaining: usize,
+    slice: &mut [u32],
     scratch: &mut [u32],
     entry: usize,
     links: &mut [u32],
     boxes: &mut [f32],
     node: usize,
 ) -> Grown
-    requires { ⌜ Growable binary32 (now bounds) (now centres) «leaf_minimum» «levels_left» (now part) (now scratch) entry (now links) (now boxes) node ⌝ }
-    ensures { λ r. ⌜ GrownIs binary32 (now (bounds .entry)) strategy «leaf_minimum» «levels_left» (now (part .entry)) (now (part .exit)) entry (now (links .entry)) (now (links .exit)) (now (boxes .entry)) (now (boxes .exit)) node (r .root) (r .levels) (Shapes.asBox (r .bounds)) ⌝ }
+    requires { ⌜ Growable binary32 (now bounds) (now centres) «leaf_minimum» «levels_remaining» (now slice) (now scratch) entry (now links) (now boxes) node ⌝ }
+    ensures { λ r. ⌜ GrownIs binary32 (now (bounds .entry)) strategy «leaf_minimum» «levels_remaining» (now (slice .entry)) (now (slice .exit)) entry (now (links .entry)) (now (links .exit)) (now (boxes .entry)) (now (boxes .exit)) node (r .root) (r .levels) (Shapes.asBox (r .bounds)) ⌝ }
 {
-    if (levels_left == 0) | (part.len() <= leaf_minimum) {
-        return put_leaf(bounds, part, entry, links, boxes, node);
+    if (levels_remaining == 0) | (slice.len() <= leaf_minimum) {
+        return put_leaf(bounds, slice, entry, links, boxes, node);
     }
-    let Split::At(cut) = try_part(bounds, centres, strategy, part, scratch) else {
-        return put_leaf(bounds, part, entry, links, boxes, node);
+    let Split::At(cut) = try_slice(bounds, centres, strategy, slice, scratch) else {
+        return put_leaf(bounds, slice, entry, links, boxes, node);
     };
     let left = grow(
         bounds,
         centres,
         strategy,
         leaf_minimum,
-        levels_left - 1,
-        &mut part[..cut],
+        levels_remaining - 1,
+        &mut slice[..cut],
         scratch,
         entry,
         links,
@@ -51,8 +51,8 @@ pub fn grow(
         centres,
         strategy,
         leaf_minimum,
-        levels_left - 1,
-        &mut part[cut..],
+        levels_remaining - 1,
+        &mut slice[cut..],
         scratch,
         entry + cut,
         links,

@@ -4,10 +4,10 @@ ghost use mathlib.Core.List.{[], _∷_};
 ghost use Prim.Native.Nat.{_+_, _*_, _≤_, _<_, max};
 ghost use lib.ListN.{length};
 ghost use Rattle.shapes.specs.Values as Shapes;
-ghost use Rattle.spec_tables.specs.Tables.{over};
+ghost use Rattle.spec_tables.specs.Tables.{overwrite};
 ghost use Rattle.spec_tree.specs.Trees as Trees;
 ghost use Rattle.spec_splits.specs.Splits.{boxIn};
-ghost use Rattle.spec_build.specs.Growing.{LeafAsked, BranchAsked, BranchPut, Written};
+ghost use Rattle.spec_build.specs.Growing.{LeafNeeds, BranchNeeds, BranchPut, Written};
 use crate::tables::put_box;
 use shapes::box3::Box3;
 use splits::table::union_of;
@@ -22,7 +22,7 @@ pub struct Grown {
 // Writes the kind and the two links of a node.
 pub fn put_links(links: &mut [u32], node: usize, kind: u32, left: u32, right: u32)
     requires { ⌜ 3 * node + 3 ≤ length (now links) ⌝ }
-    ensures { λ _. ⌜ now (links .exit) ≡ over (3 * node) (kind ∷ left ∷ right ∷ []) (now (links .entry)) ⌝ }
+    ensures { λ _. ⌜ now (links .exit) ≡ overwrite (3 * node) (kind ∷ left ∷ right ∷ []) (now (links .entry)) ⌝ }
 {
     let at = 3 * node;
     links[at] = kind;
@@ -33,17 +33,17 @@ pub fn put_links(links: &mut [u32], node: usize, kind: u32, left: u32, right: u3
 // Writes a leaf over the slice, which begins at this entry of the order list, as node `node`.
 pub fn put_leaf(
     bounds: &[f32],
-    part: &[u32],
+    slice: &[u32],
     entry: usize,
     links: &mut [u32],
     boxes: &mut [f32],
     node: usize,
 ) -> Grown
-    requires { ⌜ LeafAsked (now bounds) (now part) entry (now links) (now boxes) node ⌝ }
-    ensures { λ r. ⌜ Written (boxIn (now (bounds .entry))) (Trees.leaf (now (part .entry))) entry node (now (links .entry)) (now (links .exit)) (now (boxes .entry)) (now (boxes .exit)) (r .root) (r .levels) (Shapes.asBox (r .bounds)) ⌝ }
+    requires { ⌜ LeafNeeds (now bounds) (now slice) entry (now links) (now boxes) node ⌝ }
+    ensures { λ r. ⌜ Written (boxIn (now (bounds .entry))) (Trees.leaf (now (slice .entry))) entry node (now (links .entry)) (now (links .exit)) (now (boxes .entry)) (now (boxes .exit)) (r .root) (r .levels) (Shapes.asBox (r .bounds)) ⌝ }
 {
-    let over = union_of(bounds, part);
-    put_links(links, node, 1, entry as u32, (entry + part.len()) as u32);
+    let over = union_of(bounds, slice);
+    put_links(links, node, 1, entry as u32, (entry + slice.len()) as u32);
     put_box(boxes, node, over);
     Grown {
         root: node,
@@ -61,7 +61,7 @@ fn deeper(a: usize, b: usize) -> usize
 
 // Writes a branch behind its two subtrees.
 pub fn put_branch(left: Grown, right: Grown, links: &mut [u32], boxes: &mut [f32]) -> Grown
-    requires { ⌜ BranchAsked (left .root) (left .levels) (right .root) (right .levels) (now links) (now boxes) ⌝ }
+    requires { ⌜ BranchNeeds (left .root) (left .levels) (right .root) (right .levels) (now links) (now boxes) ⌝ }
     ensures { λ r. ⌜ BranchPut (left .root) (left .levels) (Shapes.asBox (left .bounds)) (right .root) (right .levels) (Shapes.asBox (right .bounds)) (now (links .entry)) (now (links .exit)) (now (boxes .entry)) (now (boxes .exit)) (r .root) (r .levels) (Shapes.asBox (r .bounds)) ⌝ }
 {
     let node = right.root + 1;

@@ -5,15 +5,15 @@ ghost use Prim.Native.Nat.{_+_, _*_, _≤_};
 ghost use lib.ListN.{length};
 ghost use lib.Ieee.{binary32};
 ghost use Rattle.shapes.specs.Values as Shapes;
-ghost use Rattle.spec_tables.specs.Tables.{over, many};
-ghost use Rattle.spec_lists.specs.Limits.{mostTriangles};
+ghost use Rattle.spec_tables.specs.Tables.{overwrite, concatMap};
+ghost use Rattle.spec_lists.specs.Limits.{maxTriangles};
 ghost use Rattle.spec_lists.specs.Reading as Reading;
-ghost use Rattle.spec_tree.specs.Order.{upTo};
+ghost use Rattle.spec_tree.specs.Order.{range};
 ghost use Rattle.spec_tree.specs.Trees as Trees;
 ghost use Rattle.spec_splits.specs.Splits.{place, boxIn};
 ghost use Rattle.spec_build.specs.Tries.{centreOn};
-ghost use Rattle.spec_build.specs.Growing.{CentresAsked, CentresPut, Centred};
-use lists::limits::MOST_TRIANGLES;
+ghost use Rattle.spec_build.specs.Growing.{CentresNeeds, CentresPut, Centred};
+use lists::limits::MAX_TRIANGLES;
 use lists::reading::box_at;
 use shapes::box3::Box3;
 use shapes::vec3::Axis;
@@ -22,7 +22,7 @@ use splits::table::centre_on;
 // Writes the box to place k of a table of boxes.
 pub fn put_box(boxes: &mut [f32], k: usize, b: Box3)
     requires { ⌜ 6 * k + 6 ≤ length (now boxes) ⌝ }
-    ensures { λ _. ⌜ now (boxes .exit) ≡ over (6 * k) (Trees.sixOf (Shapes.asBox b)) (now (boxes .entry)) ⌝ }
+    ensures { λ _. ⌜ now (boxes .exit) ≡ overwrite (6 * k) (Trees.sixOf (Shapes.asBox b)) (now (boxes .entry)) ⌝ }
 {
     let at = 6 * k;
     boxes[at] = b.min.x;
@@ -36,7 +36,7 @@ pub fn put_box(boxes: &mut [f32], k: usize, b: Box3)
 // Writes the boxes of the first `count` triangles, six numbers each.
 pub fn put_bounds(triangles: &[f32], count: usize, bounds: &mut [f32])
     requires { ⌜ (9 * count ≤ length (now triangles)) × (6 * count ≤ length (now bounds)) ⌝ }
-    ensures { λ _. ⌜ now (bounds .exit) ≡ over 0 (many (λ t. Trees.sixOf (Reading.boxAt (now (triangles .entry)) t)) count) (now (bounds .entry)) ⌝ }
+    ensures { λ _. ⌜ now (bounds .exit) ≡ overwrite 0 (concatMap (λ t. Trees.sixOf (Reading.boxAt (now (triangles .entry)) t)) count) (now (bounds .entry)) ⌝ }
 {
     let mut t = 0;
     while t < count {
@@ -47,19 +47,19 @@ pub fn put_bounds(triangles: &[f32], count: usize, bounds: &mut [f32])
 
 // Where the centres on an axis begin in their table.
 pub fn first_key(axis: Axis) -> usize
-    ensures { λ r. ⌜ r ≡ place (Shapes.asAxis axis) * mostTriangles ⌝ }
+    ensures { λ r. ⌜ r ≡ place (Shapes.asAxis axis) * maxTriangles ⌝ }
 {
     match axis {
         Axis::X => 0,
-        Axis::Y => MOST_TRIANGLES,
-        Axis::Z => 2 * MOST_TRIANGLES,
+        Axis::Y => MAX_TRIANGLES,
+        Axis::Z => 2 * MAX_TRIANGLES,
     }
 }
 
 // Writes the centres of the first `count` boxes on one axis to the front of the list.
 fn put_keys(bounds: &[f32], axis: Axis, count: usize, keys: &mut [f32])
-    requires { ⌜ CentresAsked (now bounds) count (now keys) ⌝ }
-    ensures { λ _. ⌜ now (keys .exit) ≡ over 0 (many (λ t. centreOn binary32 (boxIn (now (bounds .entry))) (Shapes.asAxis axis) t ∷ []) count) (now (keys .entry)) ⌝ }
+    requires { ⌜ CentresNeeds (now bounds) count (now keys) ⌝ }
+    ensures { λ _. ⌜ now (keys .exit) ≡ overwrite 0 (concatMap (λ t. centreOn binary32 (boxIn (now (bounds .entry))) (Shapes.asAxis axis) t ∷ []) count) (now (keys .entry)) ⌝ }
 {
     let mut t = 0;
     while t < count {
@@ -70,7 +70,7 @@ fn put_keys(bounds: &[f32], axis: Axis, count: usize, keys: &mut [f32])
 
 // Writes the centres of the first `count` boxes on one axis to that axis's slice of the table.
 fn put_axis(bounds: &[f32], axis: Axis, count: usize, centres: &mut [f32])
-    requires { ⌜ (CentresAsked (now bounds) count (now centres)) × (length (now centres) ≡ 3 * mostTriangles) ⌝ }
+    requires { ⌜ (CentresNeeds (now bounds) count (now centres)) × (length (now centres) ≡ 3 * maxTriangles) ⌝ }
     ensures { λ _. ⌜ CentresPut binary32 (now (bounds .entry)) (Shapes.asAxis axis) count (now (centres .entry)) (now (centres .exit)) ⌝ }
 {
     let first = first_key(axis);
@@ -78,13 +78,13 @@ fn put_axis(bounds: &[f32], axis: Axis, count: usize, centres: &mut [f32])
         bounds,
         axis,
         count,
-        &mut centres[first..first + MOST_TRIANGLES],
+        &mut centres[first..first + MAX_TRIANGLES],
     );
 }
 
 // Writes the centres of the first `count` boxes on each axis.
 pub fn put_centres(bounds: &[f32], count: usize, centres: &mut [f32])
-    requires { ⌜ (CentresAsked (now bounds) count (now centres)) × (length (now centres) ≡ 3 * mostTriangles) ⌝ }
+    requires { ⌜ (CentresNeeds (now bounds) count (now centres)) × (length (now centres) ≡ 3 * maxTriangles) ⌝ }
     ensures { λ _. ⌜ Centred binary32 (now (bounds .entry)) count (now (centres .entry)) (now (centres .exit)) ⌝ }
 {
     put_axis(bounds, Axis::X, count, centres);
@@ -95,7 +95,7 @@ pub fn put_centres(bounds: &[f32], count: usize, centres: &mut [f32])
 // Writes 0, 1 and so on, `count` numbers, to the front of the order list.
 pub fn put_order(count: usize, order: &mut [u32])
     requires { ⌜ (count ≤ 4096) × (count ≤ length (now order)) ⌝ }
-    ensures { λ _. ⌜ now (order .exit) ≡ over 0 (upTo count) (now (order .entry)) ⌝ }
+    ensures { λ _. ⌜ now (order .exit) ≡ overwrite 0 (range count) (now (order .entry)) ⌝ }
 {
     let mut number = 0;
     while number < count {

@@ -6,10 +6,10 @@ ghost use Rattle.spec_sort.specs.Sort.{byKey, sorted};
 ghost use Rattle.spec_splits.specs.Splits as Splits;
 ghost use Rattle.splits.specs.Values as Rules;
 ghost use Rattle.spec_build.specs.Tries as Tries;
-ghost use Rattle.spec_build.specs.Growing.{keysOn, SortAsked, RuleAsked, Triable};
+ghost use Rattle.spec_build.specs.Growing.{keysOn, SortNeeds, RuleNeeds, Triable};
 use crate::axes::axes_by_size;
 use crate::tables::first_key;
-use lists::limits::MOST_TRIANGLES;
+use lists::limits::MAX_TRIANGLES;
 use shapes::box3::Box3;
 use shapes::vec3::Axis;
 use sort::stable::sort_by_key;
@@ -19,23 +19,23 @@ use splits::split::Split;
 use splits::table::union_of;
 
 // Sorts the slice stably by the centres on the axis.
-fn sort_on(centres: &[f32], axis: Axis, part: &mut [u32], scratch: &mut [u32])
-    requires { ⌜ SortAsked (Shapes.asAxis axis) (now centres) (now part) (now scratch) ⌝ }
-    ensures { λ _. ⌜ now (part .exit) ≡ sorted (byKey (keysOn (Shapes.asAxis axis) (now (centres .entry)))) (now (part .entry)) ⌝ }
+fn sort_on(centres: &[f32], axis: Axis, slice: &mut [u32], scratch: &mut [u32])
+    requires { ⌜ SortNeeds (Shapes.asAxis axis) (now centres) (now slice) (now scratch) ⌝ }
+    ensures { λ _. ⌜ now (slice .exit) ≡ sorted (byKey (keysOn (Shapes.asAxis axis) (now (centres .entry)))) (now (slice .entry)) ⌝ }
 {
     let first = first_key(axis);
-    sort_by_key(&centres[first..first + MOST_TRIANGLES], part, scratch);
+    sort_by_key(&centres[first..first + MAX_TRIANGLES], slice, scratch);
 }
 
 // Where the rule cuts the slice as it stands. Strategy 1 is median, 2 is area.
-fn rule(bounds: &[f32], strategy: usize, axis: Axis, parent: Box3, part: &[u32]) -> Split
-    requires { ⌜ RuleAsked binary32 (now bounds) (now part) ⌝ }
-    ensures { λ r. ⌜ Rules.asSplit r ≡ Tries.rule binary32 strategy (Shapes.asAxis axis) (Shapes.asBox parent) (Splits.boxesIn (now (bounds .entry)) (now (part .entry))) ⌝ }
+fn rule(bounds: &[f32], strategy: usize, axis: Axis, parent: Box3, slice: &[u32]) -> Split
+    requires { ⌜ RuleNeeds binary32 (now bounds) (now slice) ⌝ }
+    ensures { λ r. ⌜ Rules.asSplit r ≡ Tries.rule binary32 strategy (Shapes.asAxis axis) (Shapes.asBox parent) (Splits.boxesIn (now (bounds .entry)) (now (slice .entry))) ⌝ }
 {
     if strategy == 1 {
-        return median_split(bounds, part, axis, parent);
+        return median_split(bounds, slice, axis, parent);
     }
-    area_split(bounds, part, axis, parent)
+    area_split(bounds, slice, axis, parent)
 }
 
 // One try. Where it fails the slice stays as it was sorted.
@@ -45,14 +45,14 @@ fn try_on(
     strategy: usize,
     axis: Axis,
     parent: Box3,
-    part: &mut [u32],
+    slice: &mut [u32],
     scratch: &mut [u32],
 ) -> Split
-    requires { ⌜ Triable binary32 (now bounds) (now centres) (now part) (now scratch) ⌝ }
-    ensures { λ r. ⌜ Tries.splitAs (now (part .exit)) (Rules.asSplit r) ≡ Tries.triedOn binary32 (Splits.boxIn (now (bounds .entry))) strategy (Shapes.asAxis axis) (Shapes.asBox parent) (now (part .entry)) ⌝ }
+    requires { ⌜ Triable binary32 (now bounds) (now centres) (now slice) (now scratch) ⌝ }
+    ensures { λ r. ⌜ Tries.splitAs (now (slice .exit)) (Rules.asSplit r) ≡ Tries.triedOn binary32 (Splits.boxIn (now (bounds .entry))) strategy (Shapes.asAxis axis) (Shapes.asBox parent) (now (slice .entry)) ⌝ }
 {
-    sort_on(centres, axis, part, scratch);
-    rule(bounds, strategy, axis, parent, part)
+    sort_on(centres, axis, slice, scratch);
+    rule(bounds, strategy, axis, parent, slice)
 }
 
 // Tries to split a slice whose boxes have this union, on the largest axis first.
@@ -61,38 +61,38 @@ fn try_axes(
     centres: &[f32],
     strategy: usize,
     parent: Box3,
-    part: &mut [u32],
+    slice: &mut [u32],
     scratch: &mut [u32],
 ) -> Split
-    requires { ⌜ Triable binary32 (now bounds) (now centres) (now part) (now scratch) ⌝ }
-    ensures { λ r. ⌜ Tries.splitAs (now (part .exit)) (Rules.asSplit r) ≡ Tries.triedWithin binary32 (Splits.boxIn (now (bounds .entry))) strategy (Shapes.asBox parent) (now (part .entry)) ⌝ }
+    requires { ⌜ Triable binary32 (now bounds) (now centres) (now slice) (now scratch) ⌝ }
+    ensures { λ r. ⌜ Tries.splitAs (now (slice .exit)) (Rules.asSplit r) ≡ Tries.triedWithin binary32 (Splits.boxIn (now (bounds .entry))) strategy (Shapes.asBox parent) (now (slice .entry)) ⌝ }
 {
     let axes = axes_by_size(parent.sizes());
     let first = axes.first;
     let second = axes.second;
     let third = axes.third;
-    let once = try_on(bounds, centres, strategy, first, parent, part, scratch);
+    let once = try_on(bounds, centres, strategy, first, parent, slice, scratch);
     if let Split::At(cut) = once {
         return Split::At(cut);
     }
-    let twice = try_on(bounds, centres, strategy, second, parent, part, scratch);
+    let twice = try_on(bounds, centres, strategy, second, parent, slice, scratch);
     if let Split::At(cut) = twice {
         return Split::At(cut);
     }
-    try_on(bounds, centres, strategy, third, parent, part, scratch)
+    try_on(bounds, centres, strategy, third, parent, slice, scratch)
 }
 
 // Where the slice is cut. The slice is left as the last try sorted it.
-pub fn try_part(
+pub fn try_slice(
     bounds: &[f32],
     centres: &[f32],
     strategy: usize,
-    part: &mut [u32],
+    slice: &mut [u32],
     scratch: &mut [u32],
 ) -> Split
-    requires { ⌜ Triable binary32 (now bounds) (now centres) (now part) (now scratch) ⌝ }
-    ensures { λ r. ⌜ Tries.splitAs (now (part .exit)) (Rules.asSplit r) ≡ Tries.tried binary32 (Splits.boxIn (now (bounds .entry))) strategy (now (part .entry)) ⌝ }
+    requires { ⌜ Triable binary32 (now bounds) (now centres) (now slice) (now scratch) ⌝ }
+    ensures { λ r. ⌜ Tries.splitAs (now (slice .exit)) (Rules.asSplit r) ≡ Tries.tried binary32 (Splits.boxIn (now (bounds .entry))) strategy (now (slice .entry)) ⌝ }
 {
-    let parent = union_of(bounds, part);
-    try_axes(bounds, centres, strategy, parent, part, scratch)
+    let parent = union_of(bounds, slice);
+    try_axes(bounds, centres, strategy, parent, slice, scratch)
 }

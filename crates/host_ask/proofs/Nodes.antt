@@ -11,9 +11,9 @@ refuses-if : (t : Bool) → refuses (refusedIf t 7 0) ≡ t
 refuses-if true = refl
 refuses-if false = refl
 
-module _ (nodes : ℕ) (v : Verdict) (b : Bool) (is : v ≡ nodesRefusal nodes) (told : b ≡ refuses v) where
+module _ (nodes : ℕ) (v : Verdict) (b : Bool) (is : v ≡ nodesRefusal nodes) (said : b ≡ refuses v) where
   tested : b ≡ ltb 8191 nodes
-  tested = told ∙ ap refuses is ∙ refuses-if (ltb 8191 nodes)
+  tested = said ∙ ap refuses is ∙ refuses-if (ltb 8191 nodes)
 
   -- a count that is refused is refused with 7
   pub nodes-stop : b ≡ true → v ≡ refused 7 0

@@ -6,7 +6,7 @@ ghost use Rattle.spec_records.specs.Layouts.{version1, imageSize};
 ghost use Rattle.spec_image.specs.Image.{imageIn};
 ghost use Rattle.lists.specs.Values.{asVerdict};
 ghost use Rattle.spec_host.specs.PointBytes.{answerBytes, afterBytes};
-ghost use Rattle.spec_host.specs.Requests.{contents, askedRefusal, queryVerdict, answerIn};
+ghost use Rattle.spec_host.specs.Requests.{contents, requestRefusal, queryVerdict, answerIn};
 ghost use Rattle.spec_host.specs.Loading.{lateIn, Loaded, Ready};
 ghost use Rattle.queries.specs.Values.{asQuery};
 use crate::point_queries::ask_lists;
@@ -15,8 +15,8 @@ use crate::tests::early_refusal;
 use crate::tests::nodes_refusal;
 use image::get::read_tree;
 use image::get::settings_of;
-use lists::limits::MOST_NODES;
-use lists::limits::MOST_TRIANGLES;
+use lists::limits::MAX_NODES;
+use lists::limits::MAX_TRIANGLES;
 use lists::verdict::Verdict;
 use queries::query::Query;
 use records::entries::read_f32s;
@@ -40,9 +40,9 @@ fn ask_tree(
     ensures verdict { λ r. ⌜ asVerdict r ≡ lateIn (imageIn version1 (now (image .entry)) count nodes) (now (points .entry)) distance ⌝ }
     ensures answers { λ r. ⌜ now (answers .exit) ≡ afterBytes (asVerdict r) (answerBytes (answerIn (asQuery query) (imageIn version1 (now (image .entry)) count nodes) distance) (now (points .entry))) (now (answers .entry)) ⌝ }
 {
-    let mut order = [0u32; MOST_TRIANGLES];
-    let mut links = [0u32; 3 * MOST_NODES];
-    let mut boxes = [0.0f32; 6 * MOST_NODES];
+    let mut order = [0u32; MAX_TRIANGLES];
+    let mut links = [0u32; 3 * MAX_NODES];
+    let mut boxes = [0.0f32; 6 * MAX_NODES];
     read_tree(image, count, nodes, &mut order, &mut links, &mut boxes);
     let links_end = 3 * nodes;
     let boxes_end = 6 * nodes;
@@ -71,7 +71,7 @@ fn ask_triangles(
     answers: &mut [u8],
 ) -> Verdict
     requires { ⌜ Loaded (now image) count nodes (now triangles) ⌝ }
-    ensures verdict { λ r. ⌜ asVerdict r ≡ askedRefusal (imageIn version1 (now (image .entry)) count nodes) (now (points .entry)) distance (length (now (answers .entry))) ⌝ }
+    ensures verdict { λ r. ⌜ asVerdict r ≡ requestRefusal (imageIn version1 (now (image .entry)) count nodes) (now (points .entry)) distance (length (now (answers .entry))) ⌝ }
     ensures answers { λ r. ⌜ now (answers .exit) ≡ afterBytes (asVerdict r) (answerBytes (answerIn (asQuery query) (imageIn version1 (now (image .entry)) count nodes) distance) (now (points .entry))) (now (answers .entry)) ⌝ }
 {
     let early = early_refusal(triangles, settings_of(image), answers.len(), points.len());
@@ -95,7 +95,7 @@ fn ask_triangles(
 }
 
 // Loads the triangles of an image of `count` triangles and `nodes` nodes. Nothing is loaded where the count is refused.
-fn ask_laid(
+fn ask_sized(
     query: Query,
     image: &[u8],
     count: usize,
@@ -105,7 +105,7 @@ fn ask_laid(
     answers: &mut [u8],
 ) -> Verdict
     requires { ⌜ imageSize version1 count nodes ≡ length (now image) ⌝ }
-    ensures verdict { λ r. ⌜ asVerdict r ≡ askedRefusal (imageIn version1 (now (image .entry)) count nodes) (now (points .entry)) distance (length (now (answers .entry))) ⌝ }
+    ensures verdict { λ r. ⌜ asVerdict r ≡ requestRefusal (imageIn version1 (now (image .entry)) count nodes) (now (points .entry)) distance (length (now (answers .entry))) ⌝ }
     ensures answers { λ r. ⌜ now (answers .exit) ≡ afterBytes (asVerdict r) (answerBytes (answerIn (asQuery query) (imageIn version1 (now (image .entry)) count nodes) distance) (now (points .entry))) (now (answers .entry)) ⌝ }
 {
     let bad_count = count_refusal(count);
@@ -113,7 +113,7 @@ fn ask_laid(
         return bad_count;
     }
     let numbers = 9 * count;
-    let mut triangles = [0.0f32; 9 * MOST_TRIANGLES];
+    let mut triangles = [0.0f32; 9 * MAX_TRIANGLES];
     read_f32s(image, 20, numbers, &mut triangles, 0);
     ask_triangles(
         query,
@@ -140,6 +140,6 @@ pub fn ask(query: Query, image: &[u8], points: &[u8], distance: f32, answers: &m
         ImageLayout::Right {
             triangles: count,
             nodes,
-        } => ask_laid(query, image, count, nodes, points, distance, answers),
+        } => ask_sized(query, image, count, nodes, points, distance, answers),
     }
 }

@@ -5,4 +5,4 @@ pub mod calls;
 pub mod point_queries;
 pub mod point_windings;
 pub mod tests;
-pub mod wind;
+pub mod winding;

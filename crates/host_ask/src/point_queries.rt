@@ -3,8 +3,8 @@ ghost use mathlib.Core.Path.{_≡_};
 ghost use Prim.Native.Nat.{_*_, _/_, _≤_};
 ghost use lib.ListN.{length};
 ghost use lib.Ieee.{binary32};
-ghost use Rattle.spec_tables.specs.Tables.{over};
-ghost use Rattle.spec_lists.specs.Limits.{mostTriangles};
+ghost use Rattle.spec_tables.specs.Tables.{overwrite};
+ghost use Rattle.spec_lists.specs.Limits.{maxTriangles};
 ghost use Rattle.spec_lists.specs.Reading.{triangleCount};
 ghost use Rattle.spec_lists.specs.Passed.{GoodPoints};
 ghost use Rattle.lists.specs.Values.{asVerdict};
@@ -32,7 +32,7 @@ fn late_refusal(
     points: &[u8],
     distance: f32,
 ) -> Verdict
-    requires { ⌜ triangleCount (now triangles) ≤ mostTriangles ⌝ }
+    requires { ⌜ triangleCount (now triangles) ≤ maxTriangles ⌝ }
     ensures { λ r. ⌜ asVerdict r ≡ lateRefusal (now (triangles .entry)) (now (order .entry)) (now (links .entry)) (now (boxes .entry)) nodes (now (points .entry)) distance ⌝ }
 {
     tree_refusal(triangles, order, links, boxes, nodes)
@@ -55,7 +55,7 @@ fn put_answers(
     requires { ⌜ Searchable (now triangles) (now order) (now links) (now boxes) nodes ⌝ }
     requires { ⌜ GoodPoints (numbersOf (now points)) ⌝ }
     requires { ⌜ 24 * (length (now points) / 12) ≤ length (now answers) ⌝ }
-    ensures { λ _. ⌜ now (answers .exit) ≡ over 0 (answerBytes (answerBy binary32 (asQuery query) (now (triangles .entry)) (now (order .entry)) (now (links .entry)) (now (boxes .entry)) nodes distance) (now (points .entry))) (now (answers .entry)) ⌝ }
+    ensures { λ _. ⌜ now (answers .exit) ≡ overwrite 0 (answerBytes (answerBy binary32 (asQuery query) (now (triangles .entry)) (now (order .entry)) (now (links .entry)) (now (boxes .entry)) nodes distance) (now (points .entry))) (now (answers .entry)) ⌝ }
 {
     let count = points.len() / 12;
     let mut k = 0;

@@ -16,7 +16,7 @@ use lists::verdict::room_refusal;
 pub fn count_refusal(count: usize) -> Verdict
     ensures { λ r. ⌜ asVerdict r ≡ countRefusal count ⌝ }
 {
-    refused_if(count == 0, 2, 0).or(refused_if(limits::MOST_TRIANGLES < count, 3, 0))
+    refused_if(count == 0, 2, 0).or(refused_if(limits::MAX_TRIANGLES < count, 3, 0))
 }
 
 // The first of the tests 2 to 6 that refuses. `answers` and `points` are lengths in bytes: 24 an answer, 12 a point.
@@ -37,5 +37,5 @@ pub fn early_refusal(
 pub fn nodes_refusal(nodes: usize) -> Verdict
     ensures { λ r. ⌜ asVerdict r ≡ nodesRefusal nodes ⌝ }
 {
-    refused_if(limits::MOST_NODES < nodes, 7, 0)
+    refused_if(limits::MAX_NODES < nodes, 7, 0)
 }

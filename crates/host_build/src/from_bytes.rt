@@ -5,11 +5,11 @@ ghost use Rattle.spec_host.specs.Build.{numbersOf, builtImage, listRefusal, byt
 use crate::put::put_built;
 use build::calls::Built;
 use build::calls::build;
-use host_bytes::told::tell_refusal;
+use host_bytes::status::encode_refusal;
 use host_bytes::triangles::length_refusal;
 use host_bytes::triangles::read_triangles;
-use lists::limits::MOST_NODES;
-use lists::limits::MOST_TRIANGLES;
+use lists::limits::MAX_NODES;
+use lists::limits::MAX_TRIANGLES;
 use lists::settings::Settings;
 use lists::tests::triangle_count;
 use lists::verdict::Verdict;
@@ -18,9 +18,9 @@ use lists::verdict::Verdict;
 fn build_list(settings: Settings, triangles: &[f32], image: &mut [u8]) -> u64
     ensures { λ r. ⌜ ImagePut (listRefusal (now (triangles .entry)) (asSettings settings) (length (now (image .entry)))) (builtImage (now (triangles .entry)) (asSettings settings)) (now (image .entry)) r (now (image .exit)) ⌝ }
 {
-    let mut order = [0u32; MOST_TRIANGLES];
-    let mut links = [0u32; 3 * MOST_NODES];
-    let mut boxes = [0.0f32; 6 * MOST_NODES];
+    let mut order = [0u32; MAX_TRIANGLES];
+    let mut links = [0u32; 3 * MAX_NODES];
+    let mut boxes = [0.0f32; 6 * MAX_NODES];
     let built = build(
         triangles,
         settings.strategy,
@@ -31,7 +31,7 @@ fn build_list(settings: Settings, triangles: &[f32], image: &mut [u8]) -> u64
         &mut boxes,
     );
     match built {
-        Built::Refused { number, place } => tell_refusal(number, place),
+        Built::Refused { number, place } => encode_refusal(number, place),
         Built::Tree { nodes, depth: _ } => {
             let count = triangle_count(triangles);
             put_built(
@@ -60,9 +60,9 @@ pub fn build_image(
 {
     let verdict = length_refusal(triangles);
     if let Verdict::Refused { number, place } = verdict {
-        return tell_refusal(number, place);
+        return encode_refusal(number, place);
     }
-    let mut list = [0.0f32; 9 * MOST_TRIANGLES];
+    let mut list = [0.0f32; 9 * MAX_TRIANGLES];
     read_triangles(triangles, &mut list);
     let numbers = triangles.len() / 4;
     let settings = Settings {

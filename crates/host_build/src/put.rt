@@ -5,8 +5,8 @@ ghost use Rattle.spec_lists.specs.Refusals.{roomRefusal};
 ghost use Rattle.spec_image.specs.Writing.{exactSize};
 ghost use Rattle.image.specs.Values.{imageOf};
 ghost use Rattle.spec_host.specs.Build.{Puttable, ImagePut};
-use host_bytes::told::tell;
-use host_bytes::told::tell_refusal;
+use host_bytes::status::encode;
+use host_bytes::status::encode_refusal;
 use image::put::put_image;
 use image::size::image_size;
 use lists::settings::Settings;
@@ -28,8 +28,8 @@ pub fn put_built(
 {
     let size = image_size(triangle_count(triangles), nodes);
     if image.len() < size {
-        return tell_refusal(6, 0);
+        return encode_refusal(6, 0);
     }
     let written = put_image(settings, triangles, order, links, boxes, nodes, image);
-    tell(Verdict::Passed, written)
+    encode(Verdict::Passed, written)
 }

@@ -2,5 +2,5 @@
 // Each contract is an equation with a definition of `spec_host`.
 pub mod answers;
 pub mod points;
-pub mod told;
+pub mod status;
 pub mod triangles;

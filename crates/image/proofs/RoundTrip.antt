@@ -6,9 +6,9 @@ use Prim.Native.Nat.{ℕ, _*_, _≤_}
 use native.Mathlib.Omega.{arith}
 use lib.ListN.{length, take}
 use lib.Ieee.{Float, binary32}
-use Rattle.spec_tables.specs.Tables.{over}
-use Rattle.spec_tables.proofs.Tables.{length-many}
-use Rattle.spec_tables.proofs.Pieces.{take-over, length-singles}
+use Rattle.spec_tables.specs.Tables.{overwrite}
+use Rattle.spec_tables.proofs.Tables.{length-concatMap}
+use Rattle.spec_tables.proofs.Pieces.{take-overwrite, length-singles}
 use Rattle.spec_records.specs.Little.{Bytes}
 use Rattle.spec_records.specs.Layouts.{version1, nodesStart}
 use Rattle.spec_lists.specs.Reading.{triangleCount}
@@ -51,7 +51,7 @@ module _ (x : Image) {out out′ : List ℕ} {n : ℕ} (w : WrittenIs x (Written
   room : exactSize version1 x ≤ length out
   room = write-passed version1 x (length out) accepts .1
 
-  bytes-are : out′ ≡ over 0 (imageBytes version1 x) out
+  bytes-are : out′ ≡ overwrite 0 (imageBytes version1 x) out
   unfolding bytesAfter
   bytes-are = rw accepts at (w .filled)
 
@@ -81,29 +81,29 @@ module _ {s : List ℕ} {settings : Settings} {count nodes : ℕ} {t : List Floa
 
   triangles-are : take (9 * count) t′ ≡ held .triangles
   unfolding imageIn
-  triangles-are = rw (is .filled .triangles) (take-over (9 * count) (held .triangles) t (length-singles _ (9 * count)))
+  triangles-are = rw (is .filled .triangles) (take-overwrite (9 * count) (held .triangles) t (length-singles _ (9 * count)))
 
   order-are : take count o′ ≡ held .order
   unfolding imageIn
-  order-are = rw (is .filled .order) (take-over count (held .order) o (length-singles _ count))
+  order-are = rw (is .filled .order) (take-overwrite count (held .order) o (length-singles _ count))
 
   links-are : take (3 * nodes) l′ ≡ held .links
   unfolding imageIn
   links-are =
       let start : ℕ = nodesStart version1 count in
-      rw (is .filled .links) (take-over (3 * nodes) (held .links) l (length-many (linksIn version1 s start) 3 nodes (length-links version1 s start)))
+      rw (is .filled .links) (take-overwrite (3 * nodes) (held .links) l (length-concatMap (linksIn version1 s start) 3 nodes (length-links version1 s start)))
 
   boxes-are : take (6 * nodes) b′ ≡ held .boxes
   unfolding imageIn
   boxes-are =
       let start : ℕ = nodesStart version1 count in
-      rw (is .filled .boxes) (take-over (6 * nodes) (held .boxes) b (length-many (sidesIn version1 s start) 6 nodes (length-box version1 s start)))
+      rw (is .filled .boxes) (take-overwrite (6 * nodes) (held .boxes) b (length-concatMap (sidesIn version1 s start) 6 nodes (length-box version1 s start)))
 
   -- where the writer accepts what stands at the lists' fronts, it writes the image that was read
   pub read-then-written : Bytes s → {links : List ℕ} {boxes : List Float}
       → take (3 * nodes) links ≡ take (3 * nodes) l′ → take (6 * nodes) boxes ≡ take (6 * nodes) b′
       → {out out′ : List ℕ} {n : ℕ} → WrittenIs (imageOf settings (take (9 * count) t′) (take count o′) links boxes nodes) (Written.Bytes n) out out′
-      → (n ≡ length s) × (out′ ≡ over 0 s out)
+      → (n ≡ length s) × (out′ ≡ overwrite 0 s out)
   unfolding imageIn
   read-then-written ok {links} {boxes} e f {out} {out′} {n} w =
       let x : Image = imageOf settings (take (9 * count) t′) (take count o′) links boxes nodes in
@@ -123,5 +123,5 @@ module _ {s : List ℕ} {settings : Settings} {count nodes : ℕ} {t : List Floa
       sym (used-bytes version1 x) ∙ ap (imageBytes version1) same
       ∙ read-back s ok (roomsIn t o l b) (asSettings settings) count nodes (sym (is .answer)) (length out) yes in (
         sized x w ∙ sym (good-long x (good x w)) ∙ ap length bytes,
-        bytes-are x w ∙ ap (λ (y : List ℕ). over 0 y out) bytes,
+        bytes-are x w ∙ ap (λ (y : List ℕ). overwrite 0 y out) bytes,
       )

@@ -8,7 +8,7 @@ use borrow.Author.Tests.{leb-true}
 use lib.ListN.{length}
 use lib.Dec.{leb}
 use lib.Ieee.{Float}
-use Rattle.spec_tables.proofs.Tables.{over-none}
+use Rattle.spec_tables.proofs.Tables.{overwrite-none}
 use Rattle.spec_records.specs.Records.{bodies, laidOut}
 use Rattle.spec_records.specs.Layouts.{version1, imageSpans, imageSize, imageWants}
 use Rattle.spec_records.proofs.Records.{both}
@@ -21,7 +21,7 @@ use Rattle.image.specs.Values.{ListsRead}
 
 -- a refusal leaves the lists as they were
 pub unchanged : (number place : ℕ) (s : List ℕ) (t : List Float) (o l : List ℕ) (b : List Float) → ListsRead (filledBy version1 s (refused number place)) t o l b t o l b
-unchanged number place s t o l b = record { triangles = sym (over-none 0 t); order = sym (over-none 0 o); links = sym (over-none 0 l); boxes = sym (over-none 0 b) }
+unchanged number place s t o l b = record { triangles = sym (overwrite-none 0 t); order = sym (overwrite-none 0 o); links = sym (overwrite-none 0 l); boxes = sym (overwrite-none 0 b) }
 
 -- ---- what the layout's answer says
 module _ {r : ImageLayout} (s : List ℕ) (laid : imageLaid r ≡ laidOut (imageWants version1) s 0) where

@@ -6,7 +6,7 @@ use Rattle.spec_image.specs.Image.{Image}
 use Rattle.lists.specs.declared.settings.Settings.{Settings}
 use Rattle.lists.specs.Values.{asSettings}
 use mathlib.Core.Path.{_≡_}
-use Rattle.spec_tables.specs.Tables.{over}
+use Rattle.spec_tables.specs.Tables.{overwrite}
 use lib.ListN.{length}
 use Rattle.spec_records.specs.Layouts.{version1}
 use Rattle.spec_image.specs.Reading as Reading
@@ -29,16 +29,16 @@ imageOf s triangles order links boxes nodes = record {
 
 -- the image's tree stands at the front of the lent lists, and all else is as it was
 pub record TreeFilled (x : Image) (o l : List ℕ) (b : List Float) (o′ l′ : List ℕ) (b′ : List Float) : Type 0 where
-  pub order : o′ ≡ over 0 (x .order) o
-  pub links : l′ ≡ over 0 (x .links) l
-  pub boxes : b′ ≡ over 0 (x .boxes) b
+  pub order : o′ ≡ overwrite 0 (x .order) o
+  pub links : l′ ≡ overwrite 0 (x .links) l
+  pub boxes : b′ ≡ overwrite 0 (x .boxes) b
 
 -- the image's triangles and its tree stand at the front of the lent lists, and all else is as it was
 pub record ListsRead (x : Image) (t : List Float) (o l : List ℕ) (b t′ : List Float) (o′ l′ : List ℕ) (b′ : List Float) : Type 0 where
-  pub triangles : t′ ≡ over 0 (x .triangles) t
-  pub order : o′ ≡ over 0 (x .order) o
-  pub links : l′ ≡ over 0 (x .links) l
-  pub boxes : b′ ≡ over 0 (x .boxes) b
+  pub triangles : t′ ≡ overwrite 0 (x .triangles) t
+  pub order : o′ ≡ overwrite 0 (x .order) o
+  pub links : l′ ≡ overwrite 0 (x .links) l
+  pub boxes : b′ ≡ overwrite 0 (x .boxes) b
 
 abbrev pub imageFrom : (strategy leafMinimum maximumDepth : ℕ) → List Float → List ℕ → List ℕ → List Float → ℕ → Image
 imageFrom strategy leafMinimum maximumDepth triangles order links boxes nodes = record {

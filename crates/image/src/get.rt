@@ -2,7 +2,7 @@
 ghost use mathlib.Core.Path.{_≡_};
 ghost use Prim.Native.Nat.{_+_, _*_, _≤_};
 ghost use lib.ListN.{length};
-ghost use Rattle.spec_tables.specs.Tables.{over, many};
+ghost use Rattle.spec_tables.specs.Tables.{overwrite, concatMap};
 ghost use Rattle.spec_records.specs.Layouts.{version1, imageSize};
 ghost use Rattle.spec_image.specs.Image.{settingsIn, linksIn, sidesIn, imageIn};
 ghost use Rattle.lists.specs.Values.{asSettings};
@@ -28,8 +28,8 @@ pub fn settings_of(bytes: &[u8]) -> Settings
 fn read_node(bytes: &[u8], start: usize, node: usize, links: &mut [u32], boxes: &mut [f32])
     requires { ⌜ start + 30 * node + 30 ≤ length (now bytes) ⌝ }
     requires { ⌜ (3 * node + 3 ≤ length (now links)) × (6 * node + 6 ≤ length (now boxes)) ⌝ }
-    ensures { λ _. ⌜ now (links .exit) ≡ over (3 * node) (linksIn version1 (now (bytes .entry)) start node) (now (links .entry)) ⌝ }
-    ensures { λ _. ⌜ now (boxes .exit) ≡ over (6 * node) (sidesIn version1 (now (bytes .entry)) start node) (now (boxes .entry)) ⌝ }
+    ensures { λ _. ⌜ now (links .exit) ≡ overwrite (3 * node) (linksIn version1 (now (bytes .entry)) start node) (now (links .entry)) ⌝ }
+    ensures { λ _. ⌜ now (boxes .exit) ≡ overwrite (6 * node) (sidesIn version1 (now (bytes .entry)) start node) (now (boxes .entry)) ⌝ }
 {
     let at = start + 30 * node;
     read_u16s(bytes, at, 1, links, 3 * node);
@@ -41,8 +41,8 @@ fn read_node(bytes: &[u8], start: usize, node: usize, links: &mut [u32], boxes: 
 fn read_nodes(bytes: &[u8], start: usize, nodes: usize, links: &mut [u32], boxes: &mut [f32])
     requires { ⌜ start + 30 * nodes ≤ length (now bytes) ⌝ }
     requires { ⌜ (3 * nodes ≤ length (now links)) × (6 * nodes ≤ length (now boxes)) ⌝ }
-    ensures { λ _. ⌜ now (links .exit) ≡ over 0 (many (linksIn version1 (now (bytes .entry)) start) nodes) (now (links .entry)) ⌝ }
-    ensures { λ _. ⌜ now (boxes .exit) ≡ over 0 (many (sidesIn version1 (now (bytes .entry)) start) nodes) (now (boxes .entry)) ⌝ }
+    ensures { λ _. ⌜ now (links .exit) ≡ overwrite 0 (concatMap (linksIn version1 (now (bytes .entry)) start) nodes) (now (links .entry)) ⌝ }
+    ensures { λ _. ⌜ now (boxes .exit) ≡ overwrite 0 (concatMap (sidesIn version1 (now (bytes .entry)) start) nodes) (now (boxes .entry)) ⌝ }
 {
     let mut i = 0;
     while i < nodes {

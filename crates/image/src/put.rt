@@ -3,7 +3,7 @@ ghost use mathlib.Core.Path.{_≡_};
 ghost use Prim.Native.Nat.{_+_, _*_, _≤_};
 ghost use lib.ListN.{length};
 ghost use lib.Ieee.{binary32};
-ghost use Rattle.spec_tables.specs.Tables.{many, Put};
+ghost use Rattle.spec_tables.specs.Tables.{concatMap, Put};
 ghost use Rattle.spec_records.specs.Entries.{numberBytes, floatBytes};
 ghost use Rattle.spec_records.specs.Records.{header, recordOf};
 ghost use Rattle.spec_records.specs.Layouts.{version1, imageSize};
@@ -76,7 +76,7 @@ fn put_node(links: &[u32], boxes: &[f32], node: usize, out: &mut [u8], at: usize
 fn put_nodes(links: &[u32], boxes: &[f32], nodes: usize, out: &mut [u8], at: usize) -> usize
     requires { ⌜ (3 * nodes ≤ length (now links)) × (6 * nodes ≤ length (now boxes)) ⌝ }
     requires { ⌜ at + 30 * nodes ≤ length (now out) ⌝ }
-    ensures { λ r. ⌜ Put at (many (nodeBytes version1 (now (links .entry)) (now (boxes .entry))) nodes) (now (out .entry)) (now (out .exit)) r ⌝ }
+    ensures { λ r. ⌜ Put at (concatMap (nodeBytes version1 (now (links .entry)) (now (boxes .entry))) nodes) (now (out .entry)) (now (out .exit)) r ⌝ }
     ensures { λ r. ⌜ r ≡ at + 30 * nodes ⌝ }
 {
     let mut next = at;

@@ -1,9 +1,9 @@
 // The limits of the engine, each named once.
 
-pub const MOST_TRIANGLES: usize = 4096;
+pub const MAX_TRIANGLES: usize = 4096;
 
 // The nodes of a tree over the maximum of triangles, with one triangle in each leaf.
-pub const MOST_NODES: usize = 2 * MOST_TRIANGLES - 1;
+pub const MAX_NODES: usize = 2 * MAX_TRIANGLES - 1;
 
 // The largest magnitude of a coordinate.
 pub const FURTHEST_COORDINATE: f32 = 1048576.0;
@@ -13,4 +13,4 @@ pub const LONGEST_DISTANCE: f32 = 4194304.0;
 // The largest maximum depth that a host may set.
 pub const DEEPEST: usize = 64;
 
-pub const MOST_LEAF_MINIMUM: usize = 4096;
+pub const MAX_LEAF_MINIMUM: usize = 4096;

@@ -19,7 +19,7 @@ fn are_settings(s: Settings) -> bool
     (1 <= s.strategy)
         & (s.strategy <= 2)
         & (1 <= s.leaf_minimum)
-        & (s.leaf_minimum <= limits::MOST_LEAF_MINIMUM)
+        & (s.leaf_minimum <= limits::MAX_LEAF_MINIMUM)
         & (s.maximum_depth <= limits::DEEPEST)
 }
 

@@ -56,7 +56,7 @@ fn none_refusal(triangles: &[f32]) -> Verdict
 fn too_many_refusal(triangles: &[f32]) -> Verdict
     ensures { λ r. ⌜ Values.asVerdict r ≡ Refusals.tooManyRefusal (now (triangles .entry)) ⌝ }
 {
-    refused_if(limits::MOST_TRIANGLES < triangle_count(triangles), 3, 0)
+    refused_if(limits::MAX_TRIANGLES < triangle_count(triangles), 3, 0)
 }
 
 // 1 to 4: the length, then the coordinates.

@@ -23,11 +23,11 @@ fn put_digits(out: &mut [u8], at: usize, base: usize, count: usize, n: usize) ->
     ensures { λ r. ⌜ Put at (digits base count n) (now (out .entry)) (now (out .exit)) r ⌝ }
     ensures { λ r. ⌜ r ≡ at + count ⌝ }
 {
-    let mut left = count;
+    let mut remaining = count;
     let mut rest = n;
-    while left > 0 {
-        left -= 1;
-        out[at + left] = digit_of(rest % base);
+    while remaining > 0 {
+        remaining -= 1;
+        out[at + remaining] = digit_of(rest % base);
         rest = rest / base;
     }
     at + count

@@ -56,7 +56,7 @@ fn put_answers(
 )
     requires { ⌜ Calls.Askable (now triangles) (now order) (now links) (now boxes) nodes (now points) ⌝ }
     requires { ⌜ 6 * Reading.pointCount (now points) ≤ length (now answers) ⌝ }
-    ensures { λ _. ⌜ now (answers .exit) ≡ Tables.over 0 (Calls.answerWords binary32 (Calls.answerBy binary32 (Values.asQuery query) (now (triangles .entry)) (now (order .entry)) (now (links .entry)) (now (boxes .entry)) nodes distance) (now (points .entry))) (now (answers .entry)) ⌝ }
+    ensures { λ _. ⌜ now (answers .exit) ≡ Tables.overwrite 0 (Calls.answerWords binary32 (Calls.answerBy binary32 (Values.asQuery query) (now (triangles .entry)) (now (order .entry)) (now (links .entry)) (now (boxes .entry)) nodes distance) (now (points .entry))) (now (answers .entry)) ⌝ }
 {
     let count = point_count(points);
     let mut k = 0;

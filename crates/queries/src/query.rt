@@ -9,7 +9,7 @@ ghost use Rattle.walks.specs.Values.{asAnswer};
 ghost use Rattle.queries.specs.Values.{asQuery};
 use shapes::vec3::Vec3;
 use walks::answer::Answer;
-use walks::answer::Asked;
+use walks::answer::Probe;
 use walks::sure;
 
 pub enum Query {
@@ -32,18 +32,18 @@ pub fn answer_at(
     requires { ⌜ Finite (Points.at (asPoint p)) ⌝ }
     ensures { λ r. ⌜ asAnswer r ≡ answerBy binary32 (asQuery query) (now (triangles .entry)) (now (order .entry)) (now (links .entry)) (now (boxes .entry)) nodes distance (asPoint p) ⌝ }
 {
-    let asked = Asked {
+    let probe = Probe {
         point: p,
         limit: distance * distance,
     };
     match query {
         Query::Sure => {
-            let found = sure::search(triangles, order, links, boxes, nodes, asked);
+            let found = sure::search(triangles, order, links, boxes, nodes, probe);
             let best = found.best;
             best
         }
         Query::Source => {
-            let found = walks::source::search(triangles, order, links, boxes, nodes, asked);
+            let found = walks::source::search(triangles, order, links, boxes, nodes, probe);
             let best = found.best;
             best
         }

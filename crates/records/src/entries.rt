@@ -3,7 +3,7 @@ ghost use mathlib.Core.Path.{_≡_};
 ghost use Prim.Native.Nat.{_+_, _*_, _≤_};
 ghost use lib.ListN.{length};
 ghost use lib.Ieee.{binary32};
-ghost use Rattle.spec_tables.specs.Tables.{over, Put};
+ghost use Rattle.spec_tables.specs.Tables.{overwrite, Put};
 ghost use Rattle.spec_records.specs.Entries.{numberBytes, floatBytes, numbersIn, floatsIn};
 use crate::numbers::put_u16;
 use crate::numbers::put_u32;
@@ -67,7 +67,7 @@ pub fn put_f32s(entries: &[f32], from: usize, count: usize, out: &mut [u8], at: 
 // Leaves the entries, two bytes each, in `out` from index `at` on.
 pub fn read_u16s(bytes: &[u8], start: usize, count: usize, out: &mut [u32], at: usize)
     requires { ⌜ (start + 2 * count ≤ length (now bytes)) × (at + count ≤ length (now out)) ⌝ }
-    ensures { λ _. ⌜ now (out .exit) ≡ over at (numbersIn 2 (now (bytes .entry)) start count) (now (out .entry)) ⌝ }
+    ensures { λ _. ⌜ now (out .exit) ≡ overwrite at (numbersIn 2 (now (bytes .entry)) start count) (now (out .entry)) ⌝ }
 {
     let mut i = 0;
     while i < count {
@@ -79,7 +79,7 @@ pub fn read_u16s(bytes: &[u8], start: usize, count: usize, out: &mut [u32], at: 
 // Leaves the numbers, four bytes each, in `out` from index `at` on. Every pattern of a NaN is read as the one NaN.
 pub fn read_f32s(bytes: &[u8], start: usize, count: usize, out: &mut [f32], at: usize)
     requires { ⌜ (start + 4 * count ≤ length (now bytes)) × (at + count ≤ length (now out)) ⌝ }
-    ensures { λ _. ⌜ now (out .exit) ≡ over at (floatsIn binary32 (now (bytes .entry)) start count) (now (out .entry)) ⌝ }
+    ensures { λ _. ⌜ now (out .exit) ≡ overwrite at (floatsIn binary32 (now (bytes .entry)) start count) (now (out .entry)) ⌝ }
 {
     let mut i = 0;
     while i < count {

@@ -29,7 +29,7 @@ use Rattle.spec_angles.specs.Root.{unsigned}
 use Rattle.spec_angles.specs.Angle.{arcTangent, angle, askable, angleOrNan}
 use Rattle.spec_angles.specs.Winding as Winding
 use Rattle.spec_angles.specs.Windings.{windingAbout, windingAt}
-use Rattle.spec_angles.proofs.Asked.{asked}
+use Rattle.spec_angles.proofs.Needs.{askable-is}
 use Rattle.spec_angles.proofs.Arc.{angle-most}
 use Rattle.spec_angles.proofs.Within.{Within, Whole, small-whole, power-whole, within-more, round-within, add-within, sub-within, mul-within}
 use Rattle.spec_angles.proofs.Directions.{wide, direction-within}
@@ -71,7 +71,7 @@ unfolding angleOrNan arcTangent
 angle-within f n d N D s =
     let t : T (askable n d) = and-i (finite n && finite d) (not (eq n zero)) (and-i (finite n) (finite d) N D) s in
     rw (is-true (askable n d) t)
-    (round-within f (lt n zero) (angle f n d) (2 ^ 30) 4 (pow-pos 30) (few f 4 (lit< tt)) (le-trans (angle-most f n d (asked n d t)) (lit≤ tt)))
+    (round-within f (lt n zero) (angle f n d) (2 ^ 30) 4 (pow-pos 30) (few f 4 (lit< tt)) (le-trans (angle-most f n d (askable-is n d t)) (lit≤ tt)))
 
 -- ---- the solid angle
 zero-within : (c : ℕ) → Within c zero

@@ -11,7 +11,7 @@ pub mod Ratio
 pub mod InUnits
 pub mod Thirtieth
 pub mod Arc
-pub mod Asked
+pub mod Needs
 pub mod Windings
 pub mod Length
 pub mod Directions

@@ -1,4 +1,4 @@
--- The loops that make winding numbers: the sum over the triangles, one a turn (`Summed`), and the lent list, one number a turn (`Wound`).
+-- The loops that make winding numbers: the sum over the triangles, one a turn (`Summed`), and the lent list, one number a turn (`WindingsPut`).
 -- Then what stands in that list when the call is done, or refused.
 use mathlib.Core.Path.{_≡_, refl, ap, _∙_}
 use mathlib.Core.Bool.{true}
@@ -10,7 +10,7 @@ use native.Mathlib.Omega.{arith}
 use lib.ListN.{length, set}
 use lib.Ieee.{Float, Format, add, mul, div}
 use Rattle.spec_numbers.specs.Values.{zero}
-use Rattle.spec_tables.specs.Tables.{over, many}
+use Rattle.spec_tables.specs.Tables.{overwrite, concatMap}
 use Rattle.spec_tables.proofs.Runs.{Run, run-start, run-store, run-end}
 use Rattle.spec_shapes.specs.Points.{Point}
 use Rattle.spec_shapes.specs.Triangles.{Triangle}
@@ -46,24 +46,24 @@ module _ (f : Format) (triangles : List Float) (q : Point) (count : ℕ) where
       rw (s .is, e, C)
 
 -- ---- the list: the first k winding numbers stand in it
-pub record Wound (f : Format) (triangles points old : List Float) (count : ℕ) (out : List Float) (k : ℕ) : Type 0 where
+pub record WindingsPut (f : Format) (triangles points old : List Float) (count : ℕ) (out : List Float) (k : ℕ) : Type 0 where
   pub run : Run (λ j. windingAt f triangles points j ∷ []) 0 count old out k
 
 module _ (f : Format) (triangles points old : List Float) (count : ℕ) where
   -- before the first turn the lent list is as it was
-  pub fill-start : Wound f triangles points old count old 0
+  pub fill-start : WindingsPut f triangles points old count old 0
   fill-start = record { run = run-start _ 1 0 count old }
 
   -- a turn of the loop stores the next point's winding number
-  pub fill-more : (out : List Float) (k : ℕ) (q : Point) (w : Float) → count ≤ length old → k < count → Wound f triangles points old count out k → q ≡ pointAt points (3 * k)
-      → w ≡ windingAbout f triangles q → Wound f triangles points old count (set out k w) (k + 1)
+  pub fill-more : (out : List Float) (k : ℕ) (q : Point) (w : Float) → count ≤ length old → k < count → WindingsPut f triangles points old count out k → q ≡ pointAt points (3 * k)
+      → w ≡ windingAbout f triangles q → WindingsPut f triangles points old count (set out k w) (k + 1)
   unfolding windingAt
   fill-more out k q w room l h Q W = record { run = rw (zero-add k) at (run-store (windingAt f triangles points) 0 count old out k w (rw (zero-add count) room) l (h .run) (W ∙ ap (windingAbout f triangles) Q)) }
 
   -- after the last turn the list is as the definition writes it
-  pub fill-end : (out : List Float) (k : ℕ) → count ≡ pointCount points → count ≤ k → Wound f triangles points old count out k → out ≡ written f triangles points old
+  pub fill-end : (out : List Float) (k : ℕ) → count ≡ pointCount points → count ≤ k → WindingsPut f triangles points old count out k → out ≡ written f triangles points old
   unfolding written
-  fill-end out k C l h = run-end _ 0 count old out k l (h .run) ∙ ap (λ (n : ℕ). over 0 (many (λ j. windingAt f triangles points j ∷ []) n) old) C
+  fill-end out k C l h = run-end _ 0 count old out k l (h .run) ∙ ap (λ (n : ℕ). overwrite 0 (concatMap (λ j. windingAt f triangles points j ∷ []) n) old) C
 
 -- ---- the call
 module _ (triangles points old : List Float) where

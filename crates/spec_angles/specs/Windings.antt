@@ -3,7 +3,7 @@ use mathlib.Core.List.{List, [], _∷_}
 use Prim.Native.Nat.{ℕ, _*_}
 use lib.ListN.{length}
 use lib.Ieee.{Float, Format}
-use Rattle.spec_tables.specs.Tables.{over, many}
+use Rattle.spec_tables.specs.Tables.{overwrite, concatMap}
 use Rattle.spec_lists.specs.Reading.{triangleAt, triangleCount, pointAt, pointCount}
 use Rattle.spec_lists.specs.Refusals.{Verdict, firstRefusal, trianglesRefusal, roomRefusal, pointsRefusal, afterVerdict}
 use Rattle.spec_shapes.specs.Points.{Point}
@@ -23,7 +23,7 @@ windingRefusal triangles points room = firstRefusal (trianglesRefusal triangles 
 
 -- the lent list with one winding number a point from the front, and behind them what it held
 unfoldable pub written : Format → (triangles points old : List Float) → List Float
-written f triangles points old = over 0 (many (λ k. windingAt f triangles points k ∷ []) (pointCount points)) old
+written f triangles points old = overwrite 0 (concatMap (λ k. windingAt f triangles points k ∷ []) (pointCount points)) old
 
 -- the lent list afterwards: on a refusal, as it was
 unfoldable pub afterWinding : Format → (triangles points old : List Float) → List Float

@@ -9,13 +9,13 @@ use Rattle.spec_shapes.specs.Boxes.{Box, union}
 use Rattle.spec_tree.specs.Trees.{joinedTo, joined}
 use Rattle.spec_splits.specs.Splits.{unionOf}
 
-joined-from : (boxAt : ℕ → Box) (b : Box) (part : List ℕ) → foldl union b (map boxAt part) ≡ joinedTo boxAt b part
+joined-from : (boxAt : ℕ → Box) (b : Box) (slice : List ℕ) → foldl union b (map boxAt slice) ≡ joinedTo boxAt b slice
 unfolding joinedTo
 joined-from boxAt b [] = refl
-joined-from boxAt b (t ∷ part) = joined-from boxAt (union b (boxAt t)) part
+joined-from boxAt b (t ∷ slice) = joined-from boxAt (union b (boxAt t)) slice
 
 -- the union that the program makes of a slice's boxes is the box that the tree has over them
-pub union-is-joined : (f : Format) (boxAt : ℕ → Box) (part : List ℕ) → 0 < length part → unionOf f (map boxAt part) ≡ joined boxAt part
+pub union-is-joined : (f : Format) (boxAt : ℕ → Box) (slice : List ℕ) → 0 < length slice → unionOf f (map boxAt slice) ≡ joined boxAt slice
 unfolding unionOf joined
 union-is-joined f boxAt [] w = absurd (omega arith)
-union-is-joined f boxAt (t ∷ part) w = joined-from boxAt (boxAt t) part
+union-is-joined f boxAt (t ∷ slice) w = joined-from boxAt (boxAt t) slice

@@ -7,7 +7,7 @@ use Prim.Native.Nat.{ℕ, _+_, _*_, _≤_, _<_}
 use native.Mathlib.Omega.{arith}
 use lib.ListN.{length, take}
 use lib.Ieee.{Float, Format}
-use Rattle.spec_tables.specs.Tables.{over}
+use Rattle.spec_tables.specs.Tables.{overwrite}
 use Rattle.spec_numbers.proofs.Tests.{failed}
 use Rattle.spec_lists.specs.Reading.{boxAt, triangleCount}
 use Rattle.spec_lists.specs.Refusals.{Verdict, passes, refused, refuses, trianglesRefusal, Settings}
@@ -20,7 +20,7 @@ use Rattle.spec_tree.specs.Accepted.{Listing, accepted}
 use Rattle.spec_tree.specs.Depth.{depthOf}
 use Rattle.spec_tree.proofs.Accepted.{listed-accepted}
 use Rattle.spec_tree.proofs.Depth.{listing-depth}
-use Rattle.spec_build.specs.Build.{builtTree, mostNodes, buildRefusal, Built, made, answerBy, leftBy, BuildIs}
+use Rattle.spec_build.specs.Build.{builtTree, maxNodes, buildRefusal, Built, made, answerBy, leftBy, BuildIs}
 use Rattle.spec_build.proofs.Centres.{centre-number}
 use Rattle.spec_build.proofs.Inside.{HasCentre, tries-inside}
 use Rattle.spec_build.proofs.Built.{Whole, whole-nodes, whole-listing, grown-whole}
@@ -30,8 +30,8 @@ pub record Passed (triangles : List Float) (s : Settings) (order links : List �
   pub triangles-good : GoodTriangles triangles
   pub settings-good : GoodSettings s
   pub order-room : triangleCount triangles ≤ length order
-  pub links-room : 3 * mostNodes (triangleCount triangles) ≤ length links
-  pub boxes-room : 6 * mostNodes (triangleCount triangles) ≤ length boxes
+  pub links-room : 3 * maxNodes (triangleCount triangles) ≤ length links
+  pub boxes-room : 6 * maxNodes (triangleCount triangles) ≤ length boxes
 
 -- tests that passed give what the build needs: good triangles, good settings, room in each list
 pub build-passed : (triangles : List Float) (s : Settings) (order links : List ℕ) (boxes : List Float) → buildRefusal triangles s (length order) (length links) (length boxes) ≡ passes → Passed triangles s order links boxes
@@ -106,9 +106,9 @@ module _ (f : Format) (triangles : List Float) (s : Settings) (order links : Lis
   pub made-listing : Listing (boxAt triangles) (triangleCount triangles) (take (triangleCount triangles) order′) links′ boxes′ nodes (builtTree f triangles s)
   made-listing =
       let t : Tree = builtTree f triangles s in
-      let o : order′ ≡ over 0 (numbers t) order = b .order-is ∙ ap (λ (v : Verdict). leftBy v (numbers t) order) made-passed in
-      let l : links′ ≡ over 0 (linksFrom 0 0 t) links = b .links-are ∙ ap (λ (v : Verdict). leftBy v (linksFrom 0 0 t) links) made-passed in
-      let x : boxes′ ≡ over 0 (boxesOf (boxAt triangles) t) boxes = b .boxes-are ∙ ap (λ (v : Verdict). leftBy v (boxesOf (boxAt triangles) t) boxes) made-passed in
+      let o : order′ ≡ overwrite 0 (numbers t) order = b .order-is ∙ ap (λ (v : Verdict). leftBy v (numbers t) order) made-passed in
+      let l : links′ ≡ overwrite 0 (linksFrom 0 0 t) links = b .links-are ∙ ap (λ (v : Verdict). leftBy v (linksFrom 0 0 t) links) made-passed in
+      let x : boxes′ ≡ overwrite 0 (boxesOf (boxAt triangles) t) boxes = b .boxes-are ∙ ap (λ (v : Verdict). leftBy v (boxesOf (boxAt triangles) t) boxes) made-passed in
       rw (o, l, x, made-nodes) (whole-listing whole (boxAt triangles) order links boxes)
 
   -- the tree that is built passes the tree check

@@ -6,51 +6,51 @@ use native.Mathlib.Omega.{arith}
 use lib.ListN.{length, take, drop, getD}
 use lib.Seq.{getD-take, getD-drop, drop-at, length-take-le}
 use lib.Ieee.{Float, Format, nan}
-use Rattle.spec_tables.specs.Tables.{over, many}
-use Rattle.spec_tables.proofs.Tables.{length-many, length-over, part-many}
+use Rattle.spec_tables.specs.Tables.{overwrite, concatMap}
+use Rattle.spec_tables.proofs.Tables.{length-concatMap, length-overwrite, slice-concatMap}
 use Rattle.spec_shapes.specs.Boxes.{Box, Proper}
 use Rattle.spec_shapes.specs.Plain.{PlainBox}
-use Rattle.spec_lists.specs.Limits.{mostTriangles}
+use Rattle.spec_lists.specs.Limits.{maxTriangles}
 use Rattle.spec_lists.specs.Reading.{boxAt, triangleCount}
 use Rattle.spec_lists.specs.Refusals.{refused, Settings}
 use Rattle.spec_lists.specs.Passed.{AllFit}
 use Rattle.spec_lists.proofs.Reading.{triangle-inside, box-at-proper, box-at-plain}
 use Rattle.spec_tree.specs.Trees.{Tree, numbers, levels, rootFrom, linksFrom, sixOf, boxesOf}
-use Rattle.spec_tree.specs.Order.{upTo}
+use Rattle.spec_tree.specs.Order.{range}
 use Rattle.spec_sort.specs.Sort.{Each}
 use Rattle.spec_splits.specs.Splits.{boxIn}
 use Rattle.spec_tree.proofs.Trees.{root-last}
 use Rattle.spec_sort.proofs.Each.{each-permuted}
 use Rattle.spec_build.specs.Grown.{grown}
 use Rattle.spec_build.specs.Tries.{tried}
-use Rattle.spec_build.specs.Growing.{CentresAsked, Centred, Tabled, Growable, GrownIs}
-use Rattle.spec_build.specs.Build.{builtTree, buildRefusal, made, notMade, BuildIs, Asked}
-use Rattle.spec_build.proofs.Parts.{front-at}
+use Rattle.spec_build.specs.Growing.{CentresNeeds, Centred, Tabled, Growable, GrownIs}
+use Rattle.spec_build.specs.Build.{builtTree, buildRefusal, made, notMade, BuildIs, BuildNeeds}
+use Rattle.spec_build.proofs.Slices.{front-at}
 use Rattle.spec_build.proofs.Centres.{centre-number}
 use Rattle.spec_build.proofs.Alike.{Alike, tree-alike, listed-boxes-alike}
-use Rattle.spec_build.proofs.Built.{Whole, whole-nodes, front-over, each-up-to, up-to-length, whole-count}
+use Rattle.spec_build.proofs.Built.{Whole, whole-nodes, front-overwrite, each-range, range-length, whole-count}
 use Rattle.spec_build.proofs.Build.{Passed, build-passed, built-whole}
 
 -- ---- the table of boxes is read as it was written
 -- the i-th element of a piece
-many-in : {A : Type 0} (g : ℕ → List A) (w n t i : ℕ) (d : A) → ((j : ℕ) → length (g j) ≡ w) → t < n → i < w → getD (many g n) (w * t + i) d ≡ getD (g t) i d
-many-in {A} g w n t i d sized h k =
-    sym (getD-take w (drop (w * t) (many g n)) i d k ∙ getD-drop (w * t) (many g n) i d) ∙ ap (λ (l : List A). getD l i d) (part-many g w n t sized h)
+concatMap-in : {A : Type 0} (g : ℕ → List A) (w n t i : ℕ) (d : A) → ((j : ℕ) → length (g j) ≡ w) → t < n → i < w → getD (concatMap g n) (w * t + i) d ≡ getD (g t) i d
+concatMap-in {A} g w n t i d sized h k =
+    sym (getD-take w (drop (w * t) (concatMap g n)) i d k ∙ getD-drop (w * t) (concatMap g n) i d) ∙ ap (λ (l : List A). getD l i d) (slice-concatMap g w n t sized h)
 
 module _ (boxFor : ℕ → Box) (n : ℕ) (old : List Float) where
   table : List Float
-  table = over 0 (many (λ t. sixOf (boxFor t)) n) old
+  table = overwrite 0 (concatMap (λ t. sixOf (boxFor t)) n) old
 
   entry-is : (t i : ℕ) → t < n → i < 6 → getD table (6 * t + i) nan ≡ getD (sixOf (boxFor t)) i nan
   unfolding table
   entry-is t i h k =
-      let long : length (many (λ j. sixOf (boxFor j)) n) ≡ 6 * n = length-many (λ j. sixOf (boxFor j)) 6 n (λ j. refl) in
-      front-at (many (λ j. sixOf (boxFor j)) n) old (6 * t + i) nan (omega arith) ∙ many-in (λ j. sixOf (boxFor j)) 6 n t i nan (λ j. refl) h k
+      let long : length (concatMap (λ j. sixOf (boxFor j)) n) ≡ 6 * n = length-concatMap (λ j. sixOf (boxFor j)) 6 n (λ j. refl) in
+      front-at (concatMap (λ j. sixOf (boxFor j)) n) old (6 * t + i) nan (omega arith) ∙ concatMap-in (λ j. sixOf (boxFor j)) 6 n t i nan (λ j. refl) h k
 
   read : (at t i : ℕ) → t < n → i < 6 → at ≡ 6 * t + i → getD table at nan ≡ getD (sixOf (boxFor t)) i nan
   read at t i h k e = ap (λ (j : ℕ). getD table j nan) e ∙ entry-is t i h k
 
-  table-read : (t : ℕ) → t < n → boxIn (over 0 (many (λ j. sixOf (boxFor j)) n) old) t ≡ boxFor t
+  table-read : (t : ℕ) → t < n → boxIn (overwrite 0 (concatMap (λ j. sixOf (boxFor j)) n) old) t ≡ boxFor t
   unfolding boxIn table
   table-read t h =
       let a : getD table (6 * t) nan ≡ boxFor t .min .x = read (6 * t) t 0 h (omega arith) (omega arith) in
@@ -61,49 +61,49 @@ module _ (boxFor : ℕ → Box) (n : ℕ) (old : List Float) where
       let g : getD table (6 * t + 3 + 2) nan ≡ boxFor t .max .z = read (6 * t + 3 + 2) t 5 h (omega arith) (omega arith) in
       λ i. record { min = record { x = a i; y = b i; z = c i }; max = record { x = d i; y = e i; z = g i } }
 
-module _ (f : Format) (triangles : List Float) (s : Settings) (bounds centres : List Float) (scratch order links : List ℕ) (boxes : List Float) (h : Asked triangles s bounds centres scratch order links boxes)
+module _ (f : Format) (triangles : List Float) (s : Settings) (bounds centres : List Float) (scratch order links : List ℕ) (boxes : List Float) (h : BuildNeeds triangles s bounds centres scratch order links boxes)
     (fit : AllFit f triangles) (count : ℕ) (count-is : count ≡ triangleCount triangles) where
   passed : Passed triangles s order links boxes
   passed = build-passed triangles s order links boxes (h .passed)
 
-  few : count ≤ mostTriangles
+  few : count ≤ maxTriangles
   few = omega (arith, count-is, passed .triangles-good .few)
 
   some : 1 ≤ count
   some = omega (arith, count-is, passed .triangles-good .some)
 
   -- needs of the loop that puts the boxes of all triangles into their table
-  pub bounds-asks : (9 * count ≤ length triangles) × (6 * count ≤ length bounds)
-  bounds-asks = (omega (arith, count-is, passed .triangles-good .whole), omega (arith, few, h .bounds-long))
+  pub bounds-needs : (9 * count ≤ length triangles) × (6 * count ≤ length bounds)
+  bounds-needs = (omega (arith, count-is, passed .triangles-good .whole), omega (arith, few, h .bounds-long))
 
   -- needs of the loop that numbers the triangles in the order list
-  pub order-asks : (count ≤ mostTriangles) × (count ≤ length order)
-  order-asks = (few, omega (arith, count-is, passed .order-room))
+  pub order-needs : (count ≤ maxTriangles) × (count ≤ length order)
+  order-needs = (few, omega (arith, count-is, passed .order-room))
 
-  module _ (bounds′ : List Float) (bounds-are : bounds′ ≡ over 0 (many (λ t. sixOf (boxAt triangles t)) count) bounds) where
-    bounds-long′ : length bounds′ ≡ 6 * mostTriangles
+  module _ (bounds′ : List Float) (bounds-are : bounds′ ≡ overwrite 0 (concatMap (λ t. sixOf (boxAt triangles t)) count) bounds) where
+    bounds-long′ : length bounds′ ≡ 6 * maxTriangles
     bounds-long′ =
         ap length bounds-are
-        ∙ length-over 0 (many (λ t. sixOf (boxAt triangles t)) count) bounds (omega (arith, length-many (λ t. sixOf (boxAt triangles t)) 6 count (λ j. refl), bounds-asks .1))
+        ∙ length-overwrite 0 (concatMap (λ t. sixOf (boxAt triangles t)) count) bounds (omega (arith, length-concatMap (λ t. sixOf (boxAt triangles t)) 6 count (λ j. refl), bounds-needs .1))
         ∙ h .bounds-long
 
     -- needs of the loop that puts the centres of all triangles into their table
-    pub centres-asks : CentresAsked bounds′ count centres × (length centres ≡ 3 * mostTriangles)
-    centres-asks = (record { in-table = omega (arith, bounds-long′, few); few = few; room = omega (arith, few, h .centres-long) }, h .centres-long)
+    pub centres-needs : CentresNeeds bounds′ count centres × (length centres ≡ 3 * maxTriangles)
+    centres-needs = (record { in-table = omega (arith, bounds-long′, few); few = few; room = omega (arith, few, h .centres-long) }, h .centres-long)
 
     read-again : (t : ℕ) → t < count → boxIn bounds′ t ≡ boxAt triangles t
     read-again t w = ap (λ (l : List Float). boxIn l t) bounds-are ∙ table-read (boxAt triangles) count bounds t w
 
-    module _ (centres′ : List Float) (centred : Centred f bounds′ count centres centres′) (order′ : List ℕ) (order-is : order′ ≡ over 0 (upTo count) order) where
-      front : take count order′ ≡ upTo count
-      front = ap (take count) order-is ∙ front-over count (upTo count) order (up-to-length count)
+    module _ (centres′ : List Float) (centred : Centred f bounds′ count centres centres′) (order′ : List ℕ) (order-is : order′ ≡ overwrite 0 (range count) order) where
+      front : take count order′ ≡ range count
+      front = ap (take count) order-is ∙ front-overwrite count (range count) order (range-length count)
 
       order-long : length order′ ≡ length order
-      order-long = ap length order-is ∙ length-over 0 (upTo count) order (omega (arith, up-to-length count, order-asks .1))
+      order-long = ap length order-is ∙ length-overwrite 0 (range count) order (omega (arith, range-length count, order-needs .1))
 
       -- the order list has an entry a triangle, so its front can be lent
       pub count-within : count ≤ length order′
-      count-within = omega (arith, order-long, order-asks .1)
+      count-within = omega (arith, order-long, order-needs .1)
 
       tabled : (t : ℕ) → t < count → Tabled f bounds′ centres′ t
       tabled t w =
@@ -124,11 +124,11 @@ module _ (f : Format) (triangles : List Float) (s : Settings) (bounds centres : 
       front-long = length-take-le count order′ count-within
 
       front-tabled : Each (Tabled f bounds′ centres′) (take count order′)
-      front-tabled = rw front (each-up-to (Tabled f bounds′ centres′) count tabled)
+      front-tabled = rw front (each-range (Tabled f bounds′ centres′) count tabled)
 
       -- needs of growing the tree from its root: all triangles are in the tables, and the lists have room
-      pub grow-asks : (left : ℕ) → left ≡ s .maximumDepth - 1 → Growable f bounds′ centres′ (s .leafMinimum) left (take count order′) scratch 0 links boxes 0
-      grow-asks left e = record {
+      pub grow-needs : (remaining : ℕ) → remaining ≡ s .maximumDepth - 1 → Growable f bounds′ centres′ (s .leafMinimum) remaining (take count order′) scratch 0 links boxes 0
+      grow-needs remaining e = record {
         tabled = front-tabled;
         long = centred .long ∙ h .centres-long;
         leaf = passed .settings-good .leaf;
@@ -143,17 +143,17 @@ module _ (f : Format) (triangles : List Float) (s : Settings) (bounds centres : 
         };
       }
 
-      module _ (left : ℕ) (left-is : left ≡ s .maximumDepth - 1) (part′ links′ : List ℕ) (boxes′ : List Float) (root deep : ℕ) (box : Box)
-          (g : GrownIs f bounds′ (s .strategy) (s .leafMinimum) left (take count order′) part′ 0 links links′ boxes boxes′ 0 root deep box) where
+      module _ (remaining : ℕ) (remaining-is : remaining ≡ s .maximumDepth - 1) (slice′ links′ : List ℕ) (boxes′ : List Float) (root deep : ℕ) (box : Box)
+          (g : GrownIs f bounds′ (s .strategy) (s .leafMinimum) remaining (take count order′) slice′ 0 links links′ boxes boxes′ 0 root deep box) where
         whole : Tree
         whole = builtTree f triangles s
 
-        same-tree : grown (tried f (boxIn bounds′) (s .strategy)) (s .leafMinimum) left (take count order′) ≡ builtTree f triangles s
+        same-tree : grown (tried f (boxIn bounds′) (s .strategy)) (s .leafMinimum) remaining (take count order′) ≡ builtTree f triangles s
         unfolding builtTree
         same-tree =
-            ap₂ (λ (d : ℕ) (l : List ℕ). grown (tried f (boxIn bounds′) (s .strategy)) (s .leafMinimum) d l) left-is (front ∙ ap upTo count-is)
-            ∙ tree-alike (boxIn bounds′) (boxAt triangles) f (s .strategy) (s .leafMinimum) (s .maximumDepth - 1) (upTo (triangleCount triangles))
-            (each-up-to (Alike (boxIn bounds′) (boxAt triangles)) (triangleCount triangles) (λ t w. read-again t (omega (arith, count-is))))
+            ap₂ (λ (d : ℕ) (l : List ℕ). grown (tried f (boxIn bounds′) (s .strategy)) (s .leafMinimum) d l) remaining-is (front ∙ ap range count-is)
+            ∙ tree-alike (boxIn bounds′) (boxAt triangles) f (s .strategy) (s .leafMinimum) (s .maximumDepth - 1) (range (triangleCount triangles))
+            (each-range (Alike (boxIn bounds′) (boxAt triangles)) (triangleCount triangles) (λ t w. read-again t (omega (arith, count-is))))
 
         tree-whole : Whole (triangleCount triangles) (builtTree f triangles s)
         tree-whole = built-whole f triangles s (passed .triangles-good) (passed .settings-good)
@@ -162,30 +162,30 @@ module _ (f : Format) (triangles : List Float) (s : Settings) (bounds centres : 
         same-boxes =
             listed-boxes-alike (boxIn bounds′) (boxAt triangles) (builtTree f triangles s) (tree-whole .filled)
             (each-permuted (Alike (boxIn bounds′) (boxAt triangles)) (Permᴰ·symm (tree-whole .permuted))
-            (each-up-to (Alike (boxIn bounds′) (boxAt triangles)) (triangleCount triangles) (λ t w. read-again t (omega (arith, count-is)))))
+            (each-range (Alike (boxIn bounds′) (boxAt triangles)) (triangleCount triangles) (λ t w. read-again t (omega (arith, count-is)))))
 
         -- the root's number is in range, so the node count does not overflow
-        pub root-few : root + 1 ≤ 2 * mostTriangles
+        pub root-few : root + 1 ≤ 2 * maxTriangles
         root-few = omega (arith, g .written .root-is, ap (rootFrom 0) same-tree, root-last 0 (builtTree f triangles s), whole-nodes tree-whole, passed .triangles-good .few)
 
         numbers-long : length (numbers (builtTree f triangles s)) ≡ count
         numbers-long = whole-count tree-whole ∙ sym count-is
 
-        order-now : part′ ++ drop count order′ ≡ over 0 (numbers (builtTree f triangles s)) order
-        unfolding over
+        order-now : slice′ ++ drop count order′ ≡ overwrite 0 (numbers (builtTree f triangles s)) order
+        unfolding overwrite
         order-now =
-            let rest : drop count order′ ≡ drop (0 + length (upTo count)) order =
-            ap (drop count) order-is ∙ drop-at (upTo count) (drop (0 + length (upTo count)) order) count (up-to-length count) in
-            let same : length (upTo count) ≡ length (numbers (builtTree f triangles s)) = up-to-length count ∙ sym numbers-long in
+            let rest : drop count order′ ≡ drop (0 + length (range count)) order =
+            ap (drop count) order-is ∙ drop-at (range count) (drop (0 + length (range count)) order) count (range-length count) in
+            let same : length (range count) ≡ length (numbers (builtTree f triangles s)) = range-length count ∙ sym numbers-long in
             ap₂ (λ (a b : List ℕ). a ++ b) (g .order-is ∙ ap numbers same-tree) (rest ∙ ap (λ (n : ℕ). drop (0 + n) order) same)
 
         -- tables, order and growing together leave what the definition of the build says
-        pub build-gives : BuildIs f triangles s order links boxes (made (root + 1) deep) (part′ ++ drop count order′) links′ boxes′
+        pub build-gives : BuildIs f triangles s order links boxes (made (root + 1) deep) (slice′ ++ drop count order′) links′ boxes′
         build-gives = rw (h .passed) record {
           answer-is = ap₂ made (ap (λ (n : ℕ). n + 1) (g .written .root-is ∙ ap (rootFrom 0) same-tree) ∙ root-last 0 (builtTree f triangles s) ∙ omega arith) (g .written .levels-are ∙ ap levels same-tree);
           order-is = order-now;
-          links-are = g .written .links-are ∙ ap (λ (t : Tree). over 0 (linksFrom 0 0 t) links) same-tree;
-          boxes-are = g .written .boxes-are ∙ ap (λ (t : Tree). over 0 (boxesOf (boxIn bounds′) t) boxes) same-tree ∙ ap (λ (l : List Float). over 0 l boxes) same-boxes;
+          links-are = g .written .links-are ∙ ap (λ (t : Tree). overwrite 0 (linksFrom 0 0 t) links) same-tree;
+          boxes-are = g .written .boxes-are ∙ ap (λ (t : Tree). overwrite 0 (boxesOf (boxIn bounds′) t) boxes) same-tree ∙ ap (λ (l : List Float). overwrite 0 l boxes) same-boxes;
         }
 
 -- ---- what was refused

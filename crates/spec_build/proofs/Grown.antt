@@ -9,7 +9,7 @@ use lib.Dec.{leb}
 use lib.ListN.{length, take, drop, length-take, length-drop, take-append-drop}
 use Rattle.spec_tree.specs.Trees.{Tree, numbers, levels, Filled}
 use Rattle.spec_sort.specs.Sort.{Each}
-use Rattle.spec_build.specs.Grown.{Tried, cut, uncut, partOf, CutInside, parted, grownBy, grown, Trying}
+use Rattle.spec_build.specs.Grown.{Tried, cut, uncut, sliceOf, CutInside, parted, grownBy, grown, Trying}
 use Rattle.spec_tree.proofs.Order.{permuted-length}
 use Rattle.spec_sort.proofs.Each.{each-take, each-drop, each-permuted}
 
@@ -18,57 +18,57 @@ both-permuted {xs = xs} {ys = ys} p q = List·Permᴰ·trans (Permᴰ·append-ri
 
 -- ---- what is under a slice that was tried
 module _ (below : List ℕ → Tree) where
-  parted-permutes : ((part : List ℕ) → List·Permᴰ (numbers (below part)) part) → (r : Tried) → List·Permᴰ (numbers (parted below r)) (partOf r)
+  parted-permutes : ((slice : List ℕ) → List·Permᴰ (numbers (below slice)) slice) → (r : Tried) → List·Permᴰ (numbers (parted below r)) (sliceOf r)
   unfolding numbers
-  parted-permutes p (cut part k) =
-      subst (λ (l : List ℕ). List·Permᴰ (numbers (below (take k part)) ++ numbers (below (drop k part))) l) (take-append-drop k part)
-      (both-permuted (p (take k part)) (p (drop k part)))
-  parted-permutes p (uncut part) = Permᴰ·refl part
+  parted-permutes p (cut slice k) =
+      subst (λ (l : List ℕ). List·Permᴰ (numbers (below (take k slice)) ++ numbers (below (drop k slice))) l) (take-append-drop k slice)
+      (both-permuted (p (take k slice)) (p (drop k slice)))
+  parted-permutes p (uncut slice) = Permᴰ·refl slice
 
-  parted-levels : (most : ℕ) → ((part : List ℕ) → levels (below part) ≤ most) → (r : Tried) → levels (parted below r) ≤ suc most
+  parted-levels : (most : ℕ) → ((slice : List ℕ) → levels (below slice) ≤ most) → (r : Tried) → levels (parted below r) ≤ suc most
   unfolding levels
-  parted-levels most p (cut part k) = omega (arith, p (take k part), p (drop k part))
-  parted-levels most p (uncut part) = omega arith
+  parted-levels most p (cut slice k) = omega (arith, p (take k slice), p (drop k slice))
+  parted-levels most p (uncut slice) = omega arith
 
-  parted-filled : (Used : ℕ → Type 0) → ((part : List ℕ) → 0 < length part → Each Used part → Filled (below part))
-      → (r : Tried) → 0 < length (partOf r) → Each Used (partOf r) → CutInside r → Filled (parted below r)
-  parted-filled Used p (cut part k) w u i =
+  parted-filled : (Used : ℕ → Type 0) → ((slice : List ℕ) → 0 < length slice → Each Used slice → Filled (below slice))
+      → (r : Tried) → 0 < length (sliceOf r) → Each Used (sliceOf r) → CutInside r → Filled (parted below r)
+  parted-filled Used p (cut slice k) w u i =
       let some : 0 < k = i .0 in
-      let left : k < length part = i .1 in
-      (p (take k part) (omega (arith, length-take k part)) (each-take Used k part u), p (drop k part) (omega (arith, length-drop k part)) (each-drop Used k part u))
-  parted-filled Used p (uncut part) w u i = w
+      let left : k < length slice = i .1 in
+      (p (take k slice) (omega (arith, length-take k slice)) (each-take Used k slice u), p (drop k slice) (omega (arith, length-drop k slice)) (each-drop Used k slice u))
+  parted-filled Used p (uncut slice) w u i = w
 
 module _ {tried : List ℕ → Tried} {Used : ℕ → Type 0} (h : Trying tried Used) (leafMinimum : ℕ) where
   -- growing loses no triangle and repeats none
-  pub grown-permutes : (left : ℕ) (part : List ℕ) → List·Permᴰ (numbers (grown tried leafMinimum left part)) part
+  pub grown-permutes : (remaining : ℕ) (slice : List ℕ) → List·Permᴰ (numbers (grown tried leafMinimum remaining slice)) slice
   unfolding grown numbers
-  grown-permutes zero part = Permᴰ·refl part
-  grown-permutes (suc left) part = at (leb (length part) leafMinimum) (grown-permutes left)
+  grown-permutes zero slice = Permᴰ·refl slice
+  grown-permutes (suc remaining) slice = at (leb (length slice) leafMinimum) (grown-permutes remaining)
     where
-      at : (b : Bool) → ((p : List ℕ) → List·Permᴰ (numbers (grown tried leafMinimum left p)) p) → List·Permᴰ (numbers (grownBy b tried (grown tried leafMinimum left) part)) part
-      at true p = Permᴰ·refl part
-      at false p = List·Permᴰ·trans (parted-permutes (grown tried leafMinimum left) p (tried part)) (h .permutes part)
+      at : (b : Bool) → ((p : List ℕ) → List·Permᴰ (numbers (grown tried leafMinimum remaining p)) p) → List·Permᴰ (numbers (grownBy b tried (grown tried leafMinimum remaining) slice)) slice
+      at true p = Permᴰ·refl slice
+      at false p = List·Permᴰ·trans (parted-permutes (grown tried leafMinimum remaining) p (tried slice)) (h .permutes slice)
 
   -- a tree has no more levels than the depth limit leaves
-  pub grown-levels : (left : ℕ) (part : List ℕ) → levels (grown tried leafMinimum left part) ≤ left + 1
+  pub grown-levels : (remaining : ℕ) (slice : List ℕ) → levels (grown tried leafMinimum remaining slice) ≤ remaining + 1
   unfolding grown levels
-  grown-levels zero part = omega arith
-  grown-levels (suc left) part = at (leb (length part) leafMinimum) (grown-levels left)
+  grown-levels zero slice = omega arith
+  grown-levels (suc remaining) slice = at (leb (length slice) leafMinimum) (grown-levels remaining)
     where
-      at : (b : Bool) → ((p : List ℕ) → levels (grown tried leafMinimum left p) ≤ left + 1) → levels (grownBy b tried (grown tried leafMinimum left) part) ≤ suc left + 1
+      at : (b : Bool) → ((p : List ℕ) → levels (grown tried leafMinimum remaining p) ≤ remaining + 1) → levels (grownBy b tried (grown tried leafMinimum remaining) slice) ≤ suc remaining + 1
       at true p = omega arith
-      at false p = omega (arith, parted-levels (grown tried leafMinimum left) (left + 1) p (tried part))
+      at false p = omega (arith, parted-levels (grown tried leafMinimum remaining) (remaining + 1) p (tried slice))
 
   -- where every cut lies inside its slice, no leaf is empty
-  pub grown-filled : 1 ≤ leafMinimum → (left : ℕ) (part : List ℕ) → 0 < length part → Each Used part → Filled (grown tried leafMinimum left part)
+  pub grown-filled : 1 ≤ leafMinimum → (remaining : ℕ) (slice : List ℕ) → 0 < length slice → Each Used slice → Filled (grown tried leafMinimum remaining slice)
   unfolding grown
-  grown-filled m zero part w u = w
-  grown-filled m (suc left) part w u = at (leb (length part) leafMinimum) refl (grown-filled m left)
+  grown-filled m zero slice w u = w
+  grown-filled m (suc remaining) slice w u = at (leb (length slice) leafMinimum) refl (grown-filled m remaining)
     where
-      at : (b : Bool) → leb (length part) leafMinimum ≡ b → ((p : List ℕ) → 0 < length p → Each Used p → Filled (grown tried leafMinimum left p))
-          → Filled (grownBy b tried (grown tried leafMinimum left) part)
+      at : (b : Bool) → leb (length slice) leafMinimum ≡ b → ((p : List ℕ) → 0 < length p → Each Used p → Filled (grown tried leafMinimum remaining p))
+          → Filled (grownBy b tried (grown tried leafMinimum remaining) slice)
       at true e p = w
       at false e p =
-          let more : 1 < length part = omega (arith, leb-false (length part) leafMinimum e) in
-          let used : Each Used (partOf (tried part)) = each-permuted Used (Permᴰ·symm (h .permutes part)) u in
-          parted-filled (grown tried leafMinimum left) Used p (tried part) (omega (arith, permuted-length (h .permutes part))) used (h .inside part more u)
+          let more : 1 < length slice = omega (arith, leb-false (length slice) leafMinimum e) in
+          let used : Each Used (sliceOf (tried slice)) = each-permuted Used (Permᴰ·symm (h .permutes slice)) u in
+          parted-filled (grown tried leafMinimum remaining) Used p (tried slice) (omega (arith, permuted-length (h .permutes slice))) used (h .inside slice more u)

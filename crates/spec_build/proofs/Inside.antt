@@ -22,28 +22,28 @@ module _ (f : Format) (boxAt : ℕ → Box) where
   abbrev pub HasCentre : ℕ → Type 0
   HasCentre t = (axis : Axis) → Number (centreOn f boxAt axis t)
 
-  none-below : (axis : Axis) (t : ℕ) (part : List ℕ) → Each (λ u. isBefore f boxAt axis u t ≡ false) part → NoneBelow f axis (centreOn f boxAt axis t) (map boxAt part)
+  none-below : (axis : Axis) (t : ℕ) (slice : List ℕ) → Each (λ u. isBefore f boxAt axis u t ≡ false) slice → NoneBelow f axis (centreOn f boxAt axis t) (map boxAt slice)
   none-below axis t [] h = tt
-  none-below axis t (u ∷ part) h = (h .0, none-below axis t part (h .1))
+  none-below axis t (u ∷ slice) h = (h .0, none-below axis t slice (h .1))
 
-  first-is-least : (axis : Axis) (part : List ℕ) → Sorted (isBefore f boxAt axis) part → FirstIsLeast f axis (map boxAt part)
+  first-is-least : (axis : Axis) (slice : List ℕ) → Sorted (isBefore f boxAt axis) slice → FirstIsLeast f axis (map boxAt slice)
   first-is-least axis [] h = tt
-  first-is-least axis (t ∷ part) h = none-below axis t part (h .0)
+  first-is-least axis (t ∷ slice) h = none-below axis t slice (h .0)
 
   rules-inside : (median : Bool) (axis : Axis) (parent : Box) (bs : List Box) (k : ℕ) → 2 ≤ length bs → FirstIsLeast f axis bs → ruleBy median f axis parent bs ≡ cutAt k → CutsInside k (length bs)
   rules-inside true axis parent bs k w h e = median-inside f axis parent bs k w e
   rules-inside false axis parent bs k w h e = area-inside f axis parent bs k h e
 
-  split-inside : (part : List ℕ) (s : Split) → ((k : ℕ) → s ≡ cutAt k → CutsInside k (length part)) → CutInside (splitAs part s)
-  split-inside part (cutAt k) h = let i = h k refl in (i .after-first, i .before-end)
-  split-inside part nowhere h = tt
+  split-inside : (slice : List ℕ) (s : Split) → ((k : ℕ) → s ≡ cutAt k → CutsInside k (length slice)) → CutInside (splitAs slice s)
+  split-inside slice (cutAt k) h = let i = h k refl in (i .after-first, i .before-end)
+  split-inside slice nowhere h = tt
 
-  rule-inside : (strategy : ℕ) (axis : Axis) (parent : Box) (part : List ℕ) → 1 < length part → Sorted (isBefore f boxAt axis) part → CutInside (ruled f boxAt strategy axis parent part)
+  rule-inside : (strategy : ℕ) (axis : Axis) (parent : Box) (slice : List ℕ) → 1 < length slice → Sorted (isBefore f boxAt axis) slice → CutInside (ruled f boxAt strategy axis parent slice)
   unfolding rule
-  rule-inside strategy axis parent part w s =
-      let same : length (map boxAt part) ≡ length part = length-map part boxAt in
-      split-inside part (ruleBy (eqb strategy 1) f axis parent (map boxAt part)) (λ k e. rw same at (rules-inside (eqb strategy 1) axis parent (map boxAt part) k (omega arith) (first-is-least axis part s) e))
+  rule-inside strategy axis parent slice w s =
+      let same : length (map boxAt slice) ≡ length slice = length-map slice boxAt in
+      split-inside slice (ruleBy (eqb strategy 1) f axis parent (map boxAt slice)) (λ k e. rw same at (rules-inside (eqb strategy 1) axis parent (map boxAt slice) k (omega arith) (first-is-least axis slice s) e))
 
   -- by either strategy the tries only bring a slice into another order, and cut it inside
   pub tries-inside : (strategy : ℕ) → Trying (tried f boxAt strategy) HasCentre
-  tries-inside strategy = tried-trying f boxAt strategy HasCentre (λ axis t h. h axis) (λ axis parent part w u s. rule-inside strategy axis parent part w s)
+  tries-inside strategy = tried-trying f boxAt strategy HasCentre (λ axis t h. h axis) (λ axis parent slice w u s. rule-inside strategy axis parent slice w s)

@@ -9,7 +9,7 @@ pub mod Build
 pub mod Writing
 pub mod Growing
 pub mod Building
-pub mod Parts
+pub mod Slices
 pub mod Numbering
 pub mod Tabling
 pub mod Trying

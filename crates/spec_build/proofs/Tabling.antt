@@ -7,37 +7,37 @@ use native.Mathlib.Decide.{decLt}
 use native.Mathlib.Omega.{arith}
 use lib.ListN.{length, take, drop, getD}
 use lib.Ieee.{Float, Format, nan}
-use Rattle.spec_tables.specs.Tables.{over, many, part}
-use Rattle.spec_tables.proofs.Tables.{length-many, length-over}
+use Rattle.spec_tables.specs.Tables.{overwrite, concatMap, slice}
+use Rattle.spec_tables.proofs.Tables.{length-concatMap, length-overwrite}
 use Rattle.spec_numbers.specs.Axes.{Axis, X, Y, Z}
-use Rattle.spec_lists.specs.Limits.{mostTriangles}
+use Rattle.spec_lists.specs.Limits.{maxTriangles}
 use Rattle.spec_splits.specs.Splits.{place, boxIn}
-use Rattle.spec_tree.proofs.Standing.{part-length}
+use Rattle.spec_tree.proofs.Standing.{slice-length}
 use Rattle.spec_splits.proofs.Table.{place-below}
 use Rattle.spec_build.specs.Tries.{centreOn}
 use Rattle.spec_build.specs.Growing.{keysOn, CentresPut, Centred}
-use Rattle.spec_build.proofs.Parts.{put-back, part-written, part-in-front, part-behind, many-at, front-at}
+use Rattle.spec_build.proofs.Slices.{put-back, slice-written, slice-in-front, slice-behind, concatMap-at, front-at}
 
-module _ (f : Format) (bounds : List Float) (axis : Axis) (count first size : ℕ) (old keys′ : List Float) (long : length old ≡ 3 * mostTriangles) (few : count ≤ mostTriangles)
-    (at : first ≡ place axis * mostTriangles) (sized : size ≡ mostTriangles) (keys-are : keys′ ≡ over 0 (many (λ t. centreOn f (boxIn bounds) axis t ∷ []) count) (part old first size)) where
+module _ (f : Format) (bounds : List Float) (axis : Axis) (count first size : ℕ) (old keys′ : List Float) (long : length old ≡ 3 * maxTriangles) (few : count ≤ maxTriangles)
+    (at : first ≡ place axis * maxTriangles) (sized : size ≡ maxTriangles) (keys-are : keys′ ≡ overwrite 0 (concatMap (λ t. centreOn f (boxIn bounds) axis t ∷ []) count) (slice old first size)) where
   pieces : List Float
-  pieces = many (λ t. centreOn f (boxIn bounds) axis t ∷ []) count
+  pieces = concatMap (λ t. centreOn f (boxIn bounds) axis t ∷ []) count
 
   pieces-long : length pieces ≡ count
   unfolding pieces
-  pieces-long = length-many (λ t. centreOn f (boxIn bounds) axis t ∷ []) 1 count (λ t. refl) ∙ omega arith
+  pieces-long = length-concatMap (λ t. centreOn f (boxIn bounds) axis t ∷ []) 1 count (λ t. refl) ∙ omega arith
 
-  part-long : length (part old first size) ≡ mostTriangles
-  part-long = part-length old first size (omega (arith, place-below axis)) ∙ sized
+  slice-long : length (slice old first size) ≡ maxTriangles
+  slice-long = slice-length old first size (omega (arith, place-below axis)) ∙ sized
 
-  keys-long : length keys′ ≡ mostTriangles
+  keys-long : length keys′ ≡ maxTriangles
   unfolding pieces
-  keys-long = ap length keys-are ∙ length-over 0 pieces (part old first size) (omega (arith, pieces-long, part-long)) ∙ part-long
+  keys-long = ap length keys-are ∙ length-overwrite 0 pieces (slice old first size) (omega (arith, pieces-long, slice-long)) ∙ slice-long
 
   centres : List Float
-  centres = over (place axis * mostTriangles) keys′ old
+  centres = overwrite (place axis * maxTriangles) keys′ old
 
-  room : place axis * mostTriangles + length keys′ ≤ length old
+  room : place axis * maxTriangles + length keys′ ≤ length old
   room = omega (arith, keys-long, place-below axis)
 
   apart : (other : Axis) → (place other ≡ place axis → ⊥) → (place other < place axis) ⊎ (place axis < place other)
@@ -51,20 +51,20 @@ module _ (f : Format) (bounds : List Float) (axis : Axis) (count first size : �
   pub centres-put : (new : List Float) → new ≡ take first old ++ (keys′ ++ drop size (drop first old)) → CentresPut f bounds axis count old new
   unfolding pieces centres
   centres-put new e =
-      let is : new ≡ centres = e ∙ put-back first size keys′ old (keys-long ∙ sym sized) ∙ ap (λ (k : ℕ). over k keys′ old) at in
+      let is : new ≡ centres = e ∙ put-back first size keys′ old (keys-long ∙ sym sized) ∙ ap (λ (k : ℕ). overwrite k keys′ old) at in
       record {
         here = λ t h.
             ap (λ (l : List Float). getD (keysOn axis l) t nan) is
-            ∙ ap (λ (l : List Float). getD l t nan) (part-written (place axis * mostTriangles) keys′ old room mostTriangles keys-long ∙ keys-are)
-            ∙ front-at pieces (part old first size) t nan (omega (arith, pieces-long))
-            ∙ many-at (centreOn f (boxIn bounds) axis) count t nan h;
+            ∙ ap (λ (l : List Float). getD l t nan) (slice-written (place axis * maxTriangles) keys′ old room maxTriangles keys-long ∙ keys-are)
+            ∙ front-at pieces (slice old first size) t nan (omega (arith, pieces-long))
+            ∙ concatMap-at (centreOn f (boxIn bounds) axis) count t nan h;
         elsewhere = λ other d.
             ap (keysOn other) is
             ∙ ⊎-elim
-            (λ (l : place other < place axis). part-in-front (place axis * mostTriangles) keys′ old room (place other * mostTriangles) mostTriangles (omega arith))
-            (λ (l : place axis < place other). part-behind (place axis * mostTriangles) keys′ old room (place other * mostTriangles) mostTriangles (omega (arith, keys-long)))
+            (λ (l : place other < place axis). slice-in-front (place axis * maxTriangles) keys′ old room (place other * maxTriangles) maxTriangles (omega arith))
+            (λ (l : place axis < place other). slice-behind (place axis * maxTriangles) keys′ old room (place other * maxTriangles) maxTriangles (omega (arith, keys-long)))
             (apart other d);
-        long = ap length is ∙ length-over (place axis * mostTriangles) keys′ old room;
+        long = ap length is ∙ length-overwrite (place axis * maxTriangles) keys′ old room;
       }
 
 -- made axis by axis, the table holds the centres on all three
@@ -77,5 +77,5 @@ all-centred f bounds count old x y z p q r = record { centre-is = at; long = r .
     at Z t h = r .here t h
 
 -- the slice of the table that is lent to the sort is the axis's centres
-pub keys-lent : (axis : Axis) (centres : List Float) (first size : ℕ) → first ≡ place axis * mostTriangles → size ≡ mostTriangles → part centres first size ≡ keysOn axis centres
-keys-lent axis centres first size e sized = ap₂ (λ (a k : ℕ). part centres a k) e sized
+pub keys-lent : (axis : Axis) (centres : List Float) (first size : ℕ) → first ≡ place axis * maxTriangles → size ≡ maxTriangles → slice centres first size ≡ keysOn axis centres
+keys-lent axis centres first size e sized = ap₂ (λ (a k : ℕ). slice centres a k) e sized

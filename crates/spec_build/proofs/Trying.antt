@@ -6,46 +6,46 @@ use native.Mathlib.Omega.{arith}
 use lib.ListN.{length}
 use lib.Ieee.{Float, Format, lt}
 use Rattle.spec_numbers.specs.Axes.{Axis}
-use Rattle.spec_lists.specs.Limits.{mostTriangles}
+use Rattle.spec_lists.specs.Limits.{maxTriangles}
 use Rattle.spec_shapes.specs.Points.{on}
 use Rattle.spec_shapes.specs.Boxes.{Box, sizes}
 use Rattle.spec_sort.specs.Sort.{Each, Keyed, byKey, sorted}
 use Rattle.spec_splits.specs.Splits.{Split, cutAt, nowhere, place, boxIn, unionOf}
 use Rattle.spec_tree.proofs.Order.{permuted-length}
-use Rattle.spec_tree.proofs.Standing.{part-length}
+use Rattle.spec_tree.proofs.Standing.{slice-length}
 use Rattle.spec_sort.proofs.Each.{each-weaker, each-at, each-permuted}
 use Rattle.spec_sort.proofs.Permutes.{sorted-permutes}
 use Rattle.spec_splits.proofs.Table.{place-below}
-use Rattle.spec_build.specs.Grown.{Tried, cut, uncut, partOf}
+use Rattle.spec_build.specs.Grown.{Tried, cut, uncut, sliceOf}
 use Rattle.spec_build.specs.Tries.{axesBySize, rule, splitAs, orElse, isBefore, sortedOn, triedOn, triedIn, triedWithin, tried}
-use Rattle.spec_build.specs.Growing.{keysOn, Tabled, SortAsked, RuleAsked, Triable}
-use Rattle.spec_build.proofs.Tries.{split-part, tried-on-permutes}
+use Rattle.spec_build.specs.Growing.{keysOn, Tabled, SortNeeds, RuleNeeds, Triable}
+use Rattle.spec_build.proofs.Tries.{split-slice, tried-on-permutes}
 use Rattle.spec_build.proofs.Alike.{sorted-alike}
 use Rattle.spec_build.proofs.Boxes.{union-is-joined}
 
 module _ (f : Format) (bounds centres : List Float) where
   -- ---- sorting
-  module _ (axis : Axis) (long : length centres ≡ 3 * mostTriangles) where
-    keys-long : length (keysOn axis centres) ≡ mostTriangles
-    keys-long = part-length centres (place axis * mostTriangles) mostTriangles (omega (arith, place-below axis))
+  module _ (axis : Axis) (long : length centres ≡ 3 * maxTriangles) where
+    keys-long : length (keysOn axis centres) ≡ maxTriangles
+    keys-long = slice-length centres (place axis * maxTriangles) maxTriangles (omega (arith, place-below axis))
 
     tabled-keyed : (t : ℕ) → Tabled f bounds centres t → Keyed (keysOn axis centres) t
     tabled-keyed t h = record { within = omega (arith, h .few, keys-long); number = rw (h .centre-is axis) (h .centred axis) }
 
-  sorted-as-defined : (axis : Axis) (part : List ℕ) → Each (Tabled f bounds centres) part → sorted (byKey (keysOn axis centres)) part ≡ sortedOn f (boxIn bounds) axis part
+  sorted-as-defined : (axis : Axis) (slice : List ℕ) → Each (Tabled f bounds centres) slice → sorted (byKey (keysOn axis centres)) slice ≡ sortedOn f (boxIn bounds) axis slice
   unfolding byKey
-  sorted-as-defined axis part u =
-      sorted-alike (byKey (keysOn axis centres)) (isBefore f (boxIn bounds) axis) (Tabled f bounds centres) (λ a b p q. ap₂ lt (p .centre-is axis) (q .centre-is axis)) part u
+  sorted-as-defined axis slice u =
+      sorted-alike (byKey (keysOn axis centres)) (isBefore f (boxIn bounds) axis) (Tabled f bounds centres) (λ a b p q. ap₂ lt (p .centre-is axis) (q .centre-is axis)) slice u
 
-  module _ {part scratch : List ℕ} (h : Triable f bounds centres part scratch) where
+  module _ {slice scratch : List ℕ} (h : Triable f bounds centres slice scratch) where
     -- needs of the sort, of a slice that may be tried
-    pub try-sort-asks : (axis : Axis) → SortAsked axis centres part scratch
-    try-sort-asks axis = record { keyed = each-weaker _ _ (tabled-keyed axis (h .long)) part (h .tabled); long = h .long; room = h .room }
+    pub try-sort-needs : (axis : Axis) → SortNeeds axis centres slice scratch
+    try-sort-needs axis = record { keyed = each-weaker _ _ (tabled-keyed axis (h .long)) slice (h .tabled); long = h .long; room = h .room }
 
     -- in any other order it may be tried again
-    triable-again : (part′ scratch′ : List ℕ) → List·Permᴰ part′ part → length scratch′ ≡ length scratch → Triable f bounds centres part′ scratch′
-    triable-again part′ scratch′ p e =
-        let same : length part′ ≡ length part = permuted-length p in
+    triable-again : (slice′ scratch′ : List ℕ) → List·Permᴰ slice′ slice → length scratch′ ≡ length scratch → Triable f bounds centres slice′ scratch′
+    triable-again slice′ scratch′ p e =
+        let same : length slice′ ≡ length slice = permuted-length p in
         record {
           tabled = each-permuted (Tabled f bounds centres) (Permᴰ·symm p) (h .tabled);
           long = h .long;
@@ -55,61 +55,61 @@ module _ (f : Format) (bounds centres : List Float) where
         }
 
     -- needs of the rule, of a slice that may be tried
-    pub try-rule-asks : RuleAsked f bounds part
-    try-rule-asks = record {
+    pub try-rule-needs : RuleNeeds f bounds slice
+    try-rule-needs = record {
       boxed = record {
-        in-table = λ i k. each-at (Tabled f bounds centres) part i 0 k (h .tabled) .in-table;
-        plain = λ i k. each-at (Tabled f bounds centres) part i 0 k (h .tabled) .plain;
+        in-table = λ i k. each-at (Tabled f bounds centres) slice i 0 k (h .tabled) .in-table;
+        plain = λ i k. each-at (Tabled f bounds centres) slice i 0 k (h .tabled) .plain;
       };
       some = h .some;
       few = h .few;
     }
 
     -- after a try that failed, the slice may be tried on the next axis
-    pub next-asks : (strategy : ℕ) (axis : Axis) (parent : Box) (part′ scratch′ : List ℕ) (split : Split) → splitAs part′ split ≡ triedOn f (boxIn bounds) strategy axis parent part → length scratch′ ≡ length scratch
-        → Triable f bounds centres part′ scratch′
-    next-asks strategy axis parent part′ scratch′ split e same =
-        triable-again part′ scratch′ (subst (λ (l : List ℕ). List·Permᴰ l part) (sym (ap partOf e) ∙ split-part part′ split) (tried-on-permutes f (boxIn bounds) strategy axis parent part)) same
+    pub next-needs : (strategy : ℕ) (axis : Axis) (parent : Box) (slice′ scratch′ : List ℕ) (split : Split) → splitAs slice′ split ≡ triedOn f (boxIn bounds) strategy axis parent slice → length scratch′ ≡ length scratch
+        → Triable f bounds centres slice′ scratch′
+    next-needs strategy axis parent slice′ scratch′ split e same =
+        triable-again slice′ scratch′ (subst (λ (l : List ℕ). List·Permᴰ l slice) (sym (ap sliceOf e) ∙ split-slice slice′ split) (tried-on-permutes f (boxIn bounds) strategy axis parent slice)) same
 
-    module _ (strategy : ℕ) (axis : Axis) (parent : Box) (part′ : List ℕ) (sorted-is : part′ ≡ sorted (byKey (keysOn axis centres)) part) where
+    module _ (strategy : ℕ) (axis : Axis) (parent : Box) (slice′ : List ℕ) (sorted-is : slice′ ≡ sorted (byKey (keysOn axis centres)) slice) where
       -- a slice that was sorted may still be tried
-      pub try-sorted : Triable f bounds centres part′ scratch
-      try-sorted = triable-again part′ scratch (rw sorted-is (sorted-permutes (byKey (keysOn axis centres)) part)) refl
+      pub try-sorted : Triable f bounds centres slice′ scratch
+      try-sorted = triable-again slice′ scratch (rw sorted-is (sorted-permutes (byKey (keysOn axis centres)) slice)) refl
 
       -- sorting by the table's centres and then asking the rule is the try as defined
-      pub try-gives : (split : Split) → split ≡ rule f strategy axis parent (map (boxIn bounds) part′) → splitAs part′ split ≡ triedOn f (boxIn bounds) strategy axis parent part
+      pub try-gives : (split : Split) → split ≡ rule f strategy axis parent (map (boxIn bounds) slice′) → splitAs slice′ split ≡ triedOn f (boxIn bounds) strategy axis parent slice
       unfolding triedOn
       try-gives split e =
-          ap (splitAs part′) e
-          ∙ ap (λ (s : List ℕ). splitAs s (rule f strategy axis parent (map (boxIn bounds) s))) (sorted-is ∙ sorted-as-defined axis part (h .tabled))
+          ap (splitAs slice′) e
+          ∙ ap (λ (s : List ℕ). splitAs s (rule f strategy axis parent (map (boxIn bounds) s))) (sorted-is ∙ sorted-as-defined axis slice (h .tabled))
 
 -- ---- the tries in turn
 module _ (f : Format) (boxAt : ℕ → Box) (strategy : ℕ) (parent : Box) where
   -- a try that cuts ends the tries
-  pub stays-cut : (axis : Axis) (axes : List Axis) (part part′ : List ℕ) (split : Split) (k : ℕ) → split ≡ cutAt k → splitAs part′ split ≡ triedOn f boxAt strategy axis parent part
-      → cut part′ k ≡ triedIn f boxAt strategy (axis ∷ axes) parent part
+  pub stays-cut : (axis : Axis) (axes : List Axis) (slice slice′ : List ℕ) (split : Split) (k : ℕ) → split ≡ cutAt k → splitAs slice′ split ≡ triedOn f boxAt strategy axis parent slice
+      → cut slice′ k ≡ triedIn f boxAt strategy (axis ∷ axes) parent slice
   unfolding triedIn
-  stays-cut axis axes part part′ split k s e = ap (orElse (triedIn f boxAt strategy axes parent)) (ap (splitAs part′) (sym s) ∙ e)
+  stays-cut axis axes slice slice′ split k s e = ap (orElse (triedIn f boxAt strategy axes parent)) (ap (splitAs slice′) (sym s) ∙ e)
 
   -- a try that fails leaves its order to the next axis
-  pub tries-next : (axis : Axis) (axes : List Axis) (part part′ : List ℕ) (split : Split) (r : Tried) → split ≡ nowhere → splitAs part′ split ≡ triedOn f boxAt strategy axis parent part
-      → r ≡ triedIn f boxAt strategy axes parent part′ → r ≡ triedIn f boxAt strategy (axis ∷ axes) parent part
+  pub tries-next : (axis : Axis) (axes : List Axis) (slice slice′ : List ℕ) (split : Split) (r : Tried) → split ≡ nowhere → splitAs slice′ split ≡ triedOn f boxAt strategy axis parent slice
+      → r ≡ triedIn f boxAt strategy axes parent slice′ → r ≡ triedIn f boxAt strategy (axis ∷ axes) parent slice
   unfolding triedIn
-  tries-next axis axes part part′ split r s e h = h ∙ ap (orElse (triedIn f boxAt strategy axes parent)) (ap (splitAs part′) (sym s) ∙ e)
+  tries-next axis axes slice slice′ split r s e h = h ∙ ap (orElse (triedIn f boxAt strategy axes parent)) (ap (splitAs slice′) (sym s) ∙ e)
 
   -- on the last axis a try's answer is the answer of the tries
-  pub tries-last : (axis : Axis) (part : List ℕ) (r : Tried) → r ≡ triedOn f boxAt strategy axis parent part → r ≡ triedIn f boxAt strategy (axis ∷ []) parent part
+  pub tries-last : (axis : Axis) (slice : List ℕ) (r : Tried) → r ≡ triedOn f boxAt strategy axis parent slice → r ≡ triedIn f boxAt strategy (axis ∷ []) parent slice
   unfolding triedIn
-  tries-last axis part (cut part′ k) e = ap (orElse (triedIn f boxAt strategy [] parent)) e
-  tries-last axis part (uncut part′) e = ap (orElse (triedIn f boxAt strategy [] parent)) e
+  tries-last axis slice (cut slice′ k) e = ap (orElse (triedIn f boxAt strategy [] parent)) e
+  tries-last axis slice (uncut slice′) e = ap (orElse (triedIn f boxAt strategy [] parent)) e
 
   -- on the axes by size, the largest first, the tries are those within the parent's box
-  pub in-turn : (axes : List Axis) (part : List ℕ) (r : Tried) → axes ≡ axesBySize (λ axis. on axis (sizes f parent)) → r ≡ triedIn f boxAt strategy axes parent part → r ≡ triedWithin f boxAt strategy parent part
+  pub in-turn : (axes : List Axis) (slice : List ℕ) (r : Tried) → axes ≡ axesBySize (λ axis. on axis (sizes f parent)) → r ≡ triedIn f boxAt strategy axes parent slice → r ≡ triedWithin f boxAt strategy parent slice
   unfolding triedWithin
-  in-turn axes part r e h = h ∙ ap (λ (l : List Axis). triedIn f boxAt strategy l parent part) e
+  in-turn axes slice r e h = h ∙ ap (λ (l : List Axis). triedIn f boxAt strategy l parent slice) e
 
 -- within the union of its boxes, the tries of a slice are the tries as defined
-pub tried-is : (f : Format) (boxAt : ℕ → Box) (strategy : ℕ) (part : List ℕ) (parent : Box) (r : Tried) → 0 < length part → parent ≡ unionOf f (map boxAt part) → r ≡ triedWithin f boxAt strategy parent part
-    → r ≡ tried f boxAt strategy part
+pub tried-is : (f : Format) (boxAt : ℕ → Box) (strategy : ℕ) (slice : List ℕ) (parent : Box) (r : Tried) → 0 < length slice → parent ≡ unionOf f (map boxAt slice) → r ≡ triedWithin f boxAt strategy parent slice
+    → r ≡ tried f boxAt strategy slice
 unfolding tried
-tried-is f boxAt strategy part parent r w e h = h ∙ ap (λ (b : Box). triedWithin f boxAt strategy b part) (e ∙ union-is-joined f boxAt part w)
+tried-is f boxAt strategy slice parent r w e h = h ∙ ap (λ (b : Box). triedWithin f boxAt strategy b slice) (e ∙ union-is-joined f boxAt slice w)

@@ -6,8 +6,8 @@ use Prim.Native.Nat.{ℕ, _+_, _*_, _≤_, _<_, max}
 use native.Mathlib.Omega.{arith}
 use lib.ListN.{length, length-append}
 use lib.Ieee.{Float, Format}
-use Rattle.spec_tables.specs.Tables.{over}
-use Rattle.spec_tables.proofs.Tables.{then-over}
+use Rattle.spec_tables.specs.Tables.{overwrite}
+use Rattle.spec_tables.proofs.Tables.{then-overwrite}
 use Rattle.spec_shapes.specs.Boxes.{Box, union}
 use Rattle.spec_tree.specs.Trees.{Tree, leaf, branch, numbers, nodeCount, levels, joined, rootFrom, linksFrom, sixOf, boxOver, boxesOf}
 use Rattle.spec_splits.specs.Splits.{unionOf}
@@ -17,26 +17,26 @@ use Rattle.spec_build.proofs.Boxes.{union-is-joined}
 
 -- ---- a leaf
 -- a leaf's links and box, written at its node, are the nodes of a tree that is a leaf
-pub leaf-written : (f : Format) (boxAt : ℕ → Box) (part : List ℕ) (entry node : ℕ) (links links′ : List ℕ) (boxes boxes′ : List Float) (box : Box) → 0 < length part
-    → box ≡ unionOf f (map boxAt part) → links′ ≡ over (3 * node) (1 ∷ entry ∷ (entry + length part) ∷ []) links → boxes′ ≡ over (6 * node) (sixOf box) boxes
-    → Written boxAt (leaf part) entry node links links′ boxes boxes′ node 1 box
+pub leaf-written : (f : Format) (boxAt : ℕ → Box) (slice : List ℕ) (entry node : ℕ) (links links′ : List ℕ) (boxes boxes′ : List Float) (box : Box) → 0 < length slice
+    → box ≡ unionOf f (map boxAt slice) → links′ ≡ overwrite (3 * node) (1 ∷ entry ∷ (entry + length slice) ∷ []) links → boxes′ ≡ overwrite (6 * node) (sixOf box) boxes
+    → Written boxAt (leaf slice) entry node links links′ boxes boxes′ node 1 box
 unfolding linksFrom boxesOf rootFrom levels boxOver
-leaf-written f boxAt part entry node links links′ boxes boxes′ box w b l e =
-    let over-part : box ≡ joined boxAt part = b ∙ union-is-joined f boxAt part w in
+leaf-written f boxAt slice entry node links links′ boxes boxes′ box w b l e =
+    let over-slice : box ≡ joined boxAt slice = b ∙ union-is-joined f boxAt slice w in
     record {
       links-are = l;
-      boxes-are = e ∙ ap (λ (x : Box). over (6 * node) (sixOf x) boxes) over-part;
+      boxes-are = e ∙ ap (λ (x : Box). overwrite (6 * node) (sixOf x) boxes) over-slice;
       root-is = refl;
       levels-are = refl;
-      box-is = over-part;
+      box-is = over-slice;
     }
 
 -- ---- a branch
 -- three writes, one behind the other
-three-writes : {A : Type 0} (at : ℕ) (xs ys zs old mid late out : List A) (i j : ℕ) → mid ≡ over at xs old → late ≡ over i ys mid → out ≡ over j zs late
-    → i ≡ at + length xs → j ≡ i + length ys → j + length zs ≤ length old → out ≡ over at (xs ++ ys ++ zs) old
+three-writes : {A : Type 0} (at : ℕ) (xs ys zs old mid late out : List A) (i j : ℕ) → mid ≡ overwrite at xs old → late ≡ overwrite i ys mid → out ≡ overwrite j zs late
+    → i ≡ at + length xs → j ≡ i + length ys → j + length zs ≤ length old → out ≡ overwrite at (xs ++ ys ++ zs) old
 three-writes at xs ys zs old mid late out i j p q r e d room =
-    then-over at j (xs ++ ys) zs old late out (then-over at i xs ys old mid late p q e (omega arith)) r (omega (arith, length-append xs ys)) room
+    then-overwrite at j (xs ++ ys) zs old late out (then-overwrite at i xs ys old mid late p q e (omega arith)) r (omega (arith, length-append xs ys)) room
 
 module _ (boxAt : ℕ → Box) (l r : Tree) (entry node : ℕ) (links mid late links′ : List ℕ) (boxes bmid blate boxes′ : List Float) (leftRoot leftLevels : ℕ) (leftBox : Box) (rightRoot rightLevels : ℕ) (rightBox : Box)
     (root deep : ℕ) (box : Box) (left : Written boxAt l entry node links mid boxes bmid leftRoot leftLevels leftBox)
@@ -54,15 +54,15 @@ module _ (boxAt : ℕ → Box) (l r : Tree) (entry node : ℕ) (links mid late l
   branch-written links-room boxes-room = record {
     links-are = three-writes (3 * node) (linksFrom node entry l) (linksFrom (node + nodeCount l) (entry + length (numbers l)) r) (2 ∷ rootFrom node l ∷ rootFrom (node + nodeCount l) r ∷ []) links mid late links′ (3 * (leftRoot + 1)) (3 * (rightRoot + 1))
         (left .links-are)
-        (right .links-are ∙ ap (λ (k : ℕ). over (3 * (leftRoot + 1)) (linksFrom k (entry + length (numbers l)) r) mid) second)
-        (put .links-are ∙ ap₂ (λ (x y : ℕ). over (3 * (rightRoot + 1)) (2 ∷ x ∷ y ∷ []) late) (left .root-is) (right .root-is ∙ ap (λ (k : ℕ). rootFrom k r) second))
+        (right .links-are ∙ ap (λ (k : ℕ). overwrite (3 * (leftRoot + 1)) (linksFrom k (entry + length (numbers l)) r) mid) second)
+        (put .links-are ∙ ap₂ (λ (x y : ℕ). overwrite (3 * (rightRoot + 1)) (2 ∷ x ∷ y ∷ []) late) (left .root-is) (right .root-is ∙ ap (λ (k : ℕ). rootFrom k r) second))
         (omega (arith, second, links-length node entry l))
         (omega (arith, second, third, links-length (node + nodeCount l) (entry + length (numbers l)) r))
         (omega arith);
     boxes-are = three-writes (6 * node) (boxesOf boxAt l) (boxesOf boxAt r) (sixOf (union (boxOver boxAt l) (boxOver boxAt r))) boxes bmid blate boxes′ (6 * (leftRoot + 1)) (6 * (rightRoot + 1))
         (left .boxes-are)
         (right .boxes-are)
-        (put .boxes-are ∙ ap₂ (λ (x y : Box). over (6 * (rightRoot + 1)) (sixOf (union x y)) blate) (left .box-is) (right .box-is))
+        (put .boxes-are ∙ ap₂ (λ (x y : Box). overwrite (6 * (rightRoot + 1)) (sixOf (union x y)) blate) (left .box-is) (right .box-is))
         (omega (arith, second, boxes-length boxAt l))
         (omega (arith, second, third, boxes-length boxAt r))
         (omega arith);

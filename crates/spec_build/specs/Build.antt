@@ -4,13 +4,13 @@ use mathlib.Core.List.{List, [], _∷_}
 use Prim.Native.Nat.{ℕ, _-_, _*_}
 use lib.ListN.{length}
 use lib.Ieee.{Float, Format}
-use Rattle.spec_tables.specs.Tables.{over}
+use Rattle.spec_tables.specs.Tables.{overwrite}
 use Rattle.spec_shapes.specs.Boxes.{Box}
-use Rattle.spec_lists.specs.Limits.{mostTriangles}
+use Rattle.spec_lists.specs.Limits.{maxTriangles}
 use Rattle.spec_lists.specs.Reading.{boxAt, triangleCount}
 use Rattle.spec_lists.specs.Refusals.{Verdict, passes, refused, firstRefusal, trianglesRefusal, Settings, settingsRefusal, roomRefusal}
 use Rattle.spec_tree.specs.Trees.{Tree, numbers, nodeCount, levels, linksFrom, boxesOf}
-use Rattle.spec_tree.specs.Order.{upTo}
+use Rattle.spec_tree.specs.Order.{range}
 use Rattle.spec_build.specs.Grown.{grown}
 use Rattle.spec_build.specs.Tries.{tried}
 
@@ -20,12 +20,12 @@ levelsBelow s = s .maximumDepth - 1
 
 -- the tree over all triangles, grown from the order 0, 1, 2 and so on
 unfoldable pub builtTree : Format → List Float → Settings → Tree
-builtTree f triangles s = grown (tried f (boxAt triangles) (s .strategy)) (s .leafMinimum) (levelsBelow s) (upTo (triangleCount triangles))
+builtTree f triangles s = grown (tried f (boxAt triangles) (s .strategy)) (s .leafMinimum) (levelsBelow s) (range (triangleCount triangles))
 
 -- ---- refusals 1 to 6
 -- n leaves have n - 1 branches: the room that is asked for is enough for any tree without empty leaves
-abbrev pub mostNodes : ℕ → ℕ
-mostNodes n = 2 * n - 1
+abbrev pub maxNodes : ℕ → ℕ
+maxNodes n = 2 * n - 1
 
 -- the triangles, the settings, then the room in lists of these lengths
 unfoldable pub buildRefusal : List Float → Settings → (order links boxes : ℕ) → Verdict
@@ -35,8 +35,8 @@ buildRefusal triangles s order links boxes =
     (trianglesRefusal triangles
     ∷ settingsRefusal s
     ∷ roomRefusal order n
-    ∷ roomRefusal links (3 * mostNodes n)
-    ∷ roomRefusal boxes (6 * mostNodes n)
+    ∷ roomRefusal links (3 * maxNodes n)
+    ∷ roomRefusal boxes (6 * maxNodes n)
     ∷ [])
 
 -- ---- the answer
@@ -50,7 +50,7 @@ answerBy (refused number place) t = notMade number place
 
 -- a refusal changes nothing; entries past those used stay unchanged
 abbrev pub leftBy : {A : Type 0} → Verdict → List A → List A → List A
-leftBy passes new old = over 0 new old
+leftBy passes new old = overwrite 0 new old
 leftBy (refused number place) new old = old
 
 -- what a call with this verdict and this tree answers, and what its lists hold afterwards
@@ -65,8 +65,8 @@ abbrev pub BuildIs : Format → List Float → Settings → (order links : List 
 BuildIs f triangles s order links boxes = Outcome (buildRefusal triangles s (length order) (length links) (length boxes)) (boxAt triangles) (builtTree f triangles s) order links boxes
 
 -- needs of the program behind the tests: they passed, and the lent tables have room for the largest number of triangles
-pub record Asked (triangles : List Float) (s : Settings) (bounds centres : List Float) (scratch order links : List ℕ) (boxes : List Float) : Type 0 where
+pub record BuildNeeds (triangles : List Float) (s : Settings) (bounds centres : List Float) (scratch order links : List ℕ) (boxes : List Float) : Type 0 where
   pub passed : buildRefusal triangles s (length order) (length links) (length boxes) ≡ passes
-  pub bounds-long : length bounds ≡ 6 * mostTriangles
-  pub centres-long : length centres ≡ 3 * mostTriangles
-  pub scratch-long : length scratch ≡ mostTriangles
+  pub bounds-long : length bounds ≡ 6 * maxTriangles
+  pub centres-long : length centres ≡ 3 * maxTriangles
+  pub scratch-long : length scratch ≡ maxTriangles

@@ -14,31 +14,31 @@ pub data Tried : Type 0 where
   uncut : List ℕ → Tried
 
 -- the slice in the order that the try left
-abbrev pub partOf : Tried → List ℕ
-partOf (cut part k) = part
-partOf (uncut part) = part
+abbrev pub sliceOf : Tried → List ℕ
+sliceOf (cut slice k) = slice
+sliceOf (uncut slice) = slice
 
 -- neither side of the cut is empty
 abbrev pub CutInside : Tried → Type 0
-CutInside (cut part k) = (0 < k) × (k < length part)
-CutInside (uncut part) = Unit {0}
+CutInside (cut slice k) = (0 < k) × (k < length slice)
+CutInside (uncut slice) = Unit {0}
 
 -- a slice that is not cut is a leaf
 abbrev pub parted : (List ℕ → Tree) → Tried → Tree
-parted below (cut part k) = branch (below (take k part)) (below (drop k part))
-parted below (uncut part) = leaf part
+parted below (cut slice k) = branch (below (take k slice)) (below (drop k slice))
+parted below (uncut slice) = leaf slice
 
 -- a slice is small enough to be a leaf, or is tried
 abbrev pub grownBy : Bool → (List ℕ → Tried) → (List ℕ → Tree) → List ℕ → Tree
-grownBy true tried below part = leaf part
-grownBy false tried below part = parted below (tried part)
+grownBy true tried below slice = leaf slice
+grownBy false tried below slice = parted below (tried slice)
 
--- the tree of a slice, with `levelsLeft` levels left below this one
-unfoldable pub grown : (List ℕ → Tried) → (leafMinimum levelsLeft : ℕ) → List ℕ → Tree
-grown tried leafMinimum zero part = leaf part
-grown tried leafMinimum (suc left) part = grownBy (leb (length part) leafMinimum) tried (grown tried leafMinimum left) part
+-- the tree of a slice, with `levelsRemaining` levels left below this one
+unfoldable pub grown : (List ℕ → Tried) → (leafMinimum levelsRemaining : ℕ) → List ℕ → Tree
+grown tried leafMinimum zero slice = leaf slice
+grown tried leafMinimum (suc remaining) slice = grownBy (leb (length slice) leafMinimum) tried (grown tried leafMinimum remaining) slice
 
 -- what the laws need of the tries: a slice is only brought into another order, and one of two triangles or more is cut inside, if it is cut
 pub record Trying (tried : List ℕ → Tried) (Used : ℕ → Type 0) : Type 0 where
-  pub permutes : (part : List ℕ) → List·Permᴰ (partOf (tried part)) part
-  pub inside : (part : List ℕ) → 1 < length part → Each Used part → CutInside (tried part)
+  pub permutes : (slice : List ℕ) → List·Permᴰ (sliceOf (tried slice)) slice
+  pub inside : (slice : List ℕ) → 1 < length slice → Each Used slice → CutInside (tried slice)

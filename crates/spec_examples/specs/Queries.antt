@@ -13,9 +13,9 @@ use Rattle.spec_search.specs.Calls.{sureAnswer, sourceAnswer}
 use Rattle.spec_examples.specs.Table.{Example, Shown, float, whole}
 
 -- an answer as the example shows it: its triangle, point and squared distance, or nothing
-abbrev pub told : Answer → List Shown
-told nothing = []
-told (found h) = whole (pos (h .triangle)) ∷ float (h .point .x) ∷ float (h .point .y) ∷ float (h .point .z) ∷ float (h .squared) ∷ []
+abbrev pub shown : Answer → List Shown
+shown nothing = []
+shown (found h) = whole (pos (h .triangle)) ∷ float (h .point .x) ∷ float (h .point .y) ∷ float (h .point .z) ∷ float (h .squared) ∷ []
 
 module _ (f : Format) where
   abbrev pub n : ℤ → Float
@@ -50,16 +50,16 @@ module _ (f : Format) where
 
   -- 4.5 squared is 20.25, 81 / 4
   abbrev pub e10-source : Example
-  e10-source = record { worked = told (sourceAt (n (pos 50))); given = whole (pos 1) ∷ float (n (pos 10)) ∷ float (n (pos 0)) ∷ float (n (pos 0)) ∷ float (fin false 81 (negsuc 1)) ∷ [] }
+  e10-source = record { worked = shown (sourceAt (n (pos 50))); given = whole (pos 1) ∷ float (n (pos 10)) ∷ float (n (pos 0)) ∷ float (n (pos 0)) ∷ float (fin false 81 (negsuc 1)) ∷ [] }
 
   abbrev pub e10-sure : Example
-  e10-sure = record { worked = told (sureAt (n (pos 50))); given = whole (pos 0) ∷ float (n (pos 1)) ∷ float (n (pos 0)) ∷ float (n (pos 0)) ∷ float (fin false 81 (negsuc 1)) ∷ [] }
+  e10-sure = record { worked = shown (sureAt (n (pos 50))); given = whole (pos 0) ∷ float (n (pos 1)) ∷ float (n (pos 0)) ∷ float (n (pos 0)) ∷ float (fin false 81 (negsuc 1)) ∷ [] }
 
   abbrev pub e10-source-near : Example
-  e10-source-near = record { worked = told (sourceAt fourAndAHalf); given = [] }
+  e10-source-near = record { worked = shown (sourceAt fourAndAHalf); given = [] }
 
   abbrev pub e10-sure-near : Example
-  e10-sure-near = record { worked = told (sureAt fourAndAHalf); given = [] }
+  e10-sure-near = record { worked = shown (sureAt fourAndAHalf); given = [] }
 
   abbrev pub queryExamples : List Example
   queryExamples = e10-source ∷ e10-sure ∷ e10-source-near ∷ e10-sure-near ∷ []

@@ -7,9 +7,9 @@ use native.Mathlib.Omega.{arith}
 use lib.ListN.{length, getD, drop}
 use lib.Ieee.{Float, binary32}
 use borrow.Author.Tests.{ne-eqb}
-use Rattle.spec_tables.specs.Tables.{over, many, part, Left, Put}
-use Rattle.spec_tables.proofs.Tables.{many-same, put-none, put-more, put-long}
-use Rattle.spec_tables.proofs.Pieces.{getD-part, left-many}
+use Rattle.spec_tables.specs.Tables.{overwrite, concatMap, slice, Remaining, Put}
+use Rattle.spec_tables.proofs.Tables.{concatMap-same, put-none, put-more, put-long}
+use Rattle.spec_tables.proofs.Pieces.{getD-slice, remaining-concatMap}
 use Rattle.spec_printing.specs.Printed.{foundLine, nothingLine}
 use Rattle.spec_shapes.specs.Points.{Point}
 use Rattle.spec_lists.specs.Reading.{pointAt, pointCount}
@@ -36,13 +36,13 @@ module _ (words : List ℕ) (k : ℕ) where
   unfolding wordsLine
   found-words triangle n e = rw (ne-eqb (getD words (6 * k) 0) 0 n, e)
 
-  six : (a : Answer) → part words (6 * k) 6 ≡ sixWords binary32 a → (i : ℕ) → i < 6 → getD words (6 * k + i) 0 ≡ getD (sixWords binary32 a) i 0
-  six a e i l = sym (getD-part 0 words (6 * k) 6 i l) ∙ ap (λ (s : List ℕ). getD s i 0) e
+  six : (a : Answer) → slice words (6 * k) 6 ≡ sixWords binary32 a → (i : ℕ) → i < 6 → getD words (6 * k + i) 0 ≡ getD (sixWords binary32 a) i 0
+  six a e i l = sym (getD-slice 0 words (6 * k) 6 i l) ∙ ap (λ (s : List ℕ). getD s i 0) e
 
-  first : (a : Answer) → part words (6 * k) 6 ≡ sixWords binary32 a → getD words (6 * k) 0 ≡ getD (sixWords binary32 a) 0 0
+  first : (a : Answer) → slice words (6 * k) 6 ≡ sixWords binary32 a → getD words (6 * k) 0 ≡ getD (sixWords binary32 a) 0 0
   first a e = rw add-zero at (six a e 0 (omega arith))
 
-  words-line : (a : Answer) → part words (6 * k) 6 ≡ sixWords binary32 a → wordsLine words k ≡ answerLine k a
+  words-line : (a : Answer) → slice words (6 * k) 6 ≡ sixWords binary32 a → wordsLine words k ≡ answerLine k a
   unfolding wordsLine answerLine sixWords
   words-line nothing e = rw (first nothing e)
   words-line (found h) e =
@@ -53,37 +53,37 @@ unfolding sixWords
 six-long nothing = refl
 six-long (found h) = refl
 
-module _ (answer : Point → Answer) (points : List Float) (old words : List ℕ) (e : words ≡ over 0 (answerWords binary32 answer points) old) where
+module _ (answer : Point → Answer) (points : List Float) (old words : List ℕ) (e : words ≡ overwrite 0 (answerWords binary32 answer points) old) where
   pieces : ℕ → List ℕ
   pieces k = sixWords binary32 (answer (pointAt points (3 * k)))
 
-  words-left : Left words 0 (many pieces (pointCount points) ++ drop (0 + length (answerWords binary32 answer points)) old)
-  unfolding over answerWords pieces
-  words-left = record { within = omega arith; left = e }
+  words-remaining : Remaining words 0 (concatMap pieces (pointCount points) ++ drop (0 + length (answerWords binary32 answer points)) old)
+  unfolding overwrite answerWords pieces
+  words-remaining = record { within = omega arith; remaining = e }
 
-  lines-of-words : many (wordsLine words) (pointCount points) ≡ many (λ k. answerLine k (answer (pointAt points (3 * k)))) (pointCount points)
+  lines-of-words : concatMap (wordsLine words) (pointCount points) ≡ concatMap (λ k. answerLine k (answer (pointAt points (3 * k)))) (pointCount points)
   unfolding pieces
   lines-of-words =
-      many-same (wordsLine words) (λ k. answerLine k (answer (pointAt points (3 * k)))) (pointCount points)
-      (λ k l. words-line words k (answer (pointAt points (3 * k))) (rw zero-add at (left-many pieces 6 (pointCount points) words 0 _ (λ j. six-long (answer (pointAt points (3 * j)))) words-left k l)))
+      concatMap-same (wordsLine words) (λ k. answerLine k (answer (pointAt points (3 * k)))) (pointCount points)
+      (λ k l. words-line words k (answer (pointAt points (3 * k))) (rw zero-add at (remaining-concatMap pieces 6 (pointCount points) words 0 _ (λ j. six-long (answer (pointAt points (3 * j)))) words-remaining k l)))
 
 -- the lines made from the sure query's words are the lines of its answers, point by point
-pub sure-lines : (triangles points : List Float) (distance : Float) (old words : List ℕ) → words ≡ over 0 (answerWords binary32 (sureAnswer binary32 triangles distance) points) old
-    → many (wordsLine words) (pointCount points) ≡ answerLines triangles points distance
+pub sure-lines : (triangles points : List Float) (distance : Float) (old words : List ℕ) → words ≡ overwrite 0 (answerWords binary32 (sureAnswer binary32 triangles distance) points) old
+    → concatMap (wordsLine words) (pointCount points) ≡ answerLines triangles points distance
 unfolding answerLines
 sure-lines triangles points distance old words e = lines-of-words (sureAnswer binary32 triangles distance) points old words e
 
 -- ---- the loop over the lines: k of n stand one behind the other, each in 84 bytes at most
 pub record Lined (f : ℕ → List ℕ) (at n : ℕ) (old out : List ℕ) (next k : ℕ) : Type 0 where
   pub within : k ≤ n
-  pub put : Put at (many f k) old out next
+  pub put : Put at (concatMap f k) old out next
   pub room : next ≤ at + 84 * k
   pub long : length out ≡ length old
 
 module _ (f : ℕ → List ℕ) (at n : ℕ) (old : List ℕ) where
   -- before the first turn no line is written
   pub lined-start : at ≤ length old → Lined f at n old old at 0
-  unfolding many
+  unfolding concatMap
   lined-start h = record { within = omega arith; put = put-none at old h; room = omega arith; long = refl }
 
   -- a turn of the loop writes the next line behind the others
@@ -96,7 +96,7 @@ module _ (f : ℕ → List ℕ) (at n : ℕ) (old : List ℕ) where
   }
 
   -- after the last turn the lines stand one behind the other
-  pub lined-end : (out : List ℕ) (next k : ℕ) → n ≤ k → Lined f at n old out next k → Put at (many f n) old out next
+  pub lined-end : (out : List ℕ) (next k : ℕ) → n ≤ k → Lined f at n old out next k → Put at (concatMap f n) old out next
   lined-end out next k l r =
       let e : k ≡ n = omega (arith, r .within) in
       rw e at (r .put)

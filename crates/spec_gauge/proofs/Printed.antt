@@ -13,7 +13,7 @@ use Rattle.spec_records.proofs.Records.{one-back, done-back}
 use Rattle.spec_printing.specs.Printed.{refusedLine}
 use Rattle.spec_lists.specs.Refusals.{passes, refused, trianglesRefusal, settingsRefusal, pointsRefusal, distanceRefusal}
 use Rattle.spec_lists.proofs.Verdicts.{all-pass}
-use Rattle.spec_gauge.specs.Printed.{mostBytes, Asked, askedIn, askedRefusal, treeLine, answerLines, printedRun, printed}
+use Rattle.spec_gauge.specs.Printed.{maxBytes, Request, requestIn, requestRefusal, treeLine, answerLines, printedRun, printed}
 
 -- ---- the layout
 -- an input of right layout is as long as its counts say
@@ -27,13 +27,13 @@ gauge-long s t p e =
     omega (arith, done-back s (20 + 36 * t + 6 + 12 * p + 6 + 4) [] (d .onward))
 
 -- an input over the maximum size is refused with 10 at place 0, unread
-pub too-long : (s : List ℕ) → mostBytes < length s → refusedLine 10 0 ≡ printed s
+pub too-long : (s : List ℕ) → maxBytes < length s → refusedLine 10 0 ≡ printed s
 unfolding printed
-too-long s h = rw (lt-ltb mostBytes (length s) h)
+too-long s h = rw (lt-ltb maxBytes (length s) h)
 
-module _ (s : List ℕ) (h : length s ≤ mostBytes) where
-  short : ltb mostBytes (length s) ≡ false
-  short = le-ltb mostBytes (length s) h
+module _ (s : List ℕ) (h : length s ≤ maxBytes) where
+  short : ltb maxBytes (length s) ≡ false
+  short = le-ltb maxBytes (length s) h
 
   -- a wrong layout prints its refusal, 10 at its place
   pub wrong-printed : (at : ℕ) → laidOut gaugeWants s 0 ≡ wrong at → refusedLine 10 at ≡ printed s
@@ -41,7 +41,7 @@ module _ (s : List ℕ) (h : length s ≤ mostBytes) where
   wrong-printed at e = rw (short, e)
 
   -- a right layout prints the run of the request that it holds
-  pub right-printed : (t p : ℕ) → laidOut gaugeWants s 0 ≡ bodies (gaugeSpans t p) → printedRun (askedIn s t p) ≡ printed s
+  pub right-printed : (t p : ℕ) → laidOut gaugeWants s 0 ≡ bodies (gaugeSpans t p) → printedRun (requestIn s t p) ≡ printed s
   unfolding printed gaugeSpans
   right-printed t p e =
       let a : 36 * t / 36 ≡ t = omega arith in
@@ -50,25 +50,25 @@ module _ (s : List ℕ) (h : length s ≤ mostBytes) where
 
 -- ---- the tests
 -- a request that is refused prints its refusal and nothing else
-pub refused-printed : (a : Asked) (number place : ℕ) → askedRefusal a ≡ refused number place → refusedLine number place ≡ printedRun a
+pub refused-printed : (a : Request) (number place : ℕ) → requestRefusal a ≡ refused number place → refusedLine number place ≡ printedRun a
 unfolding printedRun
 refused-printed a number place e = rw e
 
 -- a request that passed prints the tree's counts and a line a point
-pub passed-printed : (a : Asked) → askedRefusal a ≡ passes → treeLine (a .triangles) (a .settings) ++ answerLines (a .triangles) (a .points) (a .distance) ≡ printedRun a
+pub passed-printed : (a : Request) → requestRefusal a ≡ passes → treeLine (a .triangles) (a .settings) ++ answerLines (a .triangles) (a .points) (a .distance) ≡ printedRun a
 unfolding printedRun
 passed-printed a e = rw e
 
 -- what passed
-pub record AllPassed (a : Asked) : Type 0 where
+pub record AllPassed (a : Request) : Type 0 where
   pub triangles : trianglesRefusal (a .triangles) ≡ passes
   pub settings : settingsRefusal (a .settings) ≡ passes
   pub points : pointsRefusal (a .points) ≡ passes
   pub distance : distanceRefusal (a .distance) ≡ passes
 
 -- a request that passed has passed each of its tests
-pub all-passed : (a : Asked) → askedRefusal a ≡ passes → AllPassed a
-unfolding askedRefusal
+pub all-passed : (a : Request) → requestRefusal a ≡ passes → AllPassed a
+unfolding requestRefusal
 all-passed a e =
     let p = all-pass _ e in
     record { triangles = p .0; settings = p .1 .0; points = p .1 .1 .0; distance = p .1 .1 .1 .0 }

@@ -6,7 +6,7 @@ use Prim.Native.Nat.{ℕ}
 use native.Mathlib.Omega.{arith}
 use lib.IntN.{pos, negsuc}
 use lib.Ieee.{Float, fin, binary32, sub, mul, div, le, ofInt, ofBits, toBits}
-use Rattle.spec_tables.specs.Tables.{many}
+use Rattle.spec_tables.specs.Tables.{concatMap}
 use Rattle.spec_shapes.specs.Points.{minus, plus, dividedBy, dot, smallest, largest, isFinite, plusZero, squaredDistance}
 use Rattle.spec_shapes.specs.Boxes.{union, centre, sizes, volume, heldIn}
 use Rattle.spec_shapes.specs.Planes.{unit, reach, meetsBox}
@@ -15,14 +15,14 @@ use Rattle.spec_lists.specs.Reading.{numberAt, pointAt, triangleAt, boxAt, tria
 use Rattle.spec_lists.specs.Refusals.{passes, firstRefusal, isCoordinate, isDistance, firstBad, raggedRefusal, noneRefusal, tooManyRefusal, coordinateRefusal}
 use Rattle.spec_lists.specs.Refusals.{trianglesRefusal, areSettings, settingsRefusal, pointsRefusal, distanceRefusal}
 use Rattle.spec_tree.specs.Trees.{nodeCount, levels, joinedTo, joined}
-use Rattle.spec_tree.specs.Order.{upTo}
+use Rattle.spec_tree.specs.Order.{range}
 use Rattle.spec_sort.specs.Sort.{inserted, sorted}
 use Rattle.spec_splits.specs.Splits.{unionOf}
 use Rattle.spec_splits.specs.Median.{planeBetween, allMeet, allMeetAt, isLarge, areBothLarge, medianSplit}
 use Rattle.spec_build.specs.Grown.{grown}
 use Rattle.spec_build.specs.Tries.{axisInserted, axesBySize, rule, triedOn, triedIn, triedWithin, tried}
 use Rattle.spec_build.specs.Build.{builtTree}
-use Rattle.spec_search.specs.Walk.{keptBy}
+use Rattle.spec_search.specs.Walk.{fold}
 use Rattle.spec_search.specs.Sure.{limitOf, counts, offered, hit, tookSure, scan}
 use Rattle.spec_search.specs.Calls.{sureAnswer}
 use Rattle.spec_records.specs.Little.{littleAt, ofLittle}
@@ -31,7 +31,7 @@ use Rattle.spec_records.specs.Layouts.{gaugeWants, gaugeSpans}
 use Rattle.spec_image.specs.Image.{settingsIn}
 use Rattle.spec_printing.specs.Printed.{Found, countsLine, foundLine, nothingLine}
 use Rattle.spec_printing.proofs.PrintedRun.{counts-printed, found-printed, nothing-printed}
-use Rattle.spec_gauge.specs.Printed.{Asked, askedIn, askedRefusal, answerLine, answerLines, treeLine, printedRun, printed}
+use Rattle.spec_gauge.specs.Printed.{Request, requestIn, requestRefusal, answerLine, answerLines, treeLine, printedRun, printed}
 use Rattle.spec_gauge.proofs.Printed.{right-printed}
 
 -- settings median, 1, 40; T0 and T1; points (5.5,0,0), (100,0,0); distance 50
@@ -59,8 +59,8 @@ unfolding laidOut isRight isRecord littleAt ofLittle gaugeSpans
 laid = refl
 
 -- 5.5 is 11 / 2
-abbrev asked : Asked
-asked =
+abbrev request : Request
+request =
     let n : ℕ → Float = λ k. ofInt binary32 (pos k) in
     record {
       settings = record { strategy = 1; leafMinimum = 1; maximumDepth = 40 };
@@ -69,29 +69,29 @@ asked =
       distance = n 50;
     }
 
-asked-is : askedIn scopeInput 2 2 ≡ asked
-unfolding askedIn many littleAt ofLittle ofBits ofInt settingsIn
-asked-is = refl
+request-is : requestIn scopeInput 2 2 ≡ request
+unfolding requestIn concatMap littleAt ofLittle ofBits ofInt settingsIn
+request-is = refl
 
 -- ---- what is printed of it
-asked-passes : askedRefusal asked ≡ passes
-unfolding askedRefusal firstRefusal isCoordinate isDistance firstBad raggedRefusal noneRefusal tooManyRefusal coordinateRefusal trianglesRefusal
+asked-passes : requestRefusal request ≡ passes
+unfolding requestRefusal firstRefusal isCoordinate isDistance firstBad raggedRefusal noneRefusal tooManyRefusal coordinateRefusal trianglesRefusal
     areSettings settingsRefusal pointsRefusal distanceRefusal triangleCount ofInt le
 asked-passes = refl
 
-tree-printed : treeLine (asked .triangles) (asked .settings) ≡ countsLine 2 3 2
+tree-printed : treeLine (request .triangles) (request .settings) ≡ countsLine 2 3 2
 unfolding treeLine sub mul div le ofInt minus plus dividedBy dot smallest largest union centre sizes volume unit reach meetsBox boxOf numberAt pointAt
-    triangleAt boxAt triangleCount nodeCount levels joinedTo joined upTo inserted sorted unionOf planeBetween allMeet allMeetAt isLarge areBothLarge
+    triangleAt boxAt triangleCount nodeCount levels joinedTo joined range inserted sorted unionOf planeBetween allMeet allMeetAt isLarge areBothLarge
     medianSplit grown axisInserted axesBySize rule triedOn triedIn triedWithin tried builtTree
 tree-printed = refl
 
 abbrev first : Found
 first = record { triangle = 0; x = 0x3f80_0000; y = 0; z = 0; squared = 0x41a2_0000 }
 
-answers-printed : answerLines (asked .triangles) (asked .points) (asked .distance) ≡ foundLine 0 first ++ nothingLine 1
-unfolding answerLines answerLine many pointCount toBits sub mul le ofInt minus dot smallest largest isFinite plusZero squaredDistance heldIn boxOf
-    dots part pointOn closestPoint finiteOr heldPoint measured numberAt pointAt triangleAt triangleCount keptBy limitOf counts offered hit tookSure
-    scan sureAnswer upTo
+answers-printed : answerLines (request .triangles) (request .points) (request .distance) ≡ foundLine 0 first ++ nothingLine 1
+unfolding answerLines answerLine concatMap pointCount toBits sub mul le ofInt minus dot smallest largest isFinite plusZero squaredDistance heldIn boxOf
+    dots part pointOn closestPoint finiteOr heldPoint measured numberAt pointAt triangleAt triangleCount fold limitOf counts offered hit tookSure
+    scan sureAnswer range
 answers-printed = refl
 
 -- the whole
@@ -99,5 +99,5 @@ pub scope-run-printed : printed scopeInput ≡ scopeLines
 unfolding printedRun
 scope-run-printed =
     sym (right-printed scopeInput (omega arith) 2 2 laid)
-    ∙ ap printedRun asked-is
+    ∙ ap printedRun request-is
     ∙ rw (asked-passes, tree-printed, answers-printed, counts-printed, found-printed, nothing-printed)

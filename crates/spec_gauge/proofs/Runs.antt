@@ -6,8 +6,8 @@ use Prim.Native.Nat.{ℕ, _+_, _*_, _≤_}
 use native.Mathlib.Omega.{arith}
 use lib.ListN.{length, take}
 use lib.Ieee.{Float, binary32, ofBits}
-use Rattle.spec_tables.specs.Tables.{over}
-use Rattle.spec_tables.proofs.Pieces.{take-over, length-singles}
+use Rattle.spec_tables.specs.Tables.{overwrite}
+use Rattle.spec_tables.proofs.Pieces.{take-overwrite, length-singles}
 use Rattle.spec_records.specs.Little.{littleAt}
 use Rattle.spec_records.specs.Entries.{floatsIn}
 use Rattle.spec_image.specs.Image.{settingsIn}
@@ -20,15 +20,15 @@ use Rattle.spec_tree.specs.Refusals.{treeRefusal}
 use Rattle.spec_build.specs.Build.{made, notMade, answerBy, builtTree, buildRefusal, BuildIs}
 use Rattle.spec_build.proofs.Build.{made-nodes, made-depth, made-accepted}
 use Rattle.spec_search.specs.Calls.{queryRefusal, answerWords, afterQuery, sureAnswer}
-use Rattle.spec_gauge.specs.Printed.{mostBytes, Asked, askedIn, treeLine, mostGauged, mostPoints, mostPrinted, Fits}
+use Rattle.spec_gauge.specs.Printed.{maxBytes, Request, requestIn, treeLine, maxGauged, maxPoints, maxPrinted, Fits}
 use Rattle.spec_gauge.proofs.Printed.{AllPassed}
 
 accepted-passes : (b : Bool) → b ≡ true → refusedIf (not b) 7 0 ≡ passes
 accepted-passes true e = refl
 accepted-passes false e = cc
 
-module _ (a : Asked) (passed : AllPassed a) (order links : List ℕ) (boxes : List Float) (few : triangleCount (a .triangles) ≤ mostGauged)
-    (order-long : length order ≡ mostGauged) (links-long : length links ≡ 5451) (boxes-long : length boxes ≡ 10902) where
+module _ (a : Request) (passed : AllPassed a) (order links : List ℕ) (boxes : List Float) (few : triangleCount (a .triangles) ≤ maxGauged)
+    (order-long : length order ≡ maxGauged) (links-long : length links ≡ 5451) (boxes-long : length boxes ≡ 10902) where
   build-passes : buildRefusal (a .triangles) (a .settings) (length order) (length links) (length boxes) ≡ passes
   unfolding buildRefusal
   build-passes =
@@ -60,7 +60,7 @@ module _ (a : Asked) (passed : AllPassed a) (order links : List ℕ) (boxes : Li
     tree-line count e = rw (e, made-nodes binary32 (a .triangles) (a .settings) order links boxes order′ links′ boxes′ nodes depth b, made-depth binary32 (a .triangles) (a .settings) order links boxes order′ links′ boxes′ nodes depth b)
 
     -- the query of the tree that was built is never refused
-    pub query-passes : (count : ℕ) → count ≡ triangleCount (a .triangles) → pointCount (a .points) ≤ mostPoints → queryRefusal (a .triangles) (take count order′) links′ boxes′ nodes (a .points) (a .distance) 16380 ≡ passes
+    pub query-passes : (count : ℕ) → count ≡ triangleCount (a .triangles) → pointCount (a .points) ≤ maxPoints → queryRefusal (a .triangles) (take count order′) links′ boxes′ nodes (a .points) (a .distance) 16380 ≡ passes
     unfolding queryRefusal treeRefusal
     query-passes count e h =
         then-passes _ (
@@ -79,24 +79,24 @@ module _ (a : Asked) (passed : AllPassed a) (order links : List ℕ) (boxes : Li
 
 -- a query that is not refused answers all points
 pub is-answered : (triangles : List Float) (distance : Float) (points : List Float) (old new : List ℕ) (v w : Verdict) → v ≡ w → w ≡ passes
-    → new ≡ afterQuery binary32 (sureAnswer binary32 triangles distance) points v old → new ≡ over 0 (answerWords binary32 (sureAnswer binary32 triangles distance) points) old
+    → new ≡ afterQuery binary32 (sureAnswer binary32 triangles distance) points v old → new ≡ overwrite 0 (answerWords binary32 (sureAnswer binary32 triangles distance) points) old
 unfolding afterQuery
 is-answered triangles distance points old new v w e h n = rw (e ∙ h) at n
 
 -- ---- the lists as they are read
 -- an input up to the maximum size fits the program's lists
-pub fits : (t p : ℕ) (triangles points : List Float) (out : List ℕ) → length triangles ≡ 9 * t → length points ≡ 3 * p → 36 + 36 * t + 12 * p ≤ mostBytes → mostPrinted ≤ length out
+pub fits : (t p : ℕ) (triangles points : List Float) (out : List ℕ) → length triangles ≡ 9 * t → length points ≡ 3 * p → 36 + 36 * t + 12 * p ≤ maxBytes → maxPrinted ≤ length out
     → Fits triangles points out
 unfolding triangleCount pointCount
 fits t p triangles points out a b h room = record { triangles-few = rw a (omega arith); points-few = rw b (omega arith); room = room }
 
 -- what the program reads into its lists is the request as defined
-pub asked-is : (s : List ℕ) (t p : ℕ) (settings : Settings) (triangles points old older : List Float) (distance : Float) → settings ≡ settingsIn s
-    → triangles ≡ over 0 (floatsIn binary32 s 20 (9 * t)) old → points ≡ over 0 (floatsIn binary32 s (20 + 36 * t + 6) (3 * p)) older
+pub request-is : (s : List ℕ) (t p : ℕ) (settings : Settings) (triangles points old older : List Float) (distance : Float) → settings ≡ settingsIn s
+    → triangles ≡ overwrite 0 (floatsIn binary32 s 20 (9 * t)) old → points ≡ overwrite 0 (floatsIn binary32 s (20 + 36 * t + 6) (3 * p)) older
     → distance ≡ ofBits binary32 (littleAt 4 s (20 + 36 * t + 6 + 12 * p + 6))
-    → _≡_ {A = Asked} (record { settings = settings; triangles = take (9 * t) triangles; points = take (3 * p) points; distance = distance }) (askedIn s t p)
-unfolding askedIn
-asked-is s t p settings triangles points old older distance a b c d =
-    let b′ : take (9 * t) triangles ≡ floatsIn binary32 s 20 (9 * t) = ap (take (9 * t)) b ∙ take-over (9 * t) _ old (length-singles _ (9 * t)) in
-    let c′ : take (3 * p) points ≡ floatsIn binary32 s (20 + 36 * t + 6) (3 * p) = ap (take (3 * p)) c ∙ take-over (3 * p) _ older (length-singles _ (3 * p)) in
+    → _≡_ {A = Request} (record { settings = settings; triangles = take (9 * t) triangles; points = take (3 * p) points; distance = distance }) (requestIn s t p)
+unfolding requestIn
+request-is s t p settings triangles points old older distance a b c d =
+    let b′ : take (9 * t) triangles ≡ floatsIn binary32 s 20 (9 * t) = ap (take (9 * t)) b ∙ take-overwrite (9 * t) _ old (length-singles _ (9 * t)) in
+    let c′ : take (3 * p) points ≡ floatsIn binary32 s (20 + 36 * t + 6) (3 * p) = ap (take (3 * p)) c ∙ take-overwrite (3 * p) _ older (length-singles _ (3 * p)) in
     λ i. record { settings = a i; triangles = b′ i; points = c′ i; distance = d i }

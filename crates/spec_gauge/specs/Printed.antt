@@ -5,7 +5,7 @@ use mathlib.Core.Bool.{cond}
 use lib.Dec.{ltb}
 use lib.ListN.{length}
 use lib.Ieee.{Float, binary32, ofBits, toBits}
-use Rattle.spec_tables.specs.Tables.{many}
+use Rattle.spec_tables.specs.Tables.{concatMap}
 use Rattle.spec_records.specs.Little.{littleAt}
 use Rattle.spec_records.specs.Entries.{floatsIn}
 use Rattle.spec_records.specs.Records.{Layout, wrong, bodies, laidOut}
@@ -21,20 +21,20 @@ use Rattle.spec_search.specs.Answers.{Answer, nothing, found}
 use Rattle.spec_search.specs.Calls.{sureAnswer}
 
 -- more bytes than these are refused unread
-abbrev pub mostBytes : ℕ
-mostBytes = 32768
+abbrev pub maxBytes : ℕ
+maxBytes = 32768
 
 -- ---- what the records hold
 -- a request: what the records of an input hold
-pub record Asked : Type 0 where
+pub record Request : Type 0 where
   pub settings : Settings
   pub triangles : List Float
   pub points : List Float
   pub distance : Float
 
 -- of an input of t triangles and p points, whose bodies start at 6, 20, 26 + 36t and 32 + 36t + 12p
-unfoldable pub askedIn : List ℕ → ℕ → ℕ → Asked
-askedIn s t p = record {
+unfoldable pub requestIn : List ℕ → ℕ → ℕ → Request
+requestIn s t p = record {
   settings = settingsIn s;
   triangles = floatsIn binary32 s 20 (9 * t);
   points = floatsIn binary32 s (20 + 36 * t + 6) (3 * p);
@@ -42,8 +42,8 @@ askedIn s t p = record {
 }
 
 -- ---- refusals 1 to 5, 8, 9; 1 and 3 cannot come up, since a body has whole triangles and no more than 909 fit
-unfoldable pub askedRefusal : Asked → Verdict
-askedRefusal a =
+unfoldable pub requestRefusal : Request → Verdict
+requestRefusal a =
     firstRefusal
     (trianglesRefusal (a .triangles)
     ∷ settingsRefusal (a .settings)
@@ -66,7 +66,7 @@ answerLine k (found h) = foundLine k (record {
 -- a line a point, of the sure query's answers
 unfoldable pub answerLines : (triangles points : List Float) (distance : Float) → List ℕ
 answerLines triangles points distance =
-    many (λ k. answerLine k (sureAnswer binary32 triangles distance (pointAt points (3 * k)))) (pointCount points)
+    concatMap (λ k. answerLine k (sureAnswer binary32 triangles distance (pointAt points (3 * k)))) (pointCount points)
 
 -- the counts and the depth of the tree that is built
 unfoldable pub treeLine : List Float → Settings → List ℕ
@@ -80,35 +80,35 @@ byVerdict passes lines = lines
 byVerdict (refused number place) lines = refusedLine number place
 
 -- what is printed of a request
-unfoldable pub printedRun : Asked → List ℕ
+unfoldable pub printedRun : Request → List ℕ
 printedRun a =
-    byVerdict (askedRefusal a)
+    byVerdict (requestRefusal a)
     (treeLine (a .triangles) (a .settings) ++ answerLines (a .triangles) (a .points) (a .distance))
 
 -- ---- the whole
 -- by the layout: the second body is the triangles', the third the points'
 abbrev pub byLayout : List ℕ → Layout → List ℕ
 byLayout s (wrong at) = refusedLine 10 at
-byLayout s (bodies spans) = printedRun (askedIn s (sizeOf spans 1 / 36) (sizeOf spans 2 / 12))
+byLayout s (bodies spans) = printedRun (requestIn s (sizeOf spans 1 / 36) (sizeOf spans 2 / 12))
 
 -- what is printed of any bytes
 unfoldable pub printed : List ℕ → List ℕ
-printed s = cond (ltb mostBytes (length s)) (refusedLine 10 0) (byLayout s (laidOut gaugeWants s 0))
+printed s = cond (ltb maxBytes (length s)) (refusedLine 10 0) (byLayout s (laidOut gaugeWants s 0))
 
 -- ---- what fits
 -- no more triangles and no more points than these fit in an input of the maximum size
-abbrev pub mostGauged : ℕ
-mostGauged = 909
+abbrev pub maxGauged : ℕ
+maxGauged = 909
 
-abbrev pub mostPoints : ℕ
-mostPoints = 2730
+abbrev pub maxPoints : ℕ
+maxPoints = 2730
 
 -- the longest run: the room that the program lends
-abbrev pub mostPrinted : ℕ
-mostPrinted = 229405
+abbrev pub maxPrinted : ℕ
+maxPrinted = 229405
 
 -- the lists are no longer than what fits, and out has room
 pub record Fits (triangles points : List Float) (out : List ℕ) : Type 0 where
-  pub triangles-few : triangleCount triangles ≤ mostGauged
-  pub points-few : pointCount points ≤ mostPoints
-  pub room : mostPrinted ≤ length out
+  pub triangles-few : triangleCount triangles ≤ maxGauged
+  pub points-few : pointCount points ≤ maxPoints
+  pub room : maxPrinted ≤ length out

@@ -10,13 +10,13 @@ use lib.Dec.{eqb}
 use lib.ListN.{length, take}
 use lib.Seq.{take-length}
 use lib.Ieee.{Float, binary32}
-use Rattle.spec_tables.specs.Tables.{over, part, Put}
-use Rattle.spec_tables.proofs.Pieces.{take-over, length-singles}
+use Rattle.spec_tables.specs.Tables.{overwrite, slice, Put}
+use Rattle.spec_tables.proofs.Pieces.{take-overwrite, length-singles}
 use Rattle.spec_numbers.proofs.Order.{finite-number}
 use Rattle.spec_records.specs.Little.{Bytes}
 use Rattle.spec_records.proofs.Entries.{floats-written}
 use Rattle.spec_records.specs.Layouts.{version1}
-use Rattle.spec_lists.specs.Limits.{mostTriangles}
+use Rattle.spec_lists.specs.Limits.{maxTriangles}
 use Rattle.spec_lists.specs.Reading.{boxAt, triangleCount}
 use Rattle.spec_lists.specs.Refusals.{Verdict, passes, refused, firstRefusal, raggedRefusal, noneRefusal, tooManyRefusal, trianglesRefusal, Settings, settingsRefusal, roomRefusal}
 use Rattle.spec_lists.specs.Passed.{GoodTriangles, GoodSettings}
@@ -26,7 +26,7 @@ use Rattle.spec_lists.proofs.Passed.{triangles-passed, triangles-pass, settings
 use Rattle.spec_tree.specs.Trees.{Tree, numbers, nodeCount, linksFrom, boxesOf}
 use Rattle.spec_tree.specs.Accepted.{Listing}
 use Rattle.spec_tree.proofs.Trees.{links-length, boxes-length}
-use Rattle.spec_build.specs.Build.{builtTree, mostNodes, buildRefusal, made, notMade, answerBy, BuildIs}
+use Rattle.spec_build.specs.Build.{builtTree, maxNodes, buildRefusal, made, notMade, answerBy, BuildIs}
 use Rattle.spec_build.proofs.Built.{Whole, whole-nodes}
 use Rattle.spec_build.proofs.Build.{Passed, build-passed, built-whole, made-passed, made-nodes, made-listing}
 use Rattle.spec_image.specs.Image.{Image, trianglesBody, imageBytes, imageIn}
@@ -35,9 +35,9 @@ use Rattle.spec_image.specs.Writing.{exactSize, writeRefusal}
 use Rattle.spec_image.proofs.Used.{image-used}
 use Rattle.spec_image.proofs.Kept.{floats-fit, written-back}
 use Rattle.spec_image.proofs.Writing.{Good, good-complete, good-count, good-nodes, write-passes}
-use Rattle.spec_host.specs.Told.{told, toldRefusal, Placed, InPlace, Heard}
-use Rattle.spec_host.specs.Build.{imageMost, numbersOf, raggedBytes, imageOver, builtImage, listRefusal, bytesRefusal, Puttable, ImagePut}
-use Rattle.spec_host.proofs.Told.{heard, at-zero, no-test, then-test, triangles-told, settings-told, room-told}
+use Rattle.spec_host.specs.Status.{status, refusalStatus, Placed, InPlace, Decoded}
+use Rattle.spec_host.specs.Build.{imageMax, numbersOf, raggedBytes, imageOver, builtImage, listRefusal, bytesRefusal, Puttable, ImagePut}
+use Rattle.spec_host.proofs.Status.{decoded, at-zero, no-test, then-test, triangles-encodable, settings-encodable, room-encodable}
 
 -- ---- every image that is built is good
 module _ (triangles : List Float) (s : Settings) (g : GoodTriangles triangles) (h : GoodSettings s) where
@@ -68,24 +68,24 @@ module _ (triangles : List Float) (s : Settings) (g : GoodTriangles triangles) (
   built-written given room = write-passes version1 (builtImage triangles s) given built-good room
 
   -- the maximum size that a host can ask for is always enough room
-  pub most-is-enough : exactSize version1 (builtImage triangles s) ≤ imageMost (triangleCount triangles)
-  unfolding imageMost imageOver
-  most-is-enough = rw (le-leb 1 (triangleCount triangles) (g .some), le-leb (triangleCount triangles) mostTriangles (g .few)) (omega (arith, whole-nodes whole))
+  pub max-is-enough : exactSize version1 (builtImage triangles s) ≤ imageMax (triangleCount triangles)
+  unfolding imageMax imageOver
+  max-is-enough = rw (le-leb 1 (triangleCount triangles) (g .some), le-leb (triangleCount triangles) maxTriangles (g .few)) (omega (arith, whole-nodes whole))
 
 -- ---- what is put
 module _ {v : Verdict} {x : Image} {old : List ℕ} {answer : ℕ} where
   -- a call that refuses, encodes the refusal and leaves the bytes as they were keeps the contract
-  pub put-nothing : {number place : ℕ} → v ≡ refused number place → answer ≡ toldRefusal number place → ImagePut v x old answer old
-  put-nothing e a = record { told-is = rw e a; bytes-are = rw e }
+  pub put-nothing : {number place : ℕ} → v ≡ refused number place → answer ≡ refusalStatus number place → ImagePut v x old answer old
+  put-nothing e a = record { status-is = rw e a; bytes-are = rw e }
 
   -- a call that passed, puts the image at the front and answers its size keeps the contract
   pub put-all : {new : List ℕ} {next : ℕ} → v ≡ passes → answer ≡ exactSize version1 x → Put 0 (imageBytes version1 x) old new next → ImagePut v x old answer new
-  put-all e a p = record { told-is = rw e a; bytes-are = rw e (p .written) }
+  put-all e a p = record { status-is = rw e a; bytes-are = rw e (p .written) }
 
 -- the answer and the bytes are fixed by the verdict, the image and what the bytes held
 pub image-put-unique : {v : Verdict} {x : Image} {old new new₂ : List ℕ} {answer answer₂ : ℕ} → ImagePut v x old answer new → ImagePut v x old answer₂ new₂
     → (answer ≡ answer₂) × (new ≡ new₂)
-image-put-unique p q = (p .told-is ∙ sym (q .told-is), p .bytes-are ∙ sym (q .bytes-are))
+image-put-unique p q = (p .status-is ∙ sym (q .status-is), p .bytes-are ∙ sym (q .bytes-are))
 
 -- room below the need is refused with 6
 pub room-short : (given need : ℕ) → given < need → roomRefusal given need ≡ refused 6 0
@@ -95,14 +95,14 @@ room-short given need h = rw (lt-ltb given need h)
 -- the contract depends on an image's bytes and size alone, so the image in the program's lists may stand for the defined one
 pub put-as : {v w : Verdict} {x y : Image} {old new : List ℕ} {answer : ℕ} → v ≡ w → imageBytes version1 x ≡ imageBytes version1 y → exactSize version1 x ≡ exactSize version1 y
     → ImagePut v x old answer new → ImagePut w y old answer new
-put-as e b n p = record { told-is = rw (← e, ← n) (p .told-is); bytes-are = rw (← e, ← b) (p .bytes-are) }
+put-as e b n p = record { status-is = rw (← e, ← n) (p .status-is); bytes-are = rw (← e, ← b) (p .bytes-are) }
 
 -- ---- the list's refusals
-list-told : (triangles : List Float) (s : Settings) (given : ℕ) → InPlace (listRefusal triangles s given)
+list-encodable : (triangles : List Float) (s : Settings) (given : ℕ) → InPlace (listRefusal triangles s given)
 unfolding listRefusal
-list-told triangles s given =
-    then-test (trianglesRefusal triangles) _ (triangles-told triangles)
-    (λ _. then-test (settingsRefusal s) _ (settings-told s) (λ _. then-test (roomRefusal given (exactSize version1 (builtImage triangles s))) [] (room-told given _) (λ _. no-test)))
+list-encodable triangles s given =
+    then-test (trianglesRefusal triangles) _ (triangles-encodable triangles)
+    (λ _. then-test (settingsRefusal s) _ (settings-encodable s) (λ _. then-test (roomRefusal given (exactSize version1 (builtImage triangles s))) [] (room-encodable given _) (λ _. no-test)))
 
 -- where two rows begin with the same two tests, and the rest of the first passes once these do, a refusal of the first is one of the second
 same-refusal : (a b : Verdict) (rest others : List Verdict) (number place : ℕ) → (a ≡ passes → b ≡ passes → firstRefusal rest ≡ passes) → firstRefusal (a ∷ b ∷ rest) ≡ refused number place
@@ -126,16 +126,16 @@ module _ (triangles : List Float) (s : Settings) (order links : List ℕ) (boxes
   build-refused {number} {place} b given =
       let n : ℕ = triangleCount triangles in
       same-refusal (trianglesRefusal triangles) (settingsRefusal s)
-      (roomRefusal (length order) n ∷ roomRefusal (length links) (3 * mostNodes n) ∷ roomRefusal (length boxes) (6 * mostNodes n) ∷ []) _ number place
+      (roomRefusal (length order) n ∷ roomRefusal (length links) (3 * maxNodes n) ∷ roomRefusal (length boxes) (6 * maxNodes n) ∷ []) _ number place
       (λ good _.
-      let few : n ≤ mostTriangles = triangles-passed triangles good .few in
+      let few : n ≤ maxTriangles = triangles-passed triangles good .few in
       then-passes _ (room-passes _ _ (omega arith), (room-passes _ _ (omega arith), (room-passes _ _ (omega arith), tt))))
       (not-made (buildRefusal triangles s (length order) (length links) (length boxes)) (builtTree binary32 triangles s) number place (b .answer-is))
 
   -- a refusal of the build can be encoded in the status
-  pub build-told : {number place : ℕ} {order′ links′ : List ℕ} {boxes′ : List Float} → BuildIs binary32 triangles s order links boxes (notMade number place) order′ links′ boxes′
+  pub build-encodable : {number place : ℕ} {order′ links′ : List ℕ} {boxes′ : List Float} → BuildIs binary32 triangles s order links boxes (notMade number place) order′ links′ boxes′
       → Placed number place
-  build-told b = rw (build-refused b 0) at (list-told triangles s 0)
+  build-encodable b = rw (build-refused b 0) at (list-encodable triangles s 0)
 
   module _ {nodes depth : ℕ} {order′ links′ : List ℕ} {boxes′ : List Float} (b : BuildIs binary32 triangles s order links boxes (made nodes depth) order′ links′ boxes′) where
     abbrev n : ℕ
@@ -211,23 +211,23 @@ module _ (s : List ℕ) (settings : Settings) (given : ℕ) where
     numbers-many : 147456 < length s → listRefusal (numbersOf s) settings given ≡ refused 3 0
     unfolding listRefusal trianglesRefusal raggedRefusal noneRefusal tooManyRefusal triangleCount firstRefusal
     numbers-many m =
-        rw (numbers-long, eq-eqb (length s / 4 % 9) 0 (omega arith), ne-eqb (length s / 4 / 9) 0 (λ (z : length s / 4 / 9 ≡ 0). omega arith), lt-ltb mostTriangles (length s / 4 / 9) (omega arith))
+        rw (numbers-long, eq-eqb (length s / 4 % 9) 0 (omega arith), ne-eqb (length s / 4 / 9) 0 (λ (z : length s / 4 / 9 ≡ 0). omega arith), lt-ltb maxTriangles (length s / 4 / 9) (omega arith))
 
     -- more bytes than 4,096 triangles have are refused with 3, so the program need not read them
     pub bytes-many : 147456 < length s → bytesRefusal s settings given ≡ refused 3 0
     bytes-many m = sym bytes-whole ∙ numbers-many m
 
 -- the loop that reads the bytes leaves their numbers at the front of the list
-pub numbers-read : (s : List ℕ) (old new : List Float) → new ≡ over 0 (numbersOf s) old → take (length s / 4) new ≡ numbersOf s
-numbers-read s old new e = rw e (take-over (length s / 4) (numbersOf s) old (length-singles _ (length s / 4)))
+pub numbers-read : (s : List ℕ) (old new : List Float) → new ≡ overwrite 0 (numbersOf s) old → take (length s / 4) new ≡ numbersOf s
+numbers-read s old new e = rw e (take-overwrite (length s / 4) (numbersOf s) old (length-singles _ (length s / 4)))
 
 -- ---- the status is decoded
 module _ (s : List ℕ) (settings : Settings) (given : ℕ) where
-  bytes-told : InPlace (bytesRefusal s settings given)
+  bytes-encodable : InPlace (bytesRefusal s settings given)
   unfolding bytesRefusal raggedBytes
-  bytes-told =
+  bytes-encodable =
       then-test (raggedBytes s) _ (at-zero (not (eqb (length s % 36) 0)) 1 (omega arith) (omega arith))
-      (λ _. then-test (listRefusal (numbersOf s) settings given) [] (list-told (numbersOf s) settings given) (λ _. no-test))
+      (λ _. then-test (listRefusal (numbersOf s) settings given) [] (list-encodable (numbersOf s) settings given) (λ _. no-test))
 
   built-small : bytesRefusal s settings given ≡ passes → exactSize version1 (builtImage (numbersOf s) settings) < 2 ^ 56
   unfolding bytesRefusal listRefusal imageOver
@@ -237,8 +237,8 @@ module _ (s : List ℕ) (settings : Settings) (given : ℕ) where
       omega (arith, good-nodes (builtImage (numbersOf s) settings) (built-good (numbersOf s) settings g (settings-passed settings (p .1 .0))), g .few)
 
   -- the status of the build is decoded without loss
-  pub bytes-heard : Heard (bytesRefusal s settings given) (exactSize version1 (builtImage (numbersOf s) settings)) (told (bytesRefusal s settings given) (exactSize version1 (builtImage (numbersOf s) settings)))
-  bytes-heard = heard (bytesRefusal s settings given) (exactSize version1 (builtImage (numbersOf s) settings)) bytes-told built-small
+  pub bytes-decoded : Decoded (bytesRefusal s settings given) (exactSize version1 (builtImage (numbersOf s) settings)) (status (bytesRefusal s settings given) (exactSize version1 (builtImage (numbersOf s) settings)))
+  bytes-decoded = decoded (bytesRefusal s settings given) (exactSize version1 (builtImage (numbersOf s) settings)) bytes-encodable built-small
 
 -- ---- reading back
 -- the image that is put reads back as the settings, the triangles and the tree that was built
@@ -262,6 +262,6 @@ bytes-kept s ok settings given e =
     let long : length (numbersOf s) ≡ m = length-singles _ m in
     let all : 4 * m ≡ length s = omega arith in
     rw long
-    (floats-written binary32 (numbersOf s) 0 s 0 m ok (omega arith) (λ i l. finite-number _ (coordinate-finite _ (good .coordinates i (omega arith)))) (ap (part (numbersOf s) 0) (sym long) ∙ take-length (numbersOf s))
-    ∙ ap (part s 0) all
+    (floats-written binary32 (numbersOf s) 0 s 0 m ok (omega arith) (λ i l. finite-number _ (coordinate-finite _ (good .coordinates i (omega arith)))) (ap (slice (numbersOf s) 0) (sym long) ∙ take-length (numbersOf s))
+    ∙ ap (slice s 0) all
     ∙ take-length s)

@@ -9,8 +9,8 @@ use borrow.Author.Tests.{eq-eqb}
 use lib.Dec.{eqb}
 use lib.ListN.{length, take}
 use lib.Ieee.{Float, binary32}
-use Rattle.spec_tables.specs.Tables.{over}
-use Rattle.spec_tables.proofs.Pieces.{take-over}
+use Rattle.spec_tables.specs.Tables.{overwrite}
+use Rattle.spec_tables.proofs.Pieces.{take-overwrite}
 use Rattle.spec_records.specs.Little.{Bytes}
 use Rattle.spec_records.specs.Records.{bodies, laidOut}
 use Rattle.spec_records.specs.Layouts.{version1, imageWants, imageSpans}
@@ -30,15 +30,15 @@ use Rattle.spec_tree.specs.Refusals.{treeRefusal}
 use Rattle.spec_tree.proofs.Accepted.{listed-accepted}
 use Rattle.spec_search.specs.Calls.{queryRefusal}
 use Rattle.spec_angles.specs.Windings.{windingRefusal}
-use Rattle.spec_host.specs.Told.{told, Heard}
-use Rattle.spec_host.proofs.Told.{told-heard}
+use Rattle.spec_host.specs.Status.{status, Decoded}
+use Rattle.spec_host.proofs.Status.{status-decoded}
 use Rattle.spec_host.specs.Build.{numbersOf, imageOver, builtImage, listRefusal, bytesRefusal, ImagePut}
 use Rattle.spec_host.proofs.Build.{built-good, numbers-long}
 use Rattle.spec_host.specs.PointBytes.{pointBytesRefusal}
-use Rattle.spec_host.specs.Requests.{contents, checkedRefusal, askedRefusal, woundRefusal, checkVerdict, queryVerdict, windingVerdict}
+use Rattle.spec_host.specs.Requests.{contents, checkedRefusal, requestRefusal, windingBytesRefusal, checkVerdict, queryVerdict, windingVerdict}
 use Rattle.spec_host.proofs.PointBytes.{points-count}
 use Rattle.spec_host.proofs.Requests.{contents-are, inner-decides}
-use Rattle.spec_host.proofs.RequestsTold.{query-told, winding-told}
+use Rattle.spec_host.proofs.RequestsStatus.{query-encodable, winding-encodable}
 
 -- ---- an image that was written
 module _ (x : Image) (ok : Storable version1 x) where
@@ -58,11 +58,11 @@ module _ (x : Image) (ok : Storable version1 x) where
   written-checked = sym (inner-decides written (length (x .order)) (x .nodes) laid checkedRefusal (checkedRefusal (used x)) (ap checkedRefusal (sym (written-read version1 x ok))))
 
   -- a query of an image that was written refuses what the tests of its lists refuse
-  pub written-asked : (points : List ℕ) (distance : Float) (room : ℕ) → queryVerdict written points distance room ≡ askedRefusal (used x) points distance room
+  pub written-queried : (points : List ℕ) (distance : Float) (room : ℕ) → queryVerdict written points distance room ≡ requestRefusal (used x) points distance room
   unfolding queryVerdict
-  written-asked points distance room =
-      sym (inner-decides written (length (x .order)) (x .nodes) laid (λ y. askedRefusal y points distance room) (askedRefusal (used x) points distance room)
-      (ap (λ (y : Image). askedRefusal y points distance room) (sym (written-read version1 x ok))))
+  written-queried points distance room =
+      sym (inner-decides written (length (x .order)) (x .nodes) laid (λ y. requestRefusal y points distance room) (requestRefusal (used x) points distance room)
+      (ap (λ (y : Image). requestRefusal y points distance room) (sym (written-read version1 x ok))))
 
 -- ---- what the writer accepts passes the check of the image that it writes
 good-checked : (x : Image) → Good x → checkedRefusal x ≡ passes
@@ -98,19 +98,19 @@ module _ (s : List ℕ) (settings : Settings) (given : ℕ) (accepts : bytesRefu
       → checkVerdict (take answer new) ≡ passes
   put-passes {old} {new} {answer} p =
       let x : Image = builtImage (numbersOf s) settings in
-      let told-is : answer ≡ exactSize version1 x = rw accepts at (p .told-is) in
-      let bytes-are : new ≡ over 0 (imageBytes version1 x) old = rw accepts at (p .bytes-are) in
-      rw (told-is, bytes-are, take-over (exactSize version1 x) (imageBytes version1 x) old (good-long x built)) built-passes
+      let status-is : answer ≡ exactSize version1 x = rw accepts at (p .status-is) in
+      let bytes-are : new ≡ overwrite 0 (imageBytes version1 x) old = rw accepts at (p .bytes-are) in
+      rw (status-is, bytes-are, take-overwrite (exactSize version1 x) (imageBytes version1 x) old (good-long x built)) built-passes
 
 -- ---- the status is decoded
 module _ (image points : List ℕ) (ok : Bytes image) (fits : length points < 2 ^ 63) (few : length points / 12 < 2 ^ 56) (room : ℕ) where
   -- the status of a query is decoded without loss
-  pub query-heard : (distance : Float) → Heard (queryVerdict image points distance room) (length points / 12) (told (queryVerdict image points distance room) (length points / 12))
-  query-heard distance = told-heard (queryVerdict image points distance room) (length points / 12) (record { verdict = query-told image points ok fits room distance; counted = few })
+  pub query-decoded : (distance : Float) → Decoded (queryVerdict image points distance room) (length points / 12) (status (queryVerdict image points distance room) (length points / 12))
+  query-decoded distance = status-decoded (queryVerdict image points distance room) (length points / 12) (record { verdict = query-encodable image points ok fits room distance; counted = few })
 
   -- the status of the winding call is decoded without loss
-  pub winding-heard : Heard (windingVerdict image points room) (length points / 12) (told (windingVerdict image points room) (length points / 12))
-  winding-heard = told-heard (windingVerdict image points room) (length points / 12) (record { verdict = winding-told image points ok fits room; counted = few })
+  pub winding-decoded : Decoded (windingVerdict image points room) (length points / 12) (status (windingVerdict image points room) (length points / 12))
+  winding-decoded = status-decoded (windingVerdict image points room) (length points / 12) (record { verdict = winding-encodable image points ok fits room; counted = few })
 
 -- ---- on whole points a call refuses as the list call does on what the image holds
 points-as-lists : (points : List ℕ) → length points % 12 ≡ 0 → pointBytesRefusal points ≡ pointsRefusal (numbersOf points)
@@ -126,14 +126,14 @@ drop-second passes rest = refl
 drop-second (refused n p) rest = refl
 
 -- on whole points a query of an image is refused as the list query is, which has no settings to test
-pub asks-as-lists : (x : Image) (points : List ℕ) (distance : Float) (room : ℕ) → settingsRefusal (x .settings) ≡ passes → length points % 12 ≡ 0
-    → askedRefusal x points distance room ≡ queryRefusal (x .triangles) (x .order) (x .links) (x .boxes) (x .nodes) (numbersOf points) distance (room / 4)
-unfolding askedRefusal queryRefusal
-asks-as-lists x points distance room fine whole =
+pub queries-as-lists : (x : Image) (points : List ℕ) (distance : Float) (room : ℕ) → settingsRefusal (x .settings) ≡ passes → length points % 12 ≡ 0
+    → requestRefusal x points distance room ≡ queryRefusal (x .triangles) (x .order) (x .links) (x .boxes) (x .nodes) (numbersOf points) distance (room / 4)
+unfolding requestRefusal queryRefusal
+queries-as-lists x points distance room fine whole =
     let rooms : room / 4 / 6 ≡ room / 24 = omega arith in
     rw (fine, rooms, points-count points, points-as-lists points whole) (drop-second (trianglesRefusal (x .triangles)) _)
 
 -- on whole points the winding call on an image is refused as the list call is
-pub winds-as-lists : (triangles : List Float) (points : List ℕ) (room : ℕ) → length points % 12 ≡ 0 → woundRefusal triangles points room ≡ windingRefusal triangles (numbersOf points) (room / 4)
-unfolding woundRefusal windingRefusal
-winds-as-lists triangles points room whole = rw (points-count points, points-as-lists points whole)
+pub windings-as-lists : (triangles : List Float) (points : List ℕ) (room : ℕ) → length points % 12 ≡ 0 → windingBytesRefusal triangles points room ≡ windingRefusal triangles (numbersOf points) (room / 4)
+unfolding windingBytesRefusal windingRefusal
+windings-as-lists triangles points room whole = rw (points-count points, points-as-lists points whole)

@@ -1,7 +1,7 @@
-pub mod Told
+pub mod Status
 pub mod Build
 pub mod PointBytes
 pub mod Requests
 pub mod Loading
-pub mod RequestsTold
+pub mod RequestsStatus
 pub mod Laws

@@ -6,7 +6,7 @@ use lib.ListN.{length, take}
 use lib.Ieee.{Float, binary32}
 use Rattle.spec_records.specs.Layouts.{version1}
 use Rattle.spec_image.specs.Image.{settingsIn, imageIn}
-use Rattle.spec_lists.specs.Limits.{mostTriangles}
+use Rattle.spec_lists.specs.Limits.{maxTriangles}
 use Rattle.spec_lists.specs.Reading.{triangleCount}
 use Rattle.spec_lists.specs.Refusals.{refused, Settings}
 use Rattle.spec_search.specs.Calls.{Query, answerBy}
@@ -26,7 +26,7 @@ module _ {image : List ℕ} {count nodes : ℕ} {triangles : List Float} (l : Lo
   early-same settings room need e = λ i. earlyRefusal (l .triangles-are i) (e i) room need
 
   -- more nodes than a tree over 4,096 triangles has are refused with 7, before any is loaded
-  pub nodes-refused : triangleCount triangles ≤ mostTriangles → 8191 < nodes → refused 7 0 ≡ treeIn (imageIn version1 image count nodes)
+  pub nodes-refused : triangleCount triangles ≤ maxTriangles → 8191 < nodes → refused 7 0 ≡ treeIn (imageIn version1 image count nodes)
   unfolding imageIn
   nodes-refused few more = too-many-nodes _ _ _ _ nodes (rw (l .triangles-are) at few) more
 

@@ -10,9 +10,9 @@ use lib.Dec.{eqb}
 use lib.ListN.{length, getD, length-append, drop-of-length-le, List·getD-append}
 use lib.Seq.{getD-append-add}
 use lib.Ieee.{Float, nan, binary32, ofBits, toBits}
-use Rattle.spec_tables.specs.Tables.{over, many}
-use Rattle.spec_tables.proofs.Tables.{many-same}
-use Rattle.spec_tables.proofs.Pieces.{getD-many}
+use Rattle.spec_tables.specs.Tables.{overwrite, concatMap}
+use Rattle.spec_tables.proofs.Tables.{concatMap-same}
+use Rattle.spec_tables.proofs.Pieces.{getD-concatMap}
 use Rattle.spec_tables.proofs.Runs.{Run, run-start, run-front, run-end}
 use Rattle.spec_records.specs.Little.{little, littleAt}
 use Rattle.spec_records.specs.Entries.{numberBytes}
@@ -40,7 +40,7 @@ module _ (s : List ℕ) where
 
   -- number i of the bytes is read at byte 4 i
   pub number-is : (i : ℕ) → i < length s / 4 → getD (numbersOf s) i nan ≡ ofBits binary32 (littleAt 4 s (4 * i))
-  number-is i h = getD-many nan _ (length s / 4) i h ∙ ap (λ (at : ℕ). ofBits binary32 (littleAt 4 s at)) (zero-add (4 * i))
+  number-is i h = getD-concatMap nan _ (length s / 4) i h ∙ ap (λ (at : ℕ). ofBits binary32 (littleAt 4 s at)) (zero-add (4 * i))
 
   -- point bytes that passed their test hold good points, as the list calls need them
   pub point-bytes-passed : pointBytesRefusal s ≡ passes → GoodPoints (numbersOf s)
@@ -51,22 +51,22 @@ module _ (s : List ℕ) where
       record { whole = rw numbers-long (omega arith); coordinates = coordinates-passed 8 (numbersOf s) (p .1 .0) }
 
 -- ---- numbers as bytes, list by list
-many-add : {A : Type 0} (f : ℕ → List A) (m n : ℕ) → many f (m + n) ≡ many f m ++ many (λ i. f (m + i)) n
-unfolding many
-many-add f m zero = rw (add-zero, append-nil)
-many-add f m (suc n) = rw (add-suc, many-add f m n) (append-assoc (many f m) (many (λ i. f (m + i)) n) (f (m + n)))
+concatMap-add : {A : Type 0} (f : ℕ → List A) (m n : ℕ) → concatMap f (m + n) ≡ concatMap f m ++ concatMap (λ i. f (m + i)) n
+unfolding concatMap
+concatMap-add f m zero = rw (add-zero, append-nil)
+concatMap-add f m (suc n) = rw (add-suc, concatMap-add f m n) (append-assoc (concatMap f m) (concatMap (λ i. f (m + i)) n) (f (m + n)))
 
 word-append : (a b : List ℕ) → wordBytes (a ++ b) ≡ wordBytes a ++ wordBytes b
 word-append a b =
     let g : ℕ → List ℕ = λ i. little 4 (getD (a ++ b) (0 + i) 0) in
-    ap (many g) (length-append a b) ∙ many-add g (length a) (length b)
-    ∙ ap (λ (l : List ℕ). l ++ many (λ i. g (length a + i)) (length b)) (many-same g (λ i. little 4 (getD a (0 + i) 0)) (length a) (λ i h. simp zero-add (ap (little 4) (List·getD-append a b 0 i h))))
-    ∙ ap (λ (l : List ℕ). wordBytes a ++ l) (many-same (λ i. g (length a + i)) (λ i. little 4 (getD b (0 + i) 0)) (length b) (λ i h. simp zero-add (ap (little 4) (getD-append-add a b i 0))))
+    ap (concatMap g) (length-append a b) ∙ concatMap-add g (length a) (length b)
+    ∙ ap (λ (l : List ℕ). l ++ concatMap (λ i. g (length a + i)) (length b)) (concatMap-same g (λ i. little 4 (getD a (0 + i) 0)) (length a) (λ i h. simp zero-add (ap (little 4) (List·getD-append a b 0 i h))))
+    ∙ ap (λ (l : List ℕ). wordBytes a ++ l) (concatMap-same (λ i. g (length a + i)) (λ i. little 4 (getD b (0 + i) 0)) (length b) (λ i h. simp zero-add (ap (little 4) (getD-append-add a b i 0))))
 
-word-many : (f : ℕ → List ℕ) (n : ℕ) → wordBytes (many f n) ≡ many (λ k. wordBytes (f k)) n
-unfolding many
-word-many f zero = refl
-word-many f (suc n) = word-append (many f n) (f n) ∙ ap (λ (l : List ℕ). l ++ wordBytes (f n)) (word-many f n)
+word-concatMap : (f : ℕ → List ℕ) (n : ℕ) → wordBytes (concatMap f n) ≡ concatMap (λ k. wordBytes (f k)) n
+unfolding concatMap
+word-concatMap f zero = refl
+word-concatMap f (suc n) = word-append (concatMap f n) (f n) ∙ ap (λ (l : List ℕ). l ++ wordBytes (f n)) (word-concatMap f n)
 
 -- ---- the loop over the points that writes answers
 six-long : (a : Answer) → length (sixWords binary32 a) ≡ 6
@@ -77,14 +77,14 @@ six-long (found h) = refl
 answer-long : (a : Answer) → length (wordBytes (sixWords binary32 a)) ≡ 24
 answer-long a = length-numbers 4 (sixWords binary32 a) 0 (length (sixWords binary32 a)) ∙ ap (λ (n : ℕ). 4 * n) (six-long a)
 
-over-all : {A : Type 0} (new old : List A) → length old ≡ length new → over 0 new old ≡ new
-unfolding over
-over-all new old e = let h : length old ≤ length new = omega arith in rw (zero-add, drop-of-length-le old h, append-nil)
+overwrite-all : {A : Type 0} (new old : List A) → length old ≡ length new → overwrite 0 new old ≡ new
+unfolding overwrite
+overwrite-all new old e = let h : length old ≤ length new = omega arith in rw (zero-add, drop-of-length-le old h, append-nil)
 
 -- an answer's six words, stored in the program's list of six, are the answer's bytes
-pub six-bytes : (a : Answer) (old : List ℕ) → length old ≡ 6 → numberBytes 4 (over 0 (sixWords binary32 a) old) 0 6 ≡ wordBytes (sixWords binary32 a)
+pub six-bytes : (a : Answer) (old : List ℕ) → length old ≡ 6 → numberBytes 4 (overwrite 0 (sixWords binary32 a) old) 0 6 ≡ wordBytes (sixWords binary32 a)
 six-bytes a old e =
-    ap (λ (l : List ℕ). numberBytes 4 l 0 6) (over-all (sixWords binary32 a) old (e ∙ sym (six-long a)))
+    ap (λ (l : List ℕ). numberBytes 4 l 0 6) (overwrite-all (sixWords binary32 a) old (e ∙ sym (six-long a)))
     ∙ ap (numberBytes 4 (sixWords binary32 a) 0) (sym (six-long a))
 
 module _ (answer : Point → Answer) (points old : List ℕ) where
@@ -101,17 +101,17 @@ module _ (answer : Point → Answer) (points old : List ℕ) where
 
   -- a turn of the loop writes the next point's answer behind the others
   pub answered-more : (n : ℕ) (out new : List ℕ) (k : ℕ) (a : Answer) → 24 * n ≤ length old → k < n → Answered n out k → a ≡ answer (pointAt (numbersOf points) (3 * k))
-      → new ≡ over (24 * k) (wordBytes (sixWords binary32 a)) out → Answered n new (k + 1)
+      → new ≡ overwrite (24 * k) (wordBytes (sixWords binary32 a)) out → Answered n new (k + 1)
   answered-more n out new k a room l r e h =
-      run-front piece 24 n old out new k (λ j. answer-long (answer (pointAt (numbersOf points) (3 * j)))) room l r (h ∙ ap (λ (b : Answer). over (24 * k) (wordBytes (sixWords binary32 b)) out) e)
+      run-front piece 24 n old out new k (λ j. answer-long (answer (pointAt (numbersOf points) (3 * j)))) room l r (h ∙ ap (λ (b : Answer). overwrite (24 * k) (wordBytes (sixWords binary32 b)) out) e)
 
   -- after the last turn the answers at all points stand at the front
-  pub answered-end : (n : ℕ) (out : List ℕ) (k : ℕ) → n ≡ length points / 12 → n ≤ k → Answered n out k → out ≡ over 0 (answerBytes answer points) old
+  pub answered-end : (n : ℕ) (out : List ℕ) (k : ℕ) → n ≡ length points / 12 → n ≤ k → Answered n out k → out ≡ overwrite 0 (answerBytes answer points) old
   unfolding answerBytes answerWords
   answered-end n out k e l r =
       run-end piece 0 n old out k l r
-      ∙ ap (λ (m : ℕ). over 0 (many piece m) old) (e ∙ sym (points-count points))
-      ∙ ap (λ (new : List ℕ). over 0 new old) (sym (word-many (λ j. sixWords binary32 (answer (pointAt (numbersOf points) (3 * j)))) (pointCount (numbersOf points))))
+      ∙ ap (λ (m : ℕ). overwrite 0 (concatMap piece m) old) (e ∙ sym (points-count points))
+      ∙ ap (λ (new : List ℕ). overwrite 0 new old) (sym (word-concatMap (λ j. sixWords binary32 (answer (pointAt (numbersOf points) (3 * j)))) (pointCount (numbersOf points))))
 
 -- ---- the loop over the points that writes winding numbers
 module _ (triangles : List Float) (points old : List ℕ) where
@@ -119,35 +119,35 @@ module _ (triangles : List Float) (points old : List ℕ) where
   turn k = little 4 (toBits binary32 (windingAt binary32 triangles (numbersOf points) k))
 
   -- k of n winding numbers stand at the front of out
-  abbrev pub Wound : (n : ℕ) (out : List ℕ) (k : ℕ) → Type 0
-  Wound n out k = Run turn 0 n old out k
+  abbrev pub WindingsPut : (n : ℕ) (out : List ℕ) (k : ℕ) → Type 0
+  WindingsPut n out k = Run turn 0 n old out k
 
   -- before the first turn no winding number is written
-  pub wound-start : (n : ℕ) → Wound n old 0
-  wound-start n = run-start turn 4 0 n old
+  pub windings-start : (n : ℕ) → WindingsPut n old 0
+  windings-start n = run-start turn 4 0 n old
 
   -- a turn of the loop writes the next point's winding number behind the others
-  pub wound-more : (n : ℕ) (out new : List ℕ) (k bits : ℕ) → 4 * n ≤ length old → k < n → Wound n out k → bits ≡ toBits binary32 (windingAt binary32 triangles (numbersOf points) k)
-      → new ≡ over (4 * k) (little 4 bits) out → Wound n new (k + 1)
-  wound-more n out new k bits room l r e h =
-      run-front turn 4 n old out new k (λ j. length-little 4 _) room l r (h ∙ ap (λ (b : ℕ). over (4 * k) (little 4 b) out) e)
+  pub windings-more : (n : ℕ) (out new : List ℕ) (k bits : ℕ) → 4 * n ≤ length old → k < n → WindingsPut n out k → bits ≡ toBits binary32 (windingAt binary32 triangles (numbersOf points) k)
+      → new ≡ overwrite (4 * k) (little 4 bits) out → WindingsPut n new (k + 1)
+  windings-more n out new k bits room l r e h =
+      run-front turn 4 n old out new k (λ j. length-little 4 _) room l r (h ∙ ap (λ (b : ℕ). overwrite (4 * k) (little 4 b) out) e)
 
   -- after the last turn the winding numbers about all points stand at the front
-  pub wound-end : (n : ℕ) (out : List ℕ) (k : ℕ) → n ≡ length points / 12 → n ≤ k → Wound n out k → out ≡ over 0 (windingBytes triangles points) old
+  pub windings-end : (n : ℕ) (out : List ℕ) (k : ℕ) → n ≡ length points / 12 → n ≤ k → WindingsPut n out k → out ≡ overwrite 0 (windingBytes triangles points) old
   unfolding windingBytes windings
-  wound-end n out k e l r =
+  windings-end n out k e l r =
       run-end turn 0 n old out k l r
-      ∙ ap (λ (m : ℕ). over 0 (many turn m) old) (e ∙ sym (points-count points))
-      ∙ ap (λ (new : List ℕ). over 0 new old)
-      (many-same turn _ (pointCount (numbersOf points)) (λ i h. ap (λ (x : Float). little 4 (toBits binary32 x)) (sym (getD-many nan (windingAt binary32 triangles (numbersOf points)) (pointCount (numbersOf points)) (0 + i) (rw zero-add h) ∙ ap (windingAt binary32 triangles (numbersOf points)) (zero-add i)))))
+      ∙ ap (λ (m : ℕ). overwrite 0 (concatMap turn m) old) (e ∙ sym (points-count points))
+      ∙ ap (λ (new : List ℕ). overwrite 0 new old)
+      (concatMap-same turn _ (pointCount (numbersOf points)) (λ i h. ap (λ (x : Float). little 4 (toBits binary32 x)) (sym (getD-concatMap nan (windingAt binary32 triangles (numbersOf points)) (pointCount (numbersOf points)) (0 + i) (rw zero-add h) ∙ ap (windingAt binary32 triangles (numbersOf points)) (zero-add i)))))
 
 -- ---- the lent bytes afterwards
 -- a call that refuses keeps its contract by leaving the lent bytes as they were
 pub as-it-was : (v : Verdict) (new old : List ℕ) → refuses v ≡ true → old ≡ afterBytes v new old
 unfolding afterBytes
-as-it-was v new old h = refusal-leaves v (over 0 new old) old h
+as-it-was v new old h = refusal-leaves v (overwrite 0 new old) old h
 
 -- a call that passed keeps its contract by writing at the front
-pub as-written : (v : Verdict) (new old out : List ℕ) → v ≡ passes → out ≡ over 0 new old → out ≡ afterBytes v new old
+pub as-written : (v : Verdict) (new old out : List ℕ) → v ≡ passes → out ≡ overwrite 0 new old → out ≡ afterBytes v new old
 unfolding afterBytes
 as-written v new old out e h = rw e h

@@ -9,16 +9,16 @@ use borrow.Author.Tests.{eqb-false, ltb-false, eq-eqb}
 use lib.Dec.{ltb, eqb}
 use lib.ListN.{length, take}
 use lib.Ieee.{Float, binary32, le}
-use Rattle.spec_tables.specs.Tables.{over, many}
-use Rattle.spec_tables.proofs.Tables.{length-many}
-use Rattle.spec_tables.proofs.Pieces.{length-singles, take-over}
+use Rattle.spec_tables.specs.Tables.{overwrite, concatMap}
+use Rattle.spec_tables.proofs.Tables.{length-concatMap}
+use Rattle.spec_tables.proofs.Pieces.{length-singles, take-overwrite}
 use Rattle.spec_records.specs.Entries.{numbersIn, floatsIn}
 use Rattle.spec_records.specs.Records.{wrong, bodies, laidOut}
 use Rattle.spec_records.specs.Layouts.{version1, imageWants, imageSpans, imageSize, orderStart, nodesStart}
 use Rattle.spec_image.specs.Image.{Image, linksIn, sidesIn, imageIn}
 use Rattle.spec_image.proofs.Sizes.{length-links, length-box, image-is}
 use Rattle.spec_numbers.specs.Values.{zero}
-use Rattle.spec_lists.specs.Limits.{mostTriangles}
+use Rattle.spec_lists.specs.Limits.{maxTriangles}
 use Rattle.spec_lists.specs.Reading.{boxAt, triangleCount}
 use Rattle.spec_lists.specs.Refusals.{Verdict, passes, refused, refuses, refusedIf, firstRefusal, raggedRefusal, noneRefusal, tooManyRefusal, coordinateRefusal, trianglesRefusal, Settings, settingsRefusal, roomRefusal, distanceRefusal, isDistance, firstBad}
 use Rattle.spec_lists.specs.Passed.{GoodTriangles, GoodPoints}
@@ -30,7 +30,7 @@ use Rattle.spec_tree.proofs.Accepted.{accepted-listed, listing-most}
 use Rattle.spec_search.specs.Calls.{Searchable}
 use Rattle.spec_host.specs.Build.{numbersOf}
 use Rattle.spec_host.specs.PointBytes.{pointBytesRefusal}
-use Rattle.spec_host.specs.Requests.{layoutRefusal, contents, treeIn, checkedRefusal, askedRefusal, woundRefusal, checkVerdict, queryVerdict}
+use Rattle.spec_host.specs.Requests.{layoutRefusal, contents, treeIn, checkedRefusal, requestRefusal, windingBytesRefusal, checkVerdict, queryVerdict}
 use Rattle.spec_host.specs.Loading.{countRefusal, earlyRefusal, lateRefusal, lateIn, Ready}
 use Rattle.spec_host.proofs.PointBytes.{point-bytes-passed}
 
@@ -74,26 +74,26 @@ module _ (xs : List Float) (t : ℕ) (nine : length xs ≡ 9 * t) where
   unfolding countRefusal trianglesRefusal raggedRefusal noneRefusal tooManyRefusal firstRefusal
   count-stops v b rest e r h =
       let whole : eqb (length xs % 9) 0 ≡ true = eq-eqb (length xs % 9) 0 (rw nine (omega arith)) in
-      let early : v ≡ trianglesRefusal xs = rw (whole, count-counts) (row-stops (refusedIf (eqb t 0) 2 0 ∷ refusedIf (ltb mostTriangles t) 3 0 ∷ []) (coordinateRefusal 4 xs ∷ []) v b e r h) in
+      let early : v ≡ trianglesRefusal xs = rw (whole, count-counts) (row-stops (refusedIf (eqb t 0) 2 0 ∷ refusedIf (ltb maxTriangles t) 3 0 ∷ []) (coordinateRefusal 4 xs ∷ []) v b e r h) in
       stops v (trianglesRefusal xs) rest b early r h
 
-count-passed : (t : ℕ) → countRefusal t ≡ passes → (1 ≤ t) × (t ≤ mostTriangles)
+count-passed : (t : ℕ) → countRefusal t ≡ passes → (1 ≤ t) × (t ≤ maxTriangles)
 unfolding countRefusal
 count-passed t e =
     let p = all-pass _ e in
     let none = eqb-false t 0 (not-refused (eqb t 0) 2 0 (p .0)) in
-    (omega arith, ltb-false mostTriangles t (not-refused (ltb mostTriangles t) 3 0 (p .1 .0)))
+    (omega arith, ltb-false maxTriangles t (not-refused (ltb maxTriangles t) 3 0 (p .1 .0)))
 
 -- a count that passed its test is at most 4,096, so the triangles fit the program's list
-pub count-few : (t : ℕ) (v : Verdict) (b : Bool) → v ≡ countRefusal t → b ≡ refuses v → b ≡ false → t ≤ mostTriangles
+pub count-few : (t : ℕ) (v : Verdict) (b : Bool) → v ≡ countRefusal t → b ≡ refuses v → b ≡ false → t ≤ maxTriangles
 count-few t v b e r f = count-passed t (did-pass v (countRefusal t) b e r f) .1
 
 -- ---- the lists of an image of t triangles and n nodes, as they are read
 module _ (s : List ℕ) (t n : ℕ) where
   -- the triangles that the program reads to the front of its list are the image's
-  pub triangles-read : (old new : List Float) → new ≡ over 0 (floatsIn binary32 s 20 (9 * t)) old → take (9 * t) new ≡ imageIn version1 s t n .triangles
+  pub triangles-read : (old new : List Float) → new ≡ overwrite 0 (floatsIn binary32 s 20 (9 * t)) old → take (9 * t) new ≡ imageIn version1 s t n .triangles
   unfolding imageIn
-  triangles-read old new e = ap (take (9 * t)) e ∙ take-over (9 * t) _ old (length-singles _ (9 * t))
+  triangles-read old new e = ap (take (9 * t)) e ∙ take-overwrite (9 * t) _ old (length-singles _ (9 * t))
 
   -- the triangles of an image have nine numbers each
   pub triangles-long : length (imageIn version1 s t n .triangles) ≡ 9 * t
@@ -101,19 +101,19 @@ module _ (s : List ℕ) (t n : ℕ) where
   triangles-long = length-singles _ (9 * t)
 
   -- the order that the program reads to the front of its list is the image's
-  pub order-read : (old new : List ℕ) → new ≡ over 0 (numbersIn 2 s (orderStart version1 t) t) old → take t new ≡ imageIn version1 s t n .order
+  pub order-read : (old new : List ℕ) → new ≡ overwrite 0 (numbersIn 2 s (orderStart version1 t) t) old → take t new ≡ imageIn version1 s t n .order
   unfolding imageIn
-  order-read old new e = ap (take t) e ∙ take-over t _ old (length-singles _ t)
+  order-read old new e = ap (take t) e ∙ take-overwrite t _ old (length-singles _ t)
 
   -- the links that the program reads to the front of its list are the image's
-  pub links-read : (old new : List ℕ) → new ≡ over 0 (many (linksIn version1 s (nodesStart version1 t)) n) old → take (3 * n) new ≡ imageIn version1 s t n .links
+  pub links-read : (old new : List ℕ) → new ≡ overwrite 0 (concatMap (linksIn version1 s (nodesStart version1 t)) n) old → take (3 * n) new ≡ imageIn version1 s t n .links
   unfolding imageIn
-  links-read old new e = ap (take (3 * n)) e ∙ take-over (3 * n) _ old (length-many _ 3 n (length-links version1 s (nodesStart version1 t)))
+  links-read old new e = ap (take (3 * n)) e ∙ take-overwrite (3 * n) _ old (length-concatMap _ 3 n (length-links version1 s (nodesStart version1 t)))
 
   -- the boxes that the program reads to the front of its list are the image's
-  pub boxes-read : (old new : List Float) → new ≡ over 0 (many (sidesIn version1 s (nodesStart version1 t)) n) old → take (6 * n) new ≡ imageIn version1 s t n .boxes
+  pub boxes-read : (old new : List Float) → new ≡ overwrite 0 (concatMap (sidesIn version1 s (nodesStart version1 t)) n) old → take (6 * n) new ≡ imageIn version1 s t n .boxes
   unfolding imageIn
-  boxes-read old new e = ap (take (6 * n)) e ∙ take-over (6 * n) _ old (length-many _ 6 n (length-box version1 s (nodesStart version1 t)))
+  boxes-read old new e = ap (take (6 * n)) e ∙ take-overwrite (6 * n) _ old (length-concatMap _ 6 n (length-box version1 s (nodesStart version1 t)))
 
 -- an image of wrong layout counts no triangle
 pub held-none : (s : List ℕ) (at : ℕ) → laidOut (imageWants version1) s 0 ≡ wrong at → 0 ≡ triangleCount (contents s .triangles)
@@ -126,7 +126,7 @@ held-count s t n laid = rw (contents-are s t n laid) (sym (count-counts _ t (tri
 
 -- ---- too many nodes
 -- the tree check refuses more nodes than a tree over 4,096 triangles has, so the program need not load them
-pub too-many-nodes : (triangles : List Float) (order links : List ℕ) (boxes : List Float) (nodes : ℕ) → triangleCount triangles ≤ mostTriangles → 8191 < nodes
+pub too-many-nodes : (triangles : List Float) (order links : List ℕ) (boxes : List Float) (nodes : ℕ) → triangleCount triangles ≤ maxTriangles → 8191 < nodes
     → refused 7 0 ≡ treeRefusal triangles order links boxes nodes
 unfolding treeRefusal
 too-many-nodes triangles order links boxes nodes few many = go (accepted (boxAt triangles) (triangleCount triangles) order links boxes nodes) (λ e.
@@ -156,32 +156,32 @@ module _ (triangles : List Float) (points : List ℕ) where
       (record { triangles-good = good; tree-accepted = so _ _ _ (p .0) }, point-bytes-passed points (p .1 .0))
 
   -- what passed the winding call's tests has room for a number a point
-  pub wound-passed : (room : ℕ) → woundRefusal triangles points room ≡ passes → 4 * (length points / 12) ≤ room
-  unfolding woundRefusal
-  wound-passed room e =
+  pub winding-passed : (room : ℕ) → windingBytesRefusal triangles points room ≡ passes → 4 * (length points / 12) ≤ room
+  unfolding windingBytesRefusal
+  winding-passed room e =
       let enough : length points / 12 ≤ room / 4 = room-passed _ _ (all-pass _ e .1 .0) in
       omega arith
 
 -- ---- the tests before the tree is loaded, and those after it
-module _ (x : Image) (points : List ℕ) (distance : Float) (room : ℕ) (v : Verdict) (b : Bool) (is : v ≡ earlyRefusal (x .triangles) (x .settings) (room / 24) (length points / 12)) (told : b ≡ refuses v) where
+module _ (x : Image) (points : List ℕ) (distance : Float) (room : ℕ) (v : Verdict) (b : Bool) (is : v ≡ earlyRefusal (x .triangles) (x .settings) (room / 24) (length points / 12)) (said : b ≡ refuses v) where
   -- a refusal before the tree is loaded is the call's refusal
-  pub early-stops : b ≡ true → v ≡ askedRefusal x points distance room
-  unfolding earlyRefusal askedRefusal
-  early-stops t = row-stops _ (treeIn x ∷ pointBytesRefusal points ∷ distanceRefusal distance ∷ []) v b is told t
+  pub early-stops : b ≡ true → v ≡ requestRefusal x points distance room
+  unfolding earlyRefusal requestRefusal
+  early-stops t = row-stops _ (treeIn x ∷ pointBytesRefusal points ∷ distanceRefusal distance ∷ []) v b is said t
 
   -- where the tests before it passed, those after the tree is loaded decide
-  pub late-decides : b ≡ false → (rest : Verdict) → rest ≡ lateIn x points distance → rest ≡ askedRefusal x points distance room
-  unfolding earlyRefusal lateRefusal askedRefusal
-  late-decides f rest e = row-goes-on _ (treeIn x ∷ pointBytesRefusal points ∷ distanceRefusal distance ∷ []) v b rest is told f e
+  pub late-decides : b ≡ false → (rest : Verdict) → rest ≡ lateIn x points distance → rest ≡ requestRefusal x points distance room
+  unfolding earlyRefusal lateRefusal requestRefusal
+  late-decides f rest e = row-goes-on _ (treeIn x ∷ pointBytesRefusal points ∷ distanceRefusal distance ∷ []) v b rest is said f e
 
   -- where the tests before it passed, a refusal of the tree is the call's refusal
-  pub tree-stops : b ≡ false → refused 7 0 ≡ treeIn x → refused 7 0 ≡ askedRefusal x points distance room
+  pub tree-stops : b ≡ false → refused 7 0 ≡ treeIn x → refused 7 0 ≡ requestRefusal x points distance room
   unfolding lateRefusal
   tree-stops f e = late-decides f (refused 7 0) (stops (refused 7 0) (treeIn x) (pointBytesRefusal points ∷ distanceRefusal distance ∷ []) true e refl refl)
 
 -- ---- a check is a query at no points
 none-passes : pointBytesRefusal [] ≡ passes
-unfolding pointBytesRefusal coordinateRefusal firstBad firstRefusal many
+unfolding pointBytesRefusal coordinateRefusal firstBad firstRefusal concatMap
 none-passes = refl
 
 drop-passed : (a b c d : Verdict) → firstRefusal (a ∷ firstRefusal (b ∷ c ∷ passes ∷ d ∷ passes ∷ passes ∷ []) ∷ []) ≡ firstRefusal (a ∷ firstRefusal (b ∷ c ∷ d ∷ []) ∷ [])
@@ -194,5 +194,5 @@ drop-passed passes passes passes passes = refl
 
 -- the check of an image is a query at no points, so one function serves both
 pub check-asks-nothing : (image : List ℕ) → queryVerdict image [] zero 1 ≡ checkVerdict image
-unfolding queryVerdict checkVerdict askedRefusal checkedRefusal roomRefusal distanceRefusal isDistance le
+unfolding queryVerdict checkVerdict requestRefusal checkedRefusal roomRefusal distanceRefusal isDistance le
 check-asks-nothing image = rw none-passes (drop-passed (layoutRefusal image) (trianglesRefusal (contents image .triangles)) (settingsRefusal (contents image .settings)) (treeIn (contents image)))

@@ -6,22 +6,22 @@ use mathlib.Core.List.{List, [], _∷_}
 use lib.Dec.{eqb, leb}
 use lib.ListN.{length}
 use lib.Ieee.{Float, binary32}
-use Rattle.spec_tables.specs.Tables.{over}
+use Rattle.spec_tables.specs.Tables.{overwrite}
 use Rattle.spec_records.specs.Entries.{floatsIn}
 use Rattle.spec_records.specs.Layouts.{version1, imageSize}
-use Rattle.spec_lists.specs.Limits.{mostTriangles}
+use Rattle.spec_lists.specs.Limits.{maxTriangles}
 use Rattle.spec_lists.specs.Reading.{boxAt, triangleCount}
 use Rattle.spec_lists.specs.Refusals.{Verdict, firstRefusal, refusedIf, trianglesRefusal, Settings, settingsRefusal, roomRefusal, afterVerdict}
 use Rattle.spec_tree.specs.Trees.{Tree, numbers, nodeCount, linksFrom, boxesOf}
-use Rattle.spec_build.specs.Build.{builtTree, mostNodes}
+use Rattle.spec_build.specs.Build.{builtTree, maxNodes}
 use Rattle.spec_image.specs.Image.{Image, imageBytes}
 use Rattle.spec_image.specs.Stored.{Complete}
 use Rattle.spec_image.specs.Writing.{exactSize}
-use Rattle.spec_host.specs.Told.{told}
+use Rattle.spec_host.specs.Status.{status}
 
 -- the maximum size of an image of n triangles, by which a host lends room; 0 where there is no such image
-unfoldable pub imageMost : ℕ → ℕ
-imageMost n = cond (leb 1 n && leb n mostTriangles) (imageSize version1 n (mostNodes n)) 0
+unfoldable pub imageMax : ℕ → ℕ
+imageMax n = cond (leb 1 n && leb n maxTriangles) (imageSize version1 n (maxNodes n)) 0
 
 -- the numbers that bytes hold, four bytes each
 abbrev pub numbersOf : List ℕ → List Float
@@ -57,8 +57,8 @@ bytesRefusal s settings given = firstRefusal (raggedBytes s ∷ listRefusal (num
 -- the contract of a call with this verdict: its status, and the lent bytes afterwards
 -- they hold the image at the front and what was there behind it; on a refusal what they held
 pub record ImagePut (v : Verdict) (x : Image) (old : List ℕ) (answer : ℕ) (new : List ℕ) : Type 0 where
-  pub told-is : answer ≡ told v (exactSize version1 x)
-  pub bytes-are : new ≡ afterVerdict v (over 0 (imageBytes version1 x) old) old
+  pub status-is : answer ≡ status v (exactSize version1 x)
+  pub bytes-are : new ≡ afterVerdict v (overwrite 0 (imageBytes version1 x) old) old
 
 -- ---- needs of putting an image
 pub record Puttable (x : Image) : Type 0 where

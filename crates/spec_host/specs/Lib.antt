@@ -1,4 +1,4 @@
-pub mod Told
+pub mod Status
 pub mod Build
 pub mod PointBytes
 pub mod Requests

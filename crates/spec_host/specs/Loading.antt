@@ -7,7 +7,7 @@ use lib.ListN.{length, take}
 use lib.Ieee.{Float}
 use Rattle.spec_records.specs.Layouts.{version1, imageSize}
 use Rattle.spec_image.specs.Image.{Image, imageIn}
-use Rattle.spec_lists.specs.Limits.{mostTriangles}
+use Rattle.spec_lists.specs.Limits.{maxTriangles}
 use Rattle.spec_lists.specs.Refusals.{Verdict, refusedIf, firstRefusal, trianglesRefusal, Settings, settingsRefusal, roomRefusal, distanceRefusal}
 use Rattle.spec_lists.specs.Passed.{GoodTriangles}
 use Rattle.spec_tree.specs.Refusals.{treeRefusal}
@@ -15,7 +15,7 @@ use Rattle.spec_host.specs.PointBytes.{pointBytesRefusal}
 
 -- 2 and 3, by the count alone
 unfoldable pub countRefusal : (triangles : ℕ) → Verdict
-countRefusal triangles = firstRefusal (refusedIf (eqb triangles 0) 2 0 ∷ refusedIf (ltb mostTriangles triangles) 3 0 ∷ [])
+countRefusal triangles = firstRefusal (refusedIf (eqb triangles 0) 2 0 ∷ refusedIf (ltb maxTriangles triangles) 3 0 ∷ [])
 
 -- 2 to 6: the tests before the tree is loaded
 unfoldable pub earlyRefusal : (triangles : List Float) (settings : Settings) (room need : ℕ) → Verdict

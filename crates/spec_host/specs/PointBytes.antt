@@ -5,7 +5,7 @@ use mathlib.Core.List.{List, [], _∷_}
 use lib.Dec.{eqb}
 use lib.ListN.{length}
 use lib.Ieee.{Float, binary32}
-use Rattle.spec_tables.specs.Tables.{many, over}
+use Rattle.spec_tables.specs.Tables.{concatMap, overwrite}
 use Rattle.spec_records.specs.Entries.{numberBytes, floatBytes}
 use Rattle.spec_shapes.specs.Points.{Point}
 use Rattle.spec_lists.specs.Reading.{pointCount}
@@ -29,7 +29,7 @@ answerBytes answer points = wordBytes (answerWords binary32 answer (numbersOf po
 
 -- the winding numbers about all points
 unfoldable pub windings : (triangles points : List Float) → List Float
-windings triangles points = many (λ k. windingAt binary32 triangles points k ∷ []) (pointCount points)
+windings triangles points = concatMap (λ k. windingAt binary32 triangles points k ∷ []) (pointCount points)
 
 -- the winding numbers as bytes, four each
 unfoldable pub windingBytes : (triangles : List Float) (points : List ℕ) → List ℕ
@@ -37,4 +37,4 @@ windingBytes triangles points = floatBytes binary32 (windings triangles (numbers
 
 -- the lent bytes afterwards: with what is written at the front, and on a refusal as they were
 unfoldable pub afterBytes : Verdict → (new old : List ℕ) → List ℕ
-afterBytes verdict new old = afterVerdict verdict (over 0 new old) old
+afterBytes verdict new old = afterVerdict verdict (overwrite 0 new old) old

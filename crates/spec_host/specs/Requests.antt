@@ -41,8 +41,8 @@ unfoldable pub checkedRefusal : Image → Verdict
 checkedRefusal x = firstRefusal (trianglesRefusal (x .triangles) ∷ settingsRefusal (x .settings) ∷ treeIn x ∷ [])
 
 -- 2 to 9
-unfoldable pub askedRefusal : Image → (points : List ℕ) (distance : Float) (room : ℕ) → Verdict
-askedRefusal x points distance room =
+unfoldable pub requestRefusal : Image → (points : List ℕ) (distance : Float) (room : ℕ) → Verdict
+requestRefusal x points distance room =
     firstRefusal
     (trianglesRefusal (x .triangles)
     ∷ settingsRefusal (x .settings)
@@ -53,8 +53,8 @@ askedRefusal x points distance room =
     ∷ [])
 
 -- 2 to 4, 6, 8
-unfoldable pub woundRefusal : (triangles : List Float) (points : List ℕ) (room : ℕ) → Verdict
-woundRefusal triangles points room =
+unfoldable pub windingBytesRefusal : (triangles : List Float) (points : List ℕ) (room : ℕ) → Verdict
+windingBytesRefusal triangles points room =
     firstRefusal
     (trianglesRefusal triangles
     ∷ roomRefusal (room / 4) (length points / 12)
@@ -66,10 +66,10 @@ unfoldable pub checkVerdict : (image : List ℕ) → Verdict
 checkVerdict image = firstRefusal (layoutRefusal image ∷ checkedRefusal (contents image) ∷ [])
 
 unfoldable pub queryVerdict : (image points : List ℕ) (distance : Float) (room : ℕ) → Verdict
-queryVerdict image points distance room = firstRefusal (layoutRefusal image ∷ askedRefusal (contents image) points distance room ∷ [])
+queryVerdict image points distance room = firstRefusal (layoutRefusal image ∷ requestRefusal (contents image) points distance room ∷ [])
 
 unfoldable pub windingVerdict : (image points : List ℕ) (room : ℕ) → Verdict
-windingVerdict image points room = firstRefusal (layoutRefusal image ∷ woundRefusal (contents image .triangles) points room ∷ [])
+windingVerdict image points room = firstRefusal (layoutRefusal image ∷ windingBytesRefusal (contents image .triangles) points room ∷ [])
 
 -- ---- the answers, on what an image holds
 abbrev pub answerIn : Query → Image → (distance : Float) → Point → Answer

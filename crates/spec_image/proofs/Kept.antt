@@ -9,7 +9,7 @@ use lib.Dec.{eqb}
 use lib.ListN.{length, take, getD}
 use lib.Ieee.{nan, binary32, ofBits}
 use lib.Ieee.Bits.{ofBits-fits}
-use Rattle.spec_tables.proofs.Pieces.{take-over, length-singles, getD-many}
+use Rattle.spec_tables.proofs.Pieces.{take-overwrite, length-singles, getD-concatMap}
 use Rattle.spec_numbers.specs.Plain.{Plain}
 use Rattle.spec_numbers.proofs.Order.{finite-number}
 use Rattle.spec_records.specs.Little.{littleAt, Bytes}
@@ -40,7 +40,7 @@ use Rattle.spec_image.proofs.Rewritten.{rewritten}
 -- floats that are read are values of the format, so they can be written again
 pub floats-fit : (s : List ℕ) (start n : ℕ) → AllFit binary32 (floatsIn binary32 s start n)
 floats-fit s start n i h =
-    rw (getD-many nan (λ (j : ℕ). ofBits binary32 (littleAt 4 s (start + 4 * j))) n i (omega (arith, length-singles (λ (j : ℕ). ofBits binary32 (littleAt 4 s (start + 4 * j))) n)))
+    rw (getD-concatMap nan (λ (j : ℕ). ofBits binary32 (littleAt 4 s (start + 4 * j))) n i (omega (arith, length-singles (λ (j : ℕ). ofBits binary32 (littleAt 4 s (start + 4 * j))) n)))
     (ofBits-fits binary32 (littleAt 4 s (start + 4 * i)))
 
 -- ---- what good lists hold
@@ -97,7 +97,7 @@ pub written-front : (x : Image) (out : List ℕ) → writeRefusal version1 x (le
 unfolding bytesAfter
 written-front x out accepted =
     let good = write-passed version1 x (length out) accepted .0 in
-    rw accepted (take-over (exactSize version1 x) (imageBytes version1 x) out (good-long x good))
+    rw accepted (take-overwrite (exactSize version1 x) (imageBytes version1 x) out (good-long x good))
 
 -- ---- written, then read
 module _ (x : Image) (given : ℕ) (fit : AllFit binary32 (x .triangles)) (accepted : writeRefusal version1 x given ≡ passes) where

@@ -55,7 +55,7 @@ module _ {A : Type 0} (P : A → Type 0) where
 -- no link reaches a bound on the tree's nodes and entries, so links fit their bytes
 pub links-below : (most node entry : ℕ) (t : Tree) → 2 < most → node + nodeCount t ≤ most → entry + length (numbers t) < most → Each (λ (n : ℕ). n < most) (linksFrom node entry t)
 unfolding linksFrom nodeCount numbers
-links-below most node entry (leaf part) two nodes entries = (omega arith, (omega arith, (entries, tt)))
+links-below most node entry (leaf slice) two nodes entries = (omega arith, (omega arith, (entries, tt)))
 links-below most node entry (branch l r) two nodes entries =
     let long : length (numbers l ++ numbers r) ≡ length (numbers l) + length (numbers r) = length-append (numbers l) (numbers r) in
     each-append (λ (n : ℕ). n < most) (linksFrom node entry l ++ linksFrom (node + nodeCount l) (entry + length (numbers l)) r) _
@@ -82,7 +82,7 @@ module _ (f : Format) (boxAt : ℕ → Box) where
 
   over-plain : (t : Tree) → Filled t → Plains (numbers t) → PlainBox f (boxOver boxAt t)
   unfolding boxOver numbers
-  over-plain (leaf part) some h = joined-plain part some h
+  over-plain (leaf slice) some h = joined-plain slice some h
   over-plain (branch l r) some h =
       union-plain f _ _ (over-plain l (some .0) (each-front _ (numbers l) (numbers r) h)) (over-plain r (some .1) (each-behind _ (numbers l) (numbers r) h))
 
@@ -92,7 +92,7 @@ module _ (f : Format) (boxAt : ℕ → Box) where
   -- the boxes of a tree are plain where its triangles' boxes are, so the format holds their numbers
   pub boxes-plain : (t : Tree) → Filled t → Plains (numbers t) → Each (Plain f) (boxesOf boxAt t)
   unfolding boxesOf numbers
-  boxes-plain (leaf part) some h = six-plain _ (joined-plain part some h)
+  boxes-plain (leaf slice) some h = six-plain _ (joined-plain slice some h)
   boxes-plain (branch l r) some h =
       each-append (Plain f) (boxesOf boxAt l ++ boxesOf boxAt r) _
       (each-append (Plain f) (boxesOf boxAt l) (boxesOf boxAt r) (boxes-plain l (some .0) (each-front _ (numbers l) (numbers r) h)) (boxes-plain r (some .1) (each-behind _ (numbers l) (numbers r) h)))

@@ -7,14 +7,14 @@ use borrow.Author.Tests.{eqb-true}
 use lib.ListN.{length, length-append}
 use lib.Dec.{eqb}
 use lib.Ieee.{Float}
-use Rattle.spec_tables.specs.Tables.{part}
-use Rattle.spec_tables.proofs.Tables.{length-many}
+use Rattle.spec_tables.specs.Tables.{slice}
+use Rattle.spec_tables.proofs.Tables.{length-concatMap}
 use Rattle.spec_tables.proofs.Pieces.{length-singles}
 use Rattle.spec_records.specs.Little.{littleAt}
 use Rattle.spec_records.specs.Entries.{floatSize}
 use Rattle.spec_records.specs.Records.{bodies, done, one, exactly, whole, laidOut}
 use Rattle.spec_records.specs.Layouts.{Shape, triangleSize, nodeSize, settingsRight, treeWants, imageWants, orderStart, imageSize, imageSpans}
-use Rattle.spec_records.proofs.Little.{length-little, number-part}
+use Rattle.spec_records.proofs.Little.{length-little, number-slice}
 use Rattle.spec_records.proofs.Entries.{length-numbers, length-floats}
 use Rattle.spec_records.proofs.Records.{both, record-kind, one-back, done-back, length-record}
 use Rattle.spec_lists.specs.Refusals.{Settings}
@@ -48,7 +48,7 @@ module _ (sh : Shape) (x : Image) where
 
   -- the body of the nodes is as long as the layout wants it
   pub length-nodes : length (nodesBody sh x) ≡ nodeSize sh * x .nodes
-  length-nodes = length-many (nodeBytes sh (x .links) (x .boxes)) (nodeSize sh) (x .nodes) (length-node sh (x .links) (x .boxes))
+  length-nodes = length-concatMap (nodeBytes sh (x .links) (x .boxes)) (nodeSize sh) (x .nodes) (length-node sh (x .links) (x .boxes))
 
   -- an image has exactly the size that the writer asks room for
   pub length-image : Complete x → length (imageBytes sh x) ≡ imageSize sh (length (x .order)) (x .nodes)
@@ -74,14 +74,14 @@ unfolding imageSpans
 image-is sh s t n e =
     let a = one-back 1 (settingsRight sh) (λ _. one 2 (whole (triangleSize sh)) (treeWants sh)) s 0 _ _ e in
     let b = one-back 2 (whole (triangleSize sh)) (treeWants sh) s 14 _ _ (a .onward) in
-    let wanted : ℕ = sh .entry * (length (part s 20 (triangleSize sh * t)) / triangleSize sh) in
+    let wanted : ℕ = sh .entry * (length (slice s 20 (triangleSize sh * t)) / triangleSize sh) in
     let c = one-back 3 (exactly wanted) (λ _. one 4 (whole (nodeSize sh)) (λ _. done)) s (20 + triangleSize sh * t) _ _ (b .onward) in
     let d = one-back 4 (whole (nodeSize sh)) (λ _. done) s (orderStart sh t + sh .entry * t) _ _ (c .onward) in
     let two : 2 ≤ 8 = omega arith in
     record {
       size1 = a .right .sized;
       kind1 = record-kind 1 s 0 (a .right .there);
-      version = sym (number-part 2 s 6 8 two) ∙ eqb-true _ _ (both (exactly 8 (part s 6 8)) (eqb (littleAt 2 (part s 6 8) 0) (sh .version)) (a .right .passes) .1);
+      version = sym (number-slice 2 s 6 8 two) ∙ eqb-true _ _ (both (exactly 8 (slice s 6 8)) (eqb (littleAt 2 (slice s 6 8) 0) (sh .version)) (a .right .passes) .1);
       size2 = b .right .sized;
       kind2 = record-kind 2 s 14 (b .right .there);
       size3 = c .right .sized;

@@ -10,14 +10,14 @@ use borrow.Author.Tests.{eq-eqb}
 use lib.ListN.{length, take, drop}
 use lib.Seq.{take-length, take-add, drop-drop}
 use lib.Ieee.{Format, binary32, binary64}
-use Rattle.spec_tables.specs.Tables.{many, part, Left}
-use Rattle.spec_tables.proofs.Tables.{many-same, many-parts, left-whole, left-within, left-front}
-use Rattle.spec_tables.proofs.Pieces.{piece-within, left-many, left-on, left-part}
+use Rattle.spec_tables.specs.Tables.{concatMap, slice, Remaining}
+use Rattle.spec_tables.proofs.Tables.{concatMap-same, concatMap-slices, remaining-whole, remaining-within, remaining-front}
+use Rattle.spec_tables.proofs.Pieces.{piece-within, remaining-concatMap, remaining-on, remaining-slice}
 use Rattle.spec_records.specs.Little.{little, littleAt}
 use Rattle.spec_records.specs.Entries.{floatSize, numberBytes, floatBytes, numbersIn, floatsIn}
 use Rattle.spec_records.specs.Records.{bodies, exactly, whole, sizeAt, isRecord, header, recordOf, laidOut}
 use Rattle.spec_records.specs.Layouts.{Shape, triangleSize, nodeSize, settingsRight, imageWants, orderStart, nodesStart, imageSpans}
-use Rattle.spec_records.proofs.Little.{length-little, number-left}
+use Rattle.spec_records.proofs.Little.{length-little, number-remaining}
 use Rattle.spec_records.proofs.Entries.{length-numbers, numbers-read, floats-read}
 use Rattle.spec_records.proofs.Records.{RightRecord, record-there, reach-start, reach-on, reach-end}
 use Rattle.spec_image.specs.Image.{Image, settingsBytes, nodeBytes, trianglesBody, orderBody, nodesBody, imageBytes, settingsIn, linksIn, sidesIn, imageIn}
@@ -27,31 +27,31 @@ use Rattle.spec_image.proofs.Sizes.{length-settings, length-node, lengt
 
 -- ---- one record
 -- a record of this kind is left at the place, its body has this size, and behind it the rest is left
-pub record RecordLeft (kind : ℕ) (body : List ℕ) (size : ℕ) (s : List ℕ) (at : ℕ) (rest : List ℕ) : Type 0 where
+pub record RecordRemaining (kind : ℕ) (body : List ℕ) (size : ℕ) (s : List ℕ) (at : ℕ) (rest : List ℕ) : Type 0 where
   pub there : isRecord kind s at ≡ true
   pub sized : sizeAt s at ≡ size
-  pub inner : Left s (at + 6) (body ++ rest)
-  pub stands : part s (at + 6) size ≡ body
-  pub onward : Left s (at + 6 + size) rest
+  pub inner : Remaining s (at + 6) (body ++ rest)
+  pub stands : slice s (at + 6) size ≡ body
+  pub onward : Remaining s (at + 6 + size) rest
 
-record-left : (kind : ℕ) (body : List ℕ) (size : ℕ) (s : List ℕ) (at : ℕ) (rest : List ℕ) → kind < 256 ^ 2 → size < 256 ^ 4 → length body ≡ size → Left s at (recordOf kind body ++ rest)
-    → RecordLeft kind body size s at rest
+record-remaining : (kind : ℕ) (body : List ℕ) (size : ℕ) (s : List ℕ) (at : ℕ) (rest : List ℕ) → kind < 256 ^ 2 → size < 256 ^ 4 → length body ≡ size → Remaining s at (recordOf kind body ++ rest)
+    → RecordRemaining kind body size s at rest
 unfolding recordOf header
-record-left kind body size s at rest k l long h =
-    let h₀ : Left s at (little 4 (length body) ++ (little 2 kind ++ (body ++ rest))) = subst (Left s at) (simp append-assoc) h in
-    let sized : sizeAt s at ≡ size = number-left 4 (length body) s at _ (omega arith) h₀ ∙ long in
-    let h₁ : Left s (at + 4) (little 2 kind ++ (body ++ rest)) = left-on 4 s at (little 4 (length body)) _ (length-little 4 (length body)) h₀ in
-    let h₂ : Left s (at + 6) (body ++ rest) = subst (λ (n : ℕ). Left s n (body ++ rest)) (add-assoc at 4 2) (left-on 2 s (at + 4) (little 2 kind) _ (length-little 2 kind) h₁) in
-    let h₃ : Left s (at + 6 + size) rest = left-on size s (at + 6) body rest long h₂ in
+record-remaining kind body size s at rest k l long h =
+    let h₀ : Remaining s at (little 4 (length body) ++ (little 2 kind ++ (body ++ rest))) = subst (Remaining s at) (simp append-assoc) h in
+    let sized : sizeAt s at ≡ size = number-remaining 4 (length body) s at _ (omega arith) h₀ ∙ long in
+    let h₁ : Remaining s (at + 4) (little 2 kind ++ (body ++ rest)) = remaining-on 4 s at (little 4 (length body)) _ (length-little 4 (length body)) h₀ in
+    let h₂ : Remaining s (at + 6) (body ++ rest) = subst (λ (n : ℕ). Remaining s n (body ++ rest)) (add-assoc at 4 2) (remaining-on 2 s (at + 4) (little 2 kind) _ (length-little 2 kind) h₁) in
+    let h₃ : Remaining s (at + 6 + size) rest = remaining-on size s (at + 6) body rest long h₂ in
     record {
-      there = record-there kind s at (omega (arith, h₃ .within)) (number-left 2 kind s (at + 4) _ k h₁);
+      there = record-there kind s at (omega (arith, h₃ .within)) (number-remaining 2 kind s (at + 4) _ k h₁);
       sized = sized;
       inner = h₂;
-      stands = ap (part s (at + 6)) (sym long) ∙ left-front s (at + 6) body rest h₂;
+      stands = ap (slice s (at + 6)) (sym long) ∙ remaining-front s (at + 6) body rest h₂;
       onward = h₃;
     }
 
-right : {kind : ℕ} {body : List ℕ} {size : ℕ} {s : List ℕ} {at : ℕ} {rest : List ℕ} (test : List ℕ → Bool) → RecordLeft kind body size s at rest → test body ≡ true → RightRecord kind test s at size
+right : {kind : ℕ} {body : List ℕ} {size : ℕ} {s : List ℕ} {at : ℕ} {rest : List ℕ} (test : List ℕ → Bool) → RecordRemaining kind body size s at rest → test body ≡ true → RightRecord kind test s at size
 right test r ok = record { there = r .there; sized = r .sized; passes = ap test (r .stands) ∙ ok }
 
 positive : (f : Format) → 0 < floatSize f
@@ -87,31 +87,31 @@ module _ (sh : Shape) (x : Image) (ok : Storable sh x) where
   long₄ = length-nodes sh x
 
   -- ---- the four records
-  first : RecordLeft 1 b₁ 8 s 0 (recordOf 2 b₂ ++ (recordOf 3 b₃ ++ (recordOf 4 b₄ ++ [])))
+  first : RecordRemaining 1 b₁ 8 s 0 (recordOf 2 b₂ ++ (recordOf 3 b₃ ++ (recordOf 4 b₄ ++ [])))
   unfolding imageBytes
   first =
-      record-left 1 b₁ 8 s 0 _ (omega arith) (omega arith) (length-settings sh (x .settings))
-      (subst (Left s 0) (simp (append-assoc, append-nil)) (left-whole s))
+      record-remaining 1 b₁ 8 s 0 _ (omega arith) (omega arith) (length-settings sh (x .settings))
+      (subst (Remaining s 0) (simp (append-assoc, append-nil)) (remaining-whole s))
 
-  second : RecordLeft 2 b₂ (triangleSize sh * t) s 14 (recordOf 3 b₃ ++ (recordOf 4 b₄ ++ []))
-  second = record-left 2 b₂ (triangleSize sh * t) s 14 _ (omega arith) (ok .few) long₂ (first .onward)
+  second : RecordRemaining 2 b₂ (triangleSize sh * t) s 14 (recordOf 3 b₃ ++ (recordOf 4 b₄ ++ []))
+  second = record-remaining 2 b₂ (triangleSize sh * t) s 14 _ (omega arith) (ok .few) long₂ (first .onward)
 
-  third : RecordLeft 3 b₃ (sh .entry * t) s (20 + triangleSize sh * t) (recordOf 4 b₄ ++ [])
-  third = record-left 3 b₃ (sh .entry * t) s (20 + triangleSize sh * t) _ (omega arith) (ok .fewEntries) long₃ (second .onward)
+  third : RecordRemaining 3 b₃ (sh .entry * t) s (20 + triangleSize sh * t) (recordOf 4 b₄ ++ [])
+  third = record-remaining 3 b₃ (sh .entry * t) s (20 + triangleSize sh * t) _ (omega arith) (ok .fewEntries) long₃ (second .onward)
 
-  fourth : RecordLeft 4 b₄ (nodeSize sh * x .nodes) s (orderStart sh t + sh .entry * t) []
-  fourth = record-left 4 b₄ (nodeSize sh * x .nodes) s (orderStart sh t + sh .entry * t) [] (omega arith) (ok .fewNodes) long₄ (third .onward)
+  fourth : RecordRemaining 4 b₄ (nodeSize sh * x .nodes) s (orderStart sh t + sh .entry * t) []
+  fourth = record-remaining 4 b₄ (nodeSize sh * x .nodes) s (orderStart sh t + sh .entry * t) [] (omega arith) (ok .fewNodes) long₄ (third .onward)
 
   settings-ok : settingsRight sh b₁ ≡ true
   unfolding settingsBytes
   settings-ok =
-      let front : Left b₁ 0 (little 2 (sh .version) ++ (little 2 (x .settings .strategy) ++ (little 2 (x .settings .leafMinimum) ++ little 2 (x .settings .maximumDepth)))) = subst (Left b₁ 0) (simp append-assoc) (left-whole b₁) in
-      rw (length-settings sh (x .settings), number-left 2 (sh .version) b₁ 0 _ (ok .version) front, eq-eqb (sh .version) (sh .version) refl)
+      let front : Remaining b₁ 0 (little 2 (sh .version) ++ (little 2 (x .settings .strategy) ++ (little 2 (x .settings .leafMinimum) ++ little 2 (x .settings .maximumDepth)))) = subst (Remaining b₁ 0) (simp append-assoc) (remaining-whole b₁) in
+      rw (length-settings sh (x .settings), number-remaining 2 (sh .version) b₁ 0 _ (ok .version) front, eq-eqb (sh .version) (sh .version) refl)
 
   triangles-ok : whole (triangleSize sh) b₂ ≡ true
   triangles-ok = rw long₂ (eq-eqb _ 0 (mul-mod-right (triangleSize sh) t))
 
-  order-ok : exactly (sh .entry * (length (part s 20 (triangleSize sh * t)) / triangleSize sh)) b₃ ≡ true
+  order-ok : exactly (sh .entry * (length (slice s 20 (triangleSize sh * t)) / triangleSize sh)) b₃ ≡ true
   order-ok =
       let some : 0 < triangleSize sh = omega (arith, positive (sh .float)) in
       rw (second .stands, long₂, long₃, mul-div-cancel-left t {n = triangleSize sh} some) (eq-eqb (sh .entry * t) (sh .entry * t) refl)
@@ -124,9 +124,9 @@ module _ (sh : Shape) (x : Image) (ok : Storable sh x) where
   unfolding imageSpans
   written-laid =
       let two = reach-on (reach-on (reach-start (imageWants sh) s) (right (settingsRight sh) first settings-ok)) (right (whole (triangleSize sh)) second triangles-ok) in
-      let wanted : ℕ = sh .entry * (length (part s 20 (triangleSize sh * t)) / triangleSize sh) in
+      let wanted : ℕ = sh .entry * (length (slice s 20 (triangleSize sh * t)) / triangleSize sh) in
       let four = reach-on (reach-on two (right (exactly wanted) third order-ok)) (right (whole (nodeSize sh)) fourth nodes-ok) in
-      reach-end four (omega (arith, left-within s _ [] (fourth .onward)))
+      reach-end four (omega (arith, remaining-within s _ [] (fourth .onward)))
 
   -- ---- the values
   settings-back : settingsIn s ≡ x .settings
@@ -137,13 +137,13 @@ module _ (sh : Shape) (x : Image) (ok : Storable sh x) where
       let b : ℕ = x .settings .leafMinimum in
       let c : ℕ = x .settings .maximumDepth in
       let rest : List ℕ = recordOf 2 b₂ ++ (recordOf 3 b₃ ++ (recordOf 4 b₄ ++ [])) in
-      let h₀ : Left s 6 (little 2 v ++ (little 2 a ++ (little 2 b ++ (little 2 c ++ rest)))) = subst (Left s 6) (simp append-assoc) (first .inner) in
-      let h₁ : Left s 8 (little 2 a ++ (little 2 b ++ (little 2 c ++ rest))) = left-on 2 s 6 (little 2 v) _ (length-little 2 v) h₀ in
-      let h₂ : Left s 10 (little 2 b ++ (little 2 c ++ rest)) = left-on 2 s 8 (little 2 a) _ (length-little 2 a) h₁ in
-      let h₃ : Left s 12 (little 2 c ++ rest) = left-on 2 s 10 (little 2 b) _ (length-little 2 b) h₂ in
-      let p : littleAt 2 s 8 ≡ a = number-left 2 a s 8 _ (ok .strategy) h₁ in
-      let q : littleAt 2 s 10 ≡ b = number-left 2 b s 10 _ (ok .leafMinimum) h₂ in
-      let r : littleAt 2 s 12 ≡ c = number-left 2 c s 12 _ (ok .maximumDepth) h₃ in
+      let h₀ : Remaining s 6 (little 2 v ++ (little 2 a ++ (little 2 b ++ (little 2 c ++ rest)))) = subst (Remaining s 6) (simp append-assoc) (first .inner) in
+      let h₁ : Remaining s 8 (little 2 a ++ (little 2 b ++ (little 2 c ++ rest))) = remaining-on 2 s 6 (little 2 v) _ (length-little 2 v) h₀ in
+      let h₂ : Remaining s 10 (little 2 b ++ (little 2 c ++ rest)) = remaining-on 2 s 8 (little 2 a) _ (length-little 2 a) h₁ in
+      let h₃ : Remaining s 12 (little 2 c ++ rest) = remaining-on 2 s 10 (little 2 b) _ (length-little 2 b) h₂ in
+      let p : littleAt 2 s 8 ≡ a = number-remaining 2 a s 8 _ (ok .strategy) h₁ in
+      let q : littleAt 2 s 10 ≡ b = number-remaining 2 b s 10 _ (ok .leafMinimum) h₂ in
+      let r : littleAt 2 s 12 ≡ c = number-remaining 2 c s 12 _ (ok .maximumDepth) h₃ in
       λ i. record { strategy = p i; leafMinimum = q i; maximumDepth = r i }
 
   triangles-back : floatsIn (sh .float) s 20 (9 * t) ≡ x .triangles
@@ -172,47 +172,47 @@ module _ (sh : Shape) (x : Image) (ok : Storable sh x) where
     abbrev box : List ℕ
     box = floatBytes (sh .float) (x .boxes) (6 * i) 6
 
-    node-left : Left s at (kind ++ (sides ++ (box ++ rest)))
+    node-remaining : Remaining s at (kind ++ (sides ++ (box ++ rest)))
     unfolding nodeBytes
-    node-left =
+    node-remaining =
         let sized : length (nodeBytes sh (x .links) (x .boxes) i) ≡ nodeSize sh = length-node sh (x .links) (x .boxes) i in
-        let e : part s at (nodeSize sh) ≡ nodeBytes sh (x .links) (x .boxes) i =
-        left-many (nodeBytes sh (x .links) (x .boxes)) (nodeSize sh) (x .nodes) s (nodesStart sh t) [] (length-node sh (x .links) (x .boxes)) (fourth .inner) i l in
+        let e : slice s at (nodeSize sh) ≡ nodeBytes sh (x .links) (x .boxes) i =
+        remaining-concatMap (nodeBytes sh (x .links) (x .boxes)) (nodeSize sh) (x .nodes) s (nodesStart sh t) [] (length-node sh (x .links) (x .boxes)) (fourth .inner) i l in
         let m : nodeSize sh * i + nodeSize sh ≤ nodeSize sh * x .nodes = piece-within (nodeSize sh) (x .nodes) i l in
         let room : at + length (nodeBytes sh (x .links) (x .boxes) i) ≤ length s = omega (arith, fourth .onward .within) in
-        subst (Left s at) (simp append-assoc)
-        (left-part s at (nodeBytes sh (x .links) (x .boxes) i) room (ap (part s at) sized ∙ e))
+        subst (Remaining s at) (simp append-assoc)
+        (remaining-slice s at (nodeBytes sh (x .links) (x .boxes) i) room (ap (slice s at) sized ∙ e))
 
-    sides-left : Left s (at + 2) (sides ++ (box ++ rest))
-    sides-left = left-on 2 s at kind _ (length-numbers 2 (x .links) (3 * i) 1) node-left
+    sides-remaining : Remaining s (at + 2) (sides ++ (box ++ rest))
+    sides-remaining = remaining-on 2 s at kind _ (length-numbers 2 (x .links) (3 * i) 1) node-remaining
 
-    box-left : Left s (at + (2 + 2 * sh .entry)) (box ++ rest)
-    box-left =
+    box-remaining : Remaining s (at + (2 + 2 * sh .entry)) (box ++ rest)
+    box-remaining =
         let e : at + 2 + sh .entry * 2 ≡ at + (2 + 2 * sh .entry) = omega arith in
-        subst (λ (n : ℕ). Left s n (box ++ rest)) e (left-on (sh .entry * 2) s (at + 2) sides _ (length-numbers (sh .entry) (x .links) (3 * i + 1) 2) sides-left)
+        subst (λ (n : ℕ). Remaining s n (box ++ rest)) e (remaining-on (sh .entry * 2) s (at + 2) sides _ (length-numbers (sh .entry) (x .links) (3 * i + 1) 2) sides-remaining)
 
-    links-back : linksIn sh s (nodesStart sh t) i ≡ part (x .links) (3 * i) 3
+    links-back : linksIn sh s (nodesStart sh t) i ≡ slice (x .links) (3 * i) 3
     unfolding linksIn
     links-back =
         let room : 3 * i + 3 ≤ length (x .links) = omega (arith, ok .complete .linked) in
-        let a : numbersIn 2 s at 1 ≡ part (x .links) (3 * i) 1 = numbers-read 2 (x .links) (3 * i) 1 s at _ (ok .kinds i l) (omega arith) node-left in
-        let b : numbersIn (sh .entry) s (at + 2) 2 ≡ part (x .links) (3 * i + 1) 2 = numbers-read (sh .entry) (x .links) (3 * i + 1) 2 s (at + 2) _ (ok .sides i l) (omega arith) sides-left in
+        let a : numbersIn 2 s at 1 ≡ slice (x .links) (3 * i) 1 = numbers-read 2 (x .links) (3 * i) 1 s at _ (ok .kinds i l) (omega arith) node-remaining in
+        let b : numbersIn (sh .entry) s (at + 2) 2 ≡ slice (x .links) (3 * i + 1) 2 = numbers-read (sh .entry) (x .links) (3 * i + 1) 2 s (at + 2) _ (ok .sides i l) (omega arith) sides-remaining in
         rw (a, b, take-add 1 2 (drop (3 * i) (x .links)), drop-drop 1 (3 * i) (x .links))
 
-    box-back : sidesIn sh s (nodesStart sh t) i ≡ part (x .boxes) (6 * i) 6
+    box-back : sidesIn sh s (nodesStart sh t) i ≡ slice (x .boxes) (6 * i) 6
     unfolding sidesIn
     box-back =
         let room : 6 * i + 6 ≤ length (x .boxes) = omega (arith, ok .complete .boxed) in
-        floats-read (sh .float) (x .boxes) (6 * i) 6 s (at + (2 + 2 * sh .entry)) _ (ok .bounds i l) room box-left
+        floats-read (sh .float) (x .boxes) (6 * i) 6 s (at + (2 + 2 * sh .entry)) _ (ok .bounds i l) room box-remaining
 
   -- reading what was written gives back what was written
   pub written-read : imageIn sh s t (x .nodes) ≡ used x
   unfolding imageIn
   written-read =
-      let links-are : many (linksIn sh s (nodesStart sh t)) (x .nodes) ≡ take (3 * x .nodes) (x .links) =
-      many-same (linksIn sh s (nodesStart sh t)) (λ i. part (x .links) (3 * i) 3) (x .nodes) links-back ∙ many-parts 3 (x .links) (x .nodes) in
-      let boxes-are : many (sidesIn sh s (nodesStart sh t)) (x .nodes) ≡ take (6 * x .nodes) (x .boxes) =
-      many-same (sidesIn sh s (nodesStart sh t)) (λ i. part (x .boxes) (6 * i) 6) (x .nodes) box-back ∙ many-parts 6 (x .boxes) (x .nodes) in
+      let links-are : concatMap (linksIn sh s (nodesStart sh t)) (x .nodes) ≡ take (3 * x .nodes) (x .links) =
+      concatMap-same (linksIn sh s (nodesStart sh t)) (λ i. slice (x .links) (3 * i) 3) (x .nodes) links-back ∙ concatMap-slices 3 (x .links) (x .nodes) in
+      let boxes-are : concatMap (sidesIn sh s (nodesStart sh t)) (x .nodes) ≡ take (6 * x .nodes) (x .boxes) =
+      concatMap-same (sidesIn sh s (nodesStart sh t)) (λ i. slice (x .boxes) (6 * i) 6) (x .nodes) box-back ∙ concatMap-slices 6 (x .boxes) (x .nodes) in
       λ i. record { settings = settings-back i; triangles = triangles-back i; order = order-back i; nodes = x .nodes; links = links-are i; boxes = boxes-are i }
 
   -- reading what was written answers its settings and counts, where there is room

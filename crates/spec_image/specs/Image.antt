@@ -4,7 +4,7 @@ use Prim.Native.Nat.{ℕ, _+_, _*_}
 use mathlib.Core.List.{List, _++_}
 use lib.ListN.{length}
 use lib.Ieee.{Float}
-use Rattle.spec_tables.specs.Tables.{many}
+use Rattle.spec_tables.specs.Tables.{concatMap}
 use Rattle.spec_records.specs.Little.{little, littleAt}
 use Rattle.spec_records.specs.Entries.{numberBytes, floatBytes, numbersIn, floatsIn}
 use Rattle.spec_records.specs.Records.{recordOf}
@@ -37,7 +37,7 @@ abbrev pub orderBody : Shape → Image → List ℕ
 orderBody sh x = numberBytes (sh .entry) (x .order) 0 (length (x .order))
 
 abbrev pub nodesBody : Shape → Image → List ℕ
-nodesBody sh x = many (nodeBytes sh (x .links) (x .boxes)) (x .nodes)
+nodesBody sh x = concatMap (nodeBytes sh (x .links) (x .boxes)) (x .nodes)
 
 -- the four records, one behind the other
 unfoldable pub imageBytes : Shape → Image → List ℕ
@@ -64,6 +64,6 @@ imageIn sh s t n = record {
   triangles = floatsIn (sh .float) s 20 (9 * t);
   order = numbersIn (sh .entry) s (orderStart sh t) t;
   nodes = n;
-  links = many (linksIn sh s (nodesStart sh t)) n;
-  boxes = many (sidesIn sh s (nodesStart sh t)) n;
+  links = concatMap (linksIn sh s (nodesStart sh t)) n;
+  boxes = concatMap (sidesIn sh s (nodesStart sh t)) n;
 }

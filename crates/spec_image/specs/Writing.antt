@@ -2,7 +2,7 @@
 use Prim.Native.Nat.{ℕ}
 use mathlib.Core.List.{List, [], _∷_}
 use lib.ListN.{length}
-use Rattle.spec_tables.specs.Tables.{over}
+use Rattle.spec_tables.specs.Tables.{overwrite}
 use Rattle.spec_records.specs.Layouts.{Shape, imageSize}
 use Rattle.spec_lists.specs.Reading.{triangleCount}
 use Rattle.spec_lists.specs.Refusals as Refusals
@@ -35,4 +35,4 @@ imageWritten sh x given = answered (writeRefusal sh x given) (exactSize sh x)
 
 -- the lent bytes afterwards: the image from the front, and what was behind it; as they were on a refusal
 unfoldable pub bytesAfter : Shape → Image → List ℕ → List ℕ
-bytesAfter sh x out = afterVerdict (writeRefusal sh x (length out)) (over 0 (imageBytes sh x) out) out
+bytesAfter sh x out = afterVerdict (writeRefusal sh x (length out)) (overwrite 0 (imageBytes sh x) out) out

@@ -103,6 +103,6 @@ module _ (xs : List Float) (i : ℕ) (inside : i < length xs) where
   good-here e = rw (drop-cons xs i nan inside, e, add-one)
 
 -- the turn at the end: no number remains
-pub none-left : (xs : List Float) (i : ℕ) → length xs ≤ i → firstBad (drop i xs) ≡ 0
+pub none-remaining : (xs : List Float) (i : ℕ) → length xs ≤ i → firstBad (drop i xs) ≡ 0
 unfolding firstBad
-none-left xs i h = rw (drop-of-length-le xs h)
+none-remaining xs i h = rw (drop-of-length-le xs h)

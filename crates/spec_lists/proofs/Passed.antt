@@ -13,7 +13,7 @@ use lib.Ieee.Bits.{is-true}
 use lib.Ieee.Fits.{and-l, and-r}
 use Rattle.spec_numbers.specs.Values.{zero}
 use Rattle.spec_numbers.proofs.Tests.{passed}
-use Rattle.spec_lists.specs.Limits.{mostTriangles, longestDistance, deepest, mostLeafMinimum}
+use Rattle.spec_lists.specs.Limits.{maxTriangles, longestDistance, deepest, maxLeafMinimum}
 use Rattle.spec_lists.specs.Reading.{triangleCount, pointCount}
 use Rattle.spec_lists.specs.Refusals.{passes, refused, firstBad, raggedRefusal, noneRefusal, tooManyRefusal, coordinateRefusal, trianglesRefusal, Settings, areSettings, settingsRefusal, roomRefusal, pointsRefusal, distanceRefusal, within, isDistance}
 use Rattle.spec_lists.specs.Passed.{AllCoordinates, GoodTriangles, GoodPoints, GoodSettings, GoodDistance, FirstBad}
@@ -33,9 +33,9 @@ module _ (number : ℕ) (xs : List Float) where
   coordinates-pass h = rw (le-ltb (firstBad xs) (length xs) (all-good xs h))
 
   -- a refusal carries the number of its test and the place of the first bad number
-  pub coordinate-told : (n place : ℕ) → coordinateRefusal number xs ≡ refused n place → (n ≡ number) × FirstBad xs place
+  pub coordinate-place : (n place : ℕ) → coordinateRefusal number xs ≡ refused n place → (n ≡ number) × FirstBad xs place
   unfolding coordinateRefusal
-  coordinate-told n place e =
+  coordinate-place n place e =
       let r = refused-by (ltb (firstBad xs) (length xs)) number (firstBad xs) n place e in
       (r .1 .0, rw (r .1 .1) (first-bad xs (ltb-true (firstBad xs) (length xs) (r .0))))
 
@@ -56,7 +56,7 @@ module _ (xs : List Float) where
       record {
         whole = omega arith;
         some = omega arith;
-        few = ltb-false mostTriangles (length xs / 9) (not-refused (ltb mostTriangles (length xs / 9)) 3 0 (p .1 .1 .0));
+        few = ltb-false maxTriangles (length xs / 9) (not-refused (ltb maxTriangles (length xs / 9)) 3 0 (p .1 .1 .0));
         coordinates = coordinates-passed 4 xs (p .1 .1 .1 .0);
       }
 
@@ -70,7 +70,7 @@ module _ (xs : List Float) where
         rw (eq-eqb (length xs % 9) 0 (omega arith)),
         (
           rw (ne-eqb (length xs / 9) 0 (λ (z : length xs / 9 ≡ 0). omega arith)),
-          (rw (le-ltb mostTriangles (length xs / 9) (g .few)), (coordinates-pass 4 xs (g .coordinates), tt)),
+          (rw (le-ltb maxTriangles (length xs / 9) (g .few)), (coordinates-pass 4 xs (g .coordinates), tt)),
         ),
       )
 
@@ -100,7 +100,7 @@ module _ (s : Settings) where
       let a = leb 1 (s .strategy) in
       let b = leb (s .strategy) 2 in
       let c = leb 1 (s .leafMinimum) in
-      let d = leb (s .leafMinimum) mostLeafMinimum in
+      let d = leb (s .leafMinimum) maxLeafMinimum in
       let f = leb (s .maximumDepth) deepest in
       let h = passed (so (a && b && c && d && f) 5 0 e) in
       let k = and-l (a && b && c && d) f h in
@@ -110,7 +110,7 @@ module _ (s : Settings) where
         first = leb→le 1 (s .strategy) (and-l a b m);
         last = leb→le (s .strategy) 2 (and-r a b m);
         leaf = leb→le 1 (s .leafMinimum) (and-r (a && b) c l);
-        leafMost = leb→le (s .leafMinimum) mostLeafMinimum (and-r (a && b && c) d k);
+        leafMost = leb→le (s .leafMinimum) maxLeafMinimum (and-r (a && b && c) d k);
         depth = leb→le (s .maximumDepth) deepest (and-r (a && b && c && d) f h);
       }
 
@@ -122,7 +122,7 @@ module _ (s : Settings) where
         le-leb 1 (s .strategy) (g .first),
         le-leb (s .strategy) 2 (g .last),
         le-leb 1 (s .leafMinimum) (g .leaf),
-        le-leb (s .leafMinimum) mostLeafMinimum (g .leafMost),
+        le-leb (s .leafMinimum) maxLeafMinimum (g .leafMost),
         le-leb (s .maximumDepth) deepest (g .depth),
       )
 

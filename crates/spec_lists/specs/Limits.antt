@@ -5,8 +5,8 @@ use lib.IntN.{pos}
 use lib.Ieee.{Float, fin}
 
 -- the max number of triangles of a list
-abbrev pub mostTriangles : ℕ
-mostTriangles = 4096
+abbrev pub maxTriangles : ℕ
+maxTriangles = 4096
 
 -- 1,048,576: the max magnitude of a coordinate
 abbrev pub furthestCoordinate : Float
@@ -21,5 +21,5 @@ abbrev pub deepest : ℕ
 deepest = 64
 
 -- the max leaf minimum, which is the count up to which a leaf is made
-abbrev pub mostLeafMinimum : ℕ
-mostLeafMinimum = 4096
+abbrev pub maxLeafMinimum : ℕ
+maxLeafMinimum = 4096

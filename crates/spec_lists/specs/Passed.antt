@@ -7,7 +7,7 @@ use lib.Dec.{T}
 use lib.ListN.{length, getD}
 use lib.Ieee.{Float, nan, Format, fits, le}
 use Rattle.spec_numbers.specs.Values.{zero}
-use Rattle.spec_lists.specs.Limits.{mostTriangles, longestDistance, deepest, mostLeafMinimum}
+use Rattle.spec_lists.specs.Limits.{maxTriangles, longestDistance, deepest, maxLeafMinimum}
 use Rattle.spec_lists.specs.Reading.{triangleCount, pointCount}
 use Rattle.spec_lists.specs.Refusals.{isCoordinate, Settings}
 
@@ -23,7 +23,7 @@ AllFit f xs = (i : ℕ) → i < length xs → T (fits f (getD xs i nan))
 pub record GoodTriangles (xs : List Float) : Type 0 where
   pub whole : length xs ≡ 9 * triangleCount xs
   pub some : 1 ≤ triangleCount xs
-  pub few : triangleCount xs ≤ mostTriangles
+  pub few : triangleCount xs ≤ maxTriangles
   pub coordinates : AllCoordinates xs
 
 -- a list of whole points in range; there may be none
@@ -36,7 +36,7 @@ pub record GoodSettings (s : Settings) : Type 0 where
   pub first : 1 ≤ s .strategy
   pub last : s .strategy ≤ 2
   pub leaf : 1 ≤ s .leafMinimum
-  pub leafMost : s .leafMinimum ≤ mostLeafMinimum
+  pub leafMost : s .leafMinimum ≤ maxLeafMinimum
   pub depth : s .maximumDepth ≤ deepest
 
 -- a search distance in range

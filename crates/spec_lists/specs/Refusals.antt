@@ -6,7 +6,7 @@ use lib.Dec.{leb, ltb, eqb}
 use lib.ListN.{length}
 use lib.Ieee.{Float, le, neg}
 use Rattle.spec_numbers.specs.Values.{zero}
-use Rattle.spec_lists.specs.Limits.{mostTriangles, furthestCoordinate, longestDistance, deepest, mostLeafMinimum}
+use Rattle.spec_lists.specs.Limits.{maxTriangles, furthestCoordinate, longestDistance, deepest, maxLeafMinimum}
 use Rattle.spec_lists.specs.Reading.{triangleCount}
 
 -- what a test answers: it passes, or refuses with its number and a place
@@ -55,7 +55,7 @@ noneRefusal xs = refusedIf (eqb (triangleCount xs) 0) 2 0
 
 -- 3: more triangles than the limit
 unfoldable pub tooManyRefusal : List Float → Verdict
-tooManyRefusal xs = refusedIf (ltb mostTriangles (triangleCount xs)) 3 0
+tooManyRefusal xs = refusedIf (ltb maxTriangles (triangleCount xs)) 3 0
 
 -- 4 or 8: a coordinate is out of range or no number; the place is the index of the first
 unfoldable pub coordinateRefusal : ℕ → List Float → Verdict
@@ -74,7 +74,7 @@ pub record Settings : Type 0 where
 -- strategy 1 is median, 2 is area
 unfoldable pub areSettings : Settings → Bool
 areSettings s =
-    leb 1 (s .strategy) && leb (s .strategy) 2 && leb 1 (s .leafMinimum) && leb (s .leafMinimum) mostLeafMinimum && leb (s .maximumDepth) deepest
+    leb 1 (s .strategy) && leb (s .strategy) 2 && leb 1 (s .leafMinimum) && leb (s .leafMinimum) maxLeafMinimum && leb (s .maximumDepth) deepest
 
 -- 5: a setting is out of range
 unfoldable pub settingsRefusal : Settings → Verdict

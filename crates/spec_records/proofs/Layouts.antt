@@ -7,17 +7,17 @@ use native.Mathlib.Omega.{arith}
 use borrow.Author.Tests.{eqb-true}
 use lib.ListN.{length}
 use lib.Dec.{eqb}
-use Rattle.spec_tables.specs.Tables.{part}
-use Rattle.spec_tables.proofs.Pieces.{length-part}
+use Rattle.spec_tables.specs.Tables.{slice}
+use Rattle.spec_tables.proofs.Pieces.{length-slice}
 use Rattle.spec_records.specs.Little.{littleAt}
 use Rattle.spec_records.specs.Records.{done, one, exactly, whole, sizeAt, bodyAt, isRecord, isRight}
 use Rattle.spec_records.specs.Layouts.{Shape, version1, settingsRight, imageWants, imageSpans, gaugeSpans}
-use Rattle.spec_records.proofs.Little.{number-part}
+use Rattle.spec_records.proofs.Little.{number-slice}
 use Rattle.spec_records.proofs.Records.{both, RightRecord, right-within, right-parts, test-decides, record-within, Reached, reach-start, reach-on}
 
 module _ (kind : ℕ) (s : List ℕ) (at size : ℕ) (there : isRecord kind s at ≡ true) (sized : sizeAt s at ≡ size) where
-  long : length (part s (at + 6) size) ≡ size
-  long = length-part s (at + 6) size (omega (arith, record-within kind s at there))
+  long : length (slice s (at + 6) size) ≡ size
+  long = length-slice s (at + 6) size (omega (arith, record-within kind s at there))
 
   -- of a record that wants a size, the size in its header decides: the body is not read
   pub exactly-decides : (wanted : ℕ) → isRight kind (exactly wanted) s at ≡ eqb size wanted
@@ -28,8 +28,8 @@ module _ (kind : ℕ) (s : List ℕ) (at size : ℕ) (there : isRecord kind s at
   whole-decides entry = test-decides kind (whole entry) s at size (eqb (size % entry) 0) there sized (rw long)
 
 -- ---- what it says that a record is right
-body-long : {kind at size : ℕ} {test : List ℕ → Bool} {s : List ℕ} → RightRecord kind test s at size → length (part s (at + 6) size) ≡ size
-body-long {kind} {at} {size} {test} {s} r = length-part s (at + 6) size (right-within r)
+body-long : {kind at size : ℕ} {test : List ℕ → Bool} {s : List ℕ} → RightRecord kind test s at size → length (slice s (at + 6) size) ≡ size
+body-long {kind} {at} {size} {test} {s} r = length-slice s (at + 6) size (right-within r)
 
 -- a right record of whole entries has no bytes over, so its size gives their number
 pub whole-size : (entry : ℕ) {kind at size : ℕ} {s : List ℕ} → RightRecord kind (whole entry) s at size → size % entry ≡ 0
@@ -55,7 +55,7 @@ pub version-decides : (sh : Shape) (s : List ℕ) → isRight 1 (exactly 8) s 0 
 version-decides sh s e =
     let two : 2 ≤ 8 = omega arith in
     let eight : sizeAt s 0 ≡ 8 = exactly-right 1 8 s 0 e .sized in
-    rw (settings-are sh s, e, eight, number-part 2 s 6 8 two)
+    rw (settings-are sh s, e, eight, number-slice 2 s 6 8 two)
 
 -- right settings have eight bytes, so the triangles start at a known place
 pub settings-right : (sh : Shape) (s : List ℕ) → isRight 1 (settingsRight sh) s 0 ≡ true → RightRecord 1 (settingsRight sh) s 0 8

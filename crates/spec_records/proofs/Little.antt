@@ -7,9 +7,9 @@ use native.Mathlib.Numerals.{add-one}
 use native.Mathlib.Omega.{arith}
 use lib.ListN.{length, take, drop, getD, set, length-set}
 use lib.Seq.{drop-cons, getD-drop, take-take}
-use Rattle.spec_tables.proofs.Tables.{left-front, put-then, put-store}
-use Rattle.spec_tables.proofs.Pieces.{length-part}
-use Rattle.spec_tables.specs.Tables.{part, Left, Put}
+use Rattle.spec_tables.proofs.Tables.{remaining-front, put-then, put-store}
+use Rattle.spec_tables.proofs.Pieces.{length-slice}
+use Rattle.spec_tables.specs.Tables.{slice, Remaining, Put}
 use Rattle.spec_records.specs.Little.{little, ofLittle, littleAt, Bytes}
 
 -- a number takes as many bytes as its width
@@ -58,31 +58,31 @@ bytes-take (suc n) [] h = record { below = λ i. omega arith }
 bytes-take (suc n) (b ∷ s) h = bytes-more b (take n s) (h .below 0) (bytes-take n s (bytes-rest b s h))
 
 -- a slice of bytes has only bytes
-pub bytes-part : (s : List ℕ) (at w : ℕ) → Bytes s → Bytes (part s at w)
-bytes-part s at w h = bytes-take w (drop at s) (record { below = λ i. rw getD-drop (h .below (at + i)) })
+pub bytes-slice : (s : List ℕ) (at w : ℕ) → Bytes s → Bytes (slice s at w)
+bytes-slice s at w h = bytes-take w (drop at s) (record { below = λ i. rw getD-drop (h .below (at + i)) })
 
 -- ---- a number at a place of a list
 
 -- a number that was written at a place is read there
-pub number-left : (w n : ℕ) (s : List ℕ) (at : ℕ) (rest : List ℕ) → n < 256 ^ w → Left s at (little w n ++ rest) → littleAt w s at ≡ n
+pub number-remaining : (w n : ℕ) (s : List ℕ) (at : ℕ) (rest : List ℕ) → n < 256 ^ w → Remaining s at (little w n ++ rest) → littleAt w s at ≡ n
 unfolding littleAt
-number-left w n s at rest fits h =
-    let e : part s at w ≡ little w n = ap (part s at) (sym (length-little w n)) ∙ left-front s at (little w n) rest h in
+number-remaining w n s at rest fits h =
+    let e : slice s at w ≡ little w n = ap (slice s at) (sym (length-little w n)) ∙ remaining-front s at (little w n) rest h in
     ap ofLittle e ∙ little-back w n fits
 
 -- a number that was read at a place is written as the same bytes
-pub number-back : (w : ℕ) (s : List ℕ) (at : ℕ) → Bytes s → at + w ≤ length s → little w (littleAt w s at) ≡ part s at w
+pub number-back : (w : ℕ) (s : List ℕ) (at : ℕ) → Bytes s → at + w ≤ length s → little w (littleAt w s at) ≡ slice s at w
 unfolding littleAt
 number-back w s at h room =
-    let e : length (part s at w) ≡ w = length-part s at w room in
-    ap (λ (k : ℕ). little k (ofLittle (part s at w))) (sym e) ∙ ofLittle-back (part s at w) (bytes-part s at w h)
+    let e : length (slice s at w) ≡ w = length-slice s at w room in
+    ap (λ (k : ℕ). little k (ofLittle (slice s at w))) (sym e) ∙ ofLittle-back (slice s at w) (bytes-slice s at w h)
 
 -- a number that was read from w bytes fits them
 pub number-below : (w : ℕ) (s : List ℕ) (at : ℕ) → Bytes s → at + w ≤ length s → littleAt w s at < 256 ^ w
 unfolding littleAt
 number-below w s at h room =
-    let e : length (part s at w) ≡ w = length-part s at w room in
-    subst (λ (k : ℕ). ofLittle (part s at w) < 256 ^ k) e (ofLittle-below (part s at w) (bytes-part s at w h))
+    let e : length (slice s at w) ≡ w = length-slice s at w room in
+    subst (λ (k : ℕ). ofLittle (slice s at w) < 256 ^ k) e (ofLittle-below (slice s at w) (bytes-slice s at w h))
 
 -- code reads two bytes one by one
 pub two-at : (s : List ℕ) (at : ℕ) → at + 2 ≤ length s → littleAt 2 s at ≡ getD s at 0 + 256 * getD s (at + 1) 0
@@ -125,6 +125,6 @@ pub four-put : (n : ℕ) {at middle next : ℕ} {old mid out : List ℕ} → Put
 four-put n p q = rw four-is (put-then p q)
 
 -- the first number of a slice is the number at the slice's start
-pub number-part : (w : ℕ) (s : List ℕ) (at size : ℕ) → w ≤ size → littleAt w (part s at size) 0 ≡ littleAt w s at
+pub number-slice : (w : ℕ) (s : List ℕ) (at size : ℕ) → w ≤ size → littleAt w (slice s at size) 0 ≡ littleAt w s at
 unfolding littleAt
-number-part w s at size h = ap ofLittle (take-take w size (drop at s) h)
+number-slice w s at size h = ap ofLittle (take-take w size (drop at s) h)

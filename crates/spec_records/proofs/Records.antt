@@ -7,7 +7,7 @@ use native.Mathlib.Omega.{arith}
 use borrow.Author.Tests.{le-leb, lt-leb, eq-eqb, ne-eqb, leb-true, eqb-true}
 use lib.ListN.{length, length-append}
 use lib.Dec.{leb, eqb}
-use Rattle.spec_tables.specs.Tables.{part, Put}
+use Rattle.spec_tables.specs.Tables.{slice, Put}
 use Rattle.spec_tables.proofs.Tables.{put-same, put-then}
 use Rattle.spec_records.specs.Little.{littleAt}
 use Rattle.spec_records.specs.Records.{Span, Layout, wrong, bodies, Wants, done, one, sizeAt, bodyAt, isRecord, isRight, header, recordOf, behind, laidOut}
@@ -51,7 +51,7 @@ module _ (kind : ℕ) (s : List ℕ) (at : ℕ) where
 pub record RightRecord (kind : ℕ) (test : List ℕ → Bool) (s : List ℕ) (at size : ℕ) : Type 0 where
   pub there : isRecord kind s at ≡ true
   pub sized : sizeAt s at ≡ size
-  pub passes : test (part s (at + 6) size) ≡ true
+  pub passes : test (slice s (at + 6) size) ≡ true
 
 module _ (kind : ℕ) (test : List ℕ → Bool) (s : List ℕ) (at : ℕ) where
   -- a right record is there, and its body passes the test
@@ -62,7 +62,7 @@ module _ (kind : ℕ) (test : List ℕ → Bool) (s : List ℕ) (at : ℕ) where
       record { there = p .0; sized = refl; passes = p .1 }
 
   -- of a record that is there the test of its body decides
-  pub test-decides : (size : ℕ) (b : Bool) → isRecord kind s at ≡ true → sizeAt s at ≡ size → test (part s (at + 6) size) ≡ b → isRight kind test s at ≡ b
+  pub test-decides : (size : ℕ) (b : Bool) → isRecord kind s at ≡ true → sizeAt s at ≡ size → test (slice s (at + 6) size) ≡ b → isRight kind test s at ≡ b
   unfolding isRight
   test-decides size b there e t = rw (e, there, t)
 
@@ -77,7 +77,7 @@ right-within {kind} {at} {size} {test} {s} r = omega (arith, record-within kind 
 
 -- ---- one step of a layout
 laid-right : {kind at size : ℕ} {test : List ℕ → Bool} {s : List ℕ} (next : List ℕ → Wants) → RightRecord kind test s at size
-    → laidOut (one kind test next) s at ≡ behind (record { start = at + 6; size = size }) (laidOut (next (part s (at + 6) size)) s (at + 6 + size))
+    → laidOut (one kind test next) s at ≡ behind (record { start = at + 6; size = size }) (laidOut (next (slice s (at + 6) size)) s (at + 6 + size))
 unfolding laidOut isRight
 laid-right next r = rw (r .sized, r .there, r .passes)
 
@@ -126,7 +126,7 @@ reach-start all s = record { so = refl }
 module _ {all : Wants} {s : List ℕ} {passed : List Span} {at : ℕ} where
   -- step: a right record is read, and what is wanted behind it comes next
   pub reach-on : {kind size : ℕ} {test : List ℕ → Bool} {next : List ℕ → Wants} → Reached all s passed (one kind test next) at → RightRecord kind test s at size
-      → Reached all s (passed ++ (record { start = at + 6; size = size } ∷ [])) (next (part s (at + 6) size)) (at + 6 + size)
+      → Reached all s (passed ++ (record { start = at + 6; size = size } ∷ [])) (next (slice s (at + 6) size)) (at + 6 + size)
   reach-on {kind} {size} {test} {next} r here = record { so = r .so ∙ ap (allBehind passed) (laid-right next here) ∙ one-behind passed _ _ }
 
   -- early end: a record that is not right is the first wrong one
@@ -153,7 +153,7 @@ behind-back a b (bodies rest) bs e = ((cc), (cc))
 -- what it says that a layout has a first body: its record is right, and the rest is laid out behind it
 pub record OneBack (kind : ℕ) (test : List ℕ → Bool) (next : List ℕ → Wants) (s : List ℕ) (at size : ℕ) (rest : List Span) : Type 0 where
   pub right : RightRecord kind test s at size
-  pub onward : laidOut (next (part s (at + 6) size)) s (at + 6 + size) ≡ bodies rest
+  pub onward : laidOut (next (slice s (at + 6) size)) s (at + 6 + size) ≡ bodies rest
 
 -- a layout with a body has a right record first: how an accepted input is taken apart again
 pub one-back : (kind : ℕ) (test : List ℕ → Bool) (next : List ℕ → Wants) (s : List ℕ) (at : ℕ) (b : Span) (rest : List Span)

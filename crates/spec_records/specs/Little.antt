@@ -2,7 +2,7 @@
 use Prim.Native.Nat.{ℕ, zero, suc, _+_, _*_, _/_, _%_, _<_}
 use mathlib.Core.List.{List, [], _∷_}
 use lib.ListN.{getD}
-use Rattle.spec_tables.specs.Tables.{part}
+use Rattle.spec_tables.specs.Tables.{slice}
 
 -- the lowest w bytes of n, the lowest first
 unfoldable pub little : ℕ → ℕ → List ℕ
@@ -16,7 +16,7 @@ ofLittle (b ∷ bs) = b + 256 * ofLittle bs
 
 -- the number that the w bytes from at on spell
 unfoldable pub littleAt : ℕ → List ℕ → ℕ → ℕ
-littleAt w s at = ofLittle (part s at w)
+littleAt w s at = ofLittle (slice s at w)
 
 -- each element is a byte
 pub record Bytes (s : List ℕ) : Type 0 where

@@ -5,7 +5,7 @@ use mathlib.Core.List.{List, [], _∷_, _++_}
 use mathlib.Core.Bool.{Bool, cond, _&&_}
 use lib.ListN.{length}
 use lib.Dec.{leb, eqb}
-use Rattle.spec_tables.specs.Tables.{part}
+use Rattle.spec_tables.specs.Tables.{slice}
 use Rattle.spec_records.specs.Little.{little, littleAt}
 
 -- a slice of the input
@@ -36,7 +36,7 @@ abbrev pub sizeAt : List ℕ → ℕ → ℕ
 sizeAt s at = littleAt 4 s at
 
 abbrev pub bodyAt : List ℕ → ℕ → List ℕ
-bodyAt s at = part s (at + 6) (sizeAt s at)
+bodyAt s at = slice s (at + 6) (sizeAt s at)
 
 -- a whole record of the kind stands at the place (where its header runs past the end, so does its body)
 unfoldable pub isRecord : ℕ → List ℕ → ℕ → Bool

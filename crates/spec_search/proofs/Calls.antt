@@ -6,10 +6,10 @@ use Prim.Native.Nat.{ℕ, _+_, _-_, _*_, _/_, _≤_, _<_}
 use native.Mathlib.Omega.{arith}
 use lib.ListN.{length}
 use lib.Ieee.{Float, Format}
-use Rattle.spec_tables.specs.Tables.{over, many}
+use Rattle.spec_tables.specs.Tables.{overwrite, concatMap}
 use Rattle.spec_tables.proofs.Runs.{Run, run-start, run-front, run-end}
 use Rattle.spec_shapes.specs.Points.{Point}
-use Rattle.spec_lists.specs.Limits.{deepest, mostTriangles}
+use Rattle.spec_lists.specs.Limits.{deepest, maxTriangles}
 use Rattle.spec_lists.specs.Reading.{boxAt, triangleCount, pointAt, pointCount}
 use Rattle.spec_lists.specs.Refusals.{Verdict, passes, refuses}
 use Rattle.spec_lists.proofs.Verdicts.{all-pass, so, refusal-leaves}
@@ -38,7 +38,7 @@ module _ (triangles : List Float) (order links : List ℕ) (boxes : List Float) 
   root-safe =
       let l = listed .1 in
       let count : length (numbers (listed .0)) ≡ triangleCount triangles = ap length (sym (l .order-is)) ∙ permutes-length (triangleCount triangles) order (l .permuted) in
-      let few : triangleCount triangles ≤ mostTriangles = s .triangles-good .few in
+      let few : triangleCount triangles ≤ maxTriangles = s .triangles-good .few in
       record {
         tree = listed .0;
         hangs = listing-hangs (boxAt triangles) (triangleCount triangles) order links boxes nodes (listed .0) l;
@@ -67,10 +67,10 @@ module _ (f : Format) (answer : Point → Answer) (points : List Float) (old : L
   -- on a refusal the lent list stays as it was
   pub as-it-was : (v : Verdict) → refuses v ≡ true → old ≡ afterQuery f answer points v old
   unfolding afterQuery
-  as-it-was v h = refusal-leaves v (over 0 (answerWords f answer points) old) old h
+  as-it-was v h = refusal-leaves v (overwrite 0 (answerWords f answer points) old) old h
 
   -- without a refusal the lent list has the answers at its front
-  pub is-answered : (v : Verdict) (new : List ℕ) → v ≡ passes → new ≡ over 0 (answerWords f answer points) old → new ≡ afterQuery f answer points v old
+  pub is-answered : (v : Verdict) (new : List ℕ) → v ≡ passes → new ≡ overwrite 0 (answerWords f answer points) old → new ≡ afterQuery f answer points v old
   unfolding afterQuery
   is-answered v new e h = rw e h
 
@@ -89,11 +89,11 @@ module _ (f : Format) (answer : Point → Answer) (points : List Float) (old : L
   answered-start n = run-start (λ j. sixWords f (answer (pointAt points (3 * j)))) 6 0 n old
 
   -- turn: the next point's answer is written behind the others
-  pub answered-more : (n : ℕ) (out new : List ℕ) (k : ℕ) (a : Answer) → 6 * n ≤ length old → k < n → Answered n out k → a ≡ answer (pointAt points (3 * k)) → new ≡ over (6 * k) (sixWords f a) out → Answered n new (k + 1)
+  pub answered-more : (n : ℕ) (out new : List ℕ) (k : ℕ) (a : Answer) → 6 * n ≤ length old → k < n → Answered n out k → a ≡ answer (pointAt points (3 * k)) → new ≡ overwrite (6 * k) (sixWords f a) out → Answered n new (k + 1)
   answered-more n out new k a room l r e h =
-      run-front (λ j. sixWords f (answer (pointAt points (3 * j)))) 6 n old out new k (λ j. six-long (answer (pointAt points (3 * j)))) room l r (h ∙ ap (λ (b : Answer). over (6 * k) (sixWords f b) out) e)
+      run-front (λ j. sixWords f (answer (pointAt points (3 * j)))) 6 n old out new k (λ j. six-long (answer (pointAt points (3 * j)))) room l r (h ∙ ap (λ (b : Answer). overwrite (6 * k) (sixWords f b) out) e)
 
   -- end: every point is answered, and what is behind the answers is as it was
-  pub answered-end : (n : ℕ) (out : List ℕ) (k : ℕ) → n ≡ pointCount points → n ≤ k → Answered n out k → out ≡ over 0 (answerWords f answer points) old
+  pub answered-end : (n : ℕ) (out : List ℕ) (k : ℕ) → n ≡ pointCount points → n ≤ k → Answered n out k → out ≡ overwrite 0 (answerWords f answer points) old
   unfolding answerWords
-  answered-end n out k e l r = run-end (λ j. sixWords f (answer (pointAt points (3 * j)))) 0 n old out k l r ∙ ap (λ (m : ℕ). over 0 (many (λ j. sixWords f (answer (pointAt points (3 * j)))) m) old) e
+  answered-end n out k e l r = run-end (λ j. sixWords f (answer (pointAt points (3 * j)))) 0 n old out k l r ∙ ap (λ (m : ℕ). overwrite 0 (concatMap (λ j. sixWords f (answer (pointAt points (3 * j)))) m) old) e

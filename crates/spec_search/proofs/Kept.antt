@@ -4,8 +4,8 @@ use mathlib.Core.Path.{_≡_, refl, sym, ap}
 use mathlib.Core.Bool.{Bool, true, false, not, true≢false, _&&_, _||_}
 use lib.Ieee.{Float, nan, inf, fin, lt, eq}
 use Rattle.spec_search.specs.Answers.{Hit, nothing, found}
-use Rattle.spec_search.specs.Sure.{counts, better, offered, above, isPassed}
-use Rattle.spec_search.specs.Source.{smallest, strictly}
+use Rattle.spec_search.specs.Sure.{counts, better, offered, above, isSkipped}
+use Rattle.spec_search.specs.Source.{smallest, keepSmaller}
 use Rattle.spec_search.specs.Kept.{kept, keptIf, nearer}
 
 infinite-above-none : (x d : Float) → eq x (inf false) ≡ true → lt x d ≡ false
@@ -86,9 +86,9 @@ unfolding kept
 found-kept h x l = simp (below-is-finite (h .squared) x l)
 
 -- a box is skipped by a kept hit exactly where it is skipped by the answer: no test for nothing is needed
-pub passed-kept : (limit d : Float) (k : Hit) → (not (counts limit d) || lt (k .squared) d) ≡ isPassed limit d (kept k)
-unfolding isPassed kept
-passed-kept limit d k = ap (λ (b : Bool). not (counts limit d) || b) (sym (above-if (eq (k .squared) (inf false)) d k refl))
+pub skipped-kept : (limit d : Float) (k : Hit) → (not (counts limit d) || lt (k .squared) d) ≡ isSkipped limit d (kept k)
+unfolding isSkipped kept
+skipped-kept limit d k = ap (λ (b : Bool). not (counts limit d) || b) (sym (above-if (eq (k .squared) (inf false)) d k refl))
 
 -- the flag of two tests that were computed is that of the tests in the definition
 pub both-said : (a b x y flag : Bool) → a ≡ x → b ≡ y → (a && b) ≡ flag → (x && y) ≡ flag
@@ -102,9 +102,9 @@ module _ (h k new : Hit) where
   offer-taken limit t e = rw (both limit h k, t, e) (found-kept h limit (first-true _ _ t))
 
   -- source query: a strictly smaller hit takes the place of what was kept
-  pub met-smaller : lt (h .squared) (k .squared) ≡ true → new ≡ h → kept new ≡ strictly h (kept k)
-  unfolding strictly kept
-  met-smaller t e = rw (smallest-if (eq (k .squared) (inf false)) k refl, t, e) (found-kept h (k .squared) t)
+  pub kept-smaller : lt (h .squared) (k .squared) ≡ true → new ≡ h → kept new ≡ keepSmaller h (kept k)
+  unfolding keepSmaller kept
+  kept-smaller t e = rw (smallest-if (eq (k .squared) (inf false)) k refl, t, e) (found-kept h (k .squared) t)
 
 module _ (h k : Hit) where
   -- sure query: a hit that does not count or is not nearer leaves what was kept
@@ -113,6 +113,6 @@ module _ (h k : Hit) where
   offer-left limit t = rw (both limit h k, t)
 
   -- source query: a hit that is not strictly smaller leaves what was kept
-  pub met-no-smaller : lt (h .squared) (k .squared) ≡ false → kept k ≡ strictly h (kept k)
-  unfolding strictly kept
-  met-no-smaller t = rw (smallest-if (eq (k .squared) (inf false)) k refl, t)
+  pub kept-no-smaller : lt (h .squared) (k .squared) ≡ false → kept k ≡ keepSmaller h (kept k)
+  unfolding keepSmaller kept
+  kept-no-smaller t = rw (smallest-if (eq (k .squared) (inf false)) k refl, t)

@@ -16,9 +16,9 @@ use Rattle.spec_numbers.proofs.Tests.{passed, failed, or-r}
 use Rattle.spec_numbers.proofs.Order.{reflexive, lt→le, lt→not-le, lt-le-transitive, le-lt-transitive, not-lt→le}
 use Rattle.spec_shapes.specs.Points.{Point}
 use Rattle.spec_lists.specs.Reading.{triangleCount}
-use Rattle.spec_tree.specs.Order.{upTo}
+use Rattle.spec_tree.specs.Order.{range}
 use Rattle.spec_search.specs.Answers.{Hit, Answer, nothing, found}
-use Rattle.spec_search.specs.Walk.{keptBy}
+use Rattle.spec_search.specs.Walk.{fold}
 use Rattle.spec_search.specs.Sure.{counts, better, offered, hit, tookSure, scan}
 use Rattle.spec_search.specs.Nearest.{IsNearest, NoneCounts, Nearest}
 use Rattle.spec_search.proofs.Scan.{kept-append}
@@ -131,10 +131,10 @@ module _ (hit : ℕ → Hit) (named : (t : ℕ) → hit t .triangle ≡ t) (limi
           (either (lt (hit n .squared) (h .squared)))
 
   -- the fold over a range keeps the nearest of its triangles
-  kept-nearest : (n : ℕ) → Nearest hit limit n (keptBy (λ t k. offered limit (hit t) k) (upTo n) nothing)
-  unfolding upTo keptBy
+  kept-nearest : (n : ℕ) → Nearest hit limit n (fold (λ t k. offered limit (hit t) k) (range n) nothing)
+  unfolding range fold
   kept-nearest zero = λ t l. absurd (omega arith)
-  kept-nearest (suc n) = rw (kept-append (λ t k. offered limit (hit t) k) (upTo n) (n ∷ []) nothing) (taken n _ (kept-nearest n))
+  kept-nearest (suc n) = rw (kept-append (λ t k. offered limit (hit t) k) (range n) (n ∷ []) nothing) (taken n _ (kept-nearest n))
 
 -- ---- the scan
 module _ (f : Format) (triangles : List Float) (p : Point) (limit : Float) where

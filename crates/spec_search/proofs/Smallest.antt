@@ -13,7 +13,7 @@ use lib.Ieee.{Float, lt}
 use Rattle.spec_numbers.specs.Values.{Number}
 use Rattle.spec_numbers.proofs.Comparisons.{less-number, less-asymmetric, less-between, equal-is}
 use Rattle.spec_search.specs.Answers.{Hit, Answer, nothing, found}
-use Rattle.spec_search.specs.Sure.{counts, better, above, offered, isPassed}
+use Rattle.spec_search.specs.Sure.{counts, better, above, offered, isSkipped}
 
 -- what is kept has a number for its distance
 abbrev pub Good : Answer → Type 0
@@ -122,9 +122,9 @@ module _ (limit : Float) (hit : ℕ → Hit) (named : (t : ℕ) → hit t .trian
   is-better h k c e = simp (c, e)
 
   -- a box that is skipped stays so, whatever is measured: what is kept only comes nearer
-  pub still-passed : (d : Float) (t : ℕ) (k : Answer) → isPassed limit d k ≡ true → isPassed limit d (took t k) ≡ true
-  unfolding isPassed
-  still-passed d t k over =
+  pub still-skipped : (d : Float) (t : ℕ) (k : Answer) → isSkipped limit d k ≡ true → isSkipped limit d (took t k) ≡ true
+  unfolding isSkipped
+  still-skipped d t k over =
       ⊎-elim
       (λ c. ⊎-elim
       (λ b. subst Over (sym (is-better (hit t) k c b)) (nearer-kept k c b over))
@@ -134,7 +134,7 @@ module _ (limit : Float) (hit : ℕ → Hit) (named : (t : ℕ) → hit t .trian
       (either (counts limit (hit t .squared)))
     where
       Over : Answer → Type 0
-      Over j = isPassed limit d j ≡ true
+      Over j = isSkipped limit d j ≡ true
 
       -- what is better is no farther, so what is above the one is above the other
       still-above : (j : Hit) → Number (hit t .squared) → better (hit t) (found j) ≡ true → lt (j .squared) d ≡ true
@@ -208,8 +208,8 @@ module _ (limit : Float) (hit : ℕ → Hit) (named : (t : ℕ) → hit t .trian
       go (no e) (inr c) d = not-counted (hit t) (took u k) c ∙ sym (ap (took u) (not-counted (hit t) k c))
 
   -- skipping is safe: a triangle that is no nearer than a box that is skipped would not be kept
-  pub skips : (b : Float) (t : ℕ) (k : Answer) → Number b → Good k → lt (hit t .squared) b ≡ false → isPassed limit b k ≡ true → took t k ≡ k
-  unfolding isPassed
+  pub skips : (b : Float) (t : ℕ) (k : Answer) → Number b → Good k → lt (hit t .squared) b ≡ false → isSkipped limit b k ≡ true → took t k ≡ k
+  unfolding isSkipped
   skips b t k bn g far p =
       ⊎-elim (λ c. go k g c (counts-nearer limit (hit t .squared) b bn far c) p) (λ c. not-counted (hit t) k c) (either (counts limit (hit t .squared)))
     where

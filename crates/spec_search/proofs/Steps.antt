@@ -10,25 +10,25 @@ use borrow.Author.Tests.{eq-eqb, ne-eqb}
 use lib.ListN.{length, length-append}
 use lib.Seq.{getD-take, getD-drop}
 use lib.Ieee.{Float, Format, lt}
-use Rattle.spec_tables.specs.Tables.{part}
+use Rattle.spec_tables.specs.Tables.{slice}
 use Rattle.spec_shapes.specs.Points.{Point}
 use Rattle.spec_lists.specs.Reading.{boxAt, triangleCount}
 use Rattle.spec_tree.specs.Trees.{Tree, leaf, branch, numbers, levels, kindAt, leftAt, rightAt}
 use Rattle.spec_tree.specs.Order.{EntriesBelow}
 use Rattle.spec_tree.specs.Hangs.{Hangs, There}
-use Rattle.spec_tree.proofs.Standing.{part-length}
+use Rattle.spec_tree.proofs.Standing.{slice-length}
 use Rattle.spec_tree.proofs.Trees.{levels-least}
 use Rattle.spec_search.specs.Walk.{Search, Sought, isLeaf, tookAll, nodeWalk, pairWalk, rootWalk}
 use Rattle.spec_search.specs.Answers.{Answer}
-use Rattle.spec_search.specs.Sure.{isPassed, nodeSquared, passedSure, rightNearer, hit, tookSure}
+use Rattle.spec_search.specs.Sure.{isSkipped, nodeSquared, skippedSure, rightNearer, hit, tookSure}
 use Rattle.spec_search.specs.Safe.{NodeSafe, PairSafe, LinksAre}
-use Rattle.spec_search.proofs.Smallest.{still-passed}
-use Rattle.spec_search.proofs.Walked.{walk-passed, walk-leaf, walk-branch, root-leaf, root-branch, pair-right, pair-left, walk-keeps, counted-most}
+use Rattle.spec_search.proofs.Smallest.{still-skipped}
+use Rattle.spec_search.proofs.Walked.{walk-skipped, walk-leaf, walk-branch, root-leaf, root-branch, pair-right, pair-left, walk-keeps, counted-most}
 
 -- a slice of the order list has entries below n too, so measuring its triangles stays within the list
-pub part-below : (n : ℕ) (order : List ℕ) (first last : ℕ) → first ≤ last → last ≤ length order → EntriesBelow n order → EntriesBelow n (part order first (last - first))
-part-below n order first last h k l i b =
-    let inside : i < last - first = omega (arith, part-length order first (last - first) (omega arith)) in
+pub slice-below : (n : ℕ) (order : List ℕ) (first last : ℕ) → first ≤ last → last ≤ length order → EntriesBelow n order → EntriesBelow n (slice order first (last - first))
+slice-below n order first last h k l i b =
+    let inside : i < last - first = omega (arith, slice-length order first (last - first) (omega arith)) in
     rw (getD-take, getD-drop) (l (first + i) (omega arith))
 
 -- where a tree hangs, the node is there, so reading its links and box stays within the lists
@@ -44,22 +44,22 @@ module _ (triangles : List Float) (order links : List ℕ) (boxes : List Float) 
   leaf-no e = ne-eqb _ _ (λ (q : kindAt links node ≡ 1). e (here .kind-is ∙ q))
 
   -- what measuring a leaf needs
-  abbrev pub LeafAsks : Type 0
-  LeafAsks = EntriesBelow (triangleCount triangles) order × (((l ≤ r) × (r ≤ length order)) × (m + (r - l) < 2 ^ 64))
+  abbrev pub LeafNeeds : Type 0
+  LeafNeeds = EntriesBelow (triangleCount triangles) order × (((l ≤ r) × (r ≤ length order)) × (m + (r - l) < 2 ^ 64))
 
-  leaf-asks-of : (t : Tree) → Hangs (boxAt triangles) order links boxes t node → m + length (numbers t) < 2 ^ 64 → EntriesBelow (triangleCount triangles) order → kind ≡ 1 → LeafAsks
+  leaf-needs-of : (t : Tree) → Hangs (boxAt triangles) order links boxes t node → m + length (numbers t) < 2 ^ 64 → EntriesBelow (triangleCount triangles) order → kind ≡ 1 → LeafNeeds
   unfolding numbers
-  leaf-asks-of (leaf ks) h room listed e =
+  leaf-needs-of (leaf ks) h room listed e =
       let size : rightAt links node - leftAt links node ≡ length ks =
-      sym (part-length order (leftAt links node) (rightAt links node - leftAt links node) (omega (arith, h .nonempty, h .within))) ∙ ap length (h .part-is) in
+      sym (slice-length order (leftAt links node) (rightAt links node - leftAt links node) (omega (arith, h .nonempty, h .within))) ∙ ap length (h .slice-is) in
       (listed, ((omega (arith, here, h .nonempty), omega (arith, here, h .within)), omega (arith, here, size, room)))
-  leaf-asks-of (branch a b) h room listed e = absurd (omega (arith, h .kind-is, here .kind-is))
+  leaf-needs-of (branch a b) h room listed e = absurd (omega (arith, h .kind-is, here .kind-is))
 
-  pair-asks-of : (t : Tree) → Hangs (boxAt triangles) order links boxes t node → levels t ≤ suc d → m + length (numbers t) < 2 ^ 64 → EntriesBelow (triangleCount triangles) order → (kind ≡ 1 → ⊥)
+  pair-needs-of : (t : Tree) → Hangs (boxAt triangles) order links boxes t node → levels t ≤ suc d → m + length (numbers t) < 2 ^ 64 → EntriesBelow (triangleCount triangles) order → (kind ≡ 1 → ⊥)
       → (0 < d) × PairSafe triangles order links boxes (d - 1) l r m
   unfolding numbers levels
-  pair-asks-of (leaf ks) h deep room listed e = absurd (e (here .kind-is ∙ h .kind-is))
-  pair-asks-of (branch a b) h deep room listed e =
+  pair-needs-of (leaf ks) h deep room listed e = absurd (e (here .kind-is ∙ h .kind-is))
+  pair-needs-of (branch a b) h deep room listed e =
       let enough : 0 < d = omega (arith, levels-least a, le-max-left (levels a) (levels b)) in (
         enough,
         record {
@@ -76,52 +76,52 @@ module _ (triangles : List Float) (order links : List ℕ) (boxes : List Float) 
 
   module _ (safe : NodeSafe triangles order links boxes d node m) where
     -- a leaf has what measuring its triangles needs
-    pub leaf-asks : kind ≡ 1 → LeafAsks
-    leaf-asks = leaf-asks-of (safe .tree) (safe .hangs) (safe .room) (safe .listed)
+    pub leaf-needs : kind ≡ 1 → LeafNeeds
+    leaf-needs = leaf-needs-of (safe .tree) (safe .hangs) (safe .room) (safe .listed)
 
     -- a branch has what the walk of its two children needs
-    pub pair-asks : (kind ≡ 1 → ⊥) → PairSafe triangles order links boxes (d - 1) l r m
-    pair-asks e = pair-asks-of (safe .tree) (safe .hangs) (safe .deep) (safe .room) (safe .listed) e .1
+    pub pair-needs : (kind ≡ 1 → ⊥) → PairSafe triangles order links boxes (d - 1) l r m
+    pair-needs e = pair-needs-of (safe .tree) (safe .hangs) (safe .deep) (safe .room) (safe .listed) e .1
 
     -- at a branch a level remains, so taking one away does not underflow
-    pub levels-left : (kind ≡ 1 → ⊥) → 0 < d
-    levels-left e = pair-asks-of (safe .tree) (safe .hangs) (safe .deep) (safe .room) (safe .listed) e .0
+    pub levels-remaining : (kind ≡ 1 → ⊥) → 0 < d
+    levels-remaining e = pair-needs-of (safe .tree) (safe .hangs) (safe .deep) (safe .room) (safe .listed) e .0
 
     module _ {S : Type 0} (how : Search S) (s next : Sought S) where
       -- at a leaf that is not skipped, measuring its slice is the walk of the node
-      pub leaf-answers : how .passed node (s .best) ≡ false → kind ≡ 1 → next ≡ tookAll (how .took) (part order l (r - l)) s → next ≡ nodeWalk how order links d node s
+      pub leaf-answers : how .skipped node (s .best) ≡ false → kind ≡ 1 → next ≡ tookAll (how .took) (slice order l (r - l)) s → next ≡ nodeWalk how order links d node s
       leaf-answers looked e a = a ∙ rw (here .left-is, here .right-is) (sym (walk-leaf how order links d node s looked (leaf-yes e)))
 
       -- at a branch that is not skipped, the walk of its children is the walk of the node
-      pub pair-answers : how .passed node (s .best) ≡ false → (kind ≡ 1 → ⊥) → next ≡ pairWalk how order links (d - 1) l r s → next ≡ nodeWalk how order links d node s
+      pub pair-answers : how .skipped node (s .best) ≡ false → (kind ≡ 1 → ⊥) → next ≡ pairWalk how order links (d - 1) l r s → next ≡ nodeWalk how order links d node s
       pair-answers looked e a =
-          let more : 0 < d = levels-left e in
+          let more : 0 < d = levels-remaining e in
           a ∙ rw (here .left-is, here .right-is) (sym (walk-branch how order links d node s looked (leaf-no e) (λ (z : d ≡ 0). omega arith)))
 
       -- at a root, which is always looked at: of a leaf, measuring its slice is the walk
-      pub root-leaf-answers : kind ≡ 1 → next ≡ tookAll (how .took) (part order l (r - l)) s → next ≡ rootWalk how order links d node s
+      pub root-leaf-answers : kind ≡ 1 → next ≡ tookAll (how .took) (slice order l (r - l)) s → next ≡ rootWalk how order links d node s
       root-leaf-answers e a = a ∙ rw (here .left-is, here .right-is) (sym (root-leaf how order links d node s (leaf-yes e)))
 
       -- at a root, which is always looked at: of a branch, the walk of its children is the walk
       pub root-pair-answers : (kind ≡ 1 → ⊥) → next ≡ pairWalk how order links (d - 1) l r s → next ≡ rootWalk how order links d node s
       root-pair-answers e a =
-          let more : 0 < d = levels-left e in
+          let more : 0 < d = levels-remaining e in
           a ∙ rw (here .left-is, here .right-is) (sym (root-branch how order links d node s (leaf-no e) (λ (z : d ≡ 0). omega arith)))
 
 -- ---- two children
 module _ (triangles : List Float) (order links : List ℕ) (boxes : List Float) (d l r m : ℕ) (safe : PairSafe triangles order links boxes d l r m) where
   -- the left child, walked first, has what its walk needs
-  pub left-asks : NodeSafe triangles order links boxes d l m
-  left-asks = record { tree = safe .left-tree; hangs = safe .left-hangs; deep = safe .left-deep; room = omega (arith, safe .room); listed = safe .listed }
+  pub left-needs : NodeSafe triangles order links boxes d l m
+  left-needs = record { tree = safe .left-tree; hangs = safe .left-hangs; deep = safe .left-deep; room = omega (arith, safe .room); listed = safe .listed }
 
   -- the right child, walked first, has what its walk needs
-  pub right-asks : NodeSafe triangles order links boxes d r m
-  right-asks = record { tree = safe .right-tree; hangs = safe .right-hangs; deep = safe .right-deep; room = omega (arith, safe .room); listed = safe .listed }
+  pub right-needs : NodeSafe triangles order links boxes d r m
+  right-needs = record { tree = safe .right-tree; hangs = safe .right-hangs; deep = safe .right-deep; room = omega (arith, safe .room); listed = safe .listed }
 
   module _ {S : Type 0} (how : Search S) (s first : Sought S) (counted : s .measured ≡ m) where
     -- the left child, walked second, has what its walk needs: the count of the first leaves it room
-    pub then-left-asks : first ≡ nodeWalk how order links d r s → NodeSafe triangles order links boxes d l (first .measured)
-    then-left-asks e = record {
+    pub then-left-needs : first ≡ nodeWalk how order links d r s → NodeSafe triangles order links boxes d l (first .measured)
+    then-left-needs e = record {
       tree = safe .left-tree;
       hangs = safe .left-hangs;
       deep = safe .left-deep;
@@ -130,8 +130,8 @@ module _ (triangles : List Float) (order links : List ℕ) (boxes : List Float) 
     }
 
     -- the right child, walked second, has what its walk needs: the count of the first leaves it room
-    pub then-right-asks : first ≡ nodeWalk how order links d l s → NodeSafe triangles order links boxes d r (first .measured)
-    then-right-asks e = record {
+    pub then-right-needs : first ≡ nodeWalk how order links d l s → NodeSafe triangles order links boxes d r (first .measured)
+    then-right-needs e = record {
       tree = safe .right-tree;
       hangs = safe .right-hangs;
       deep = safe .right-deep;
@@ -150,29 +150,29 @@ module _ {S : Type 0} (how : Search S) (order links : List ℕ) (d l r : ℕ) (s
 
 -- ---- a pair whose farther child is skipped before the nearer one is walked: where what is skipped stays so, nothing remains
 -- to do after the nearer one
-module _ {S : Type 0} (how : Search S) (stays : (node t : ℕ) (k : S) → how .passed node k ≡ true → how .passed node (how .took t k) ≡ true)
+module _ {S : Type 0} (how : Search S) (stays : (node t : ℕ) (k : S) → how .skipped node k ≡ true → how .skipped node (how .took t k) ≡ true)
     (order links : List ℕ) (d l r : ℕ) (s next : Sought S) where
-  passed-after : (near far : ℕ) → how .passed far (s .best) ≡ true
+  skipped-after : (near far : ℕ) → how .skipped far (s .best) ≡ true
       → nodeWalk how order links d near s ≡ nodeWalk how order links d far (nodeWalk how order links d near s)
-  passed-after near far h =
-      sym (walk-passed how order links d far _ (walk-keeps how order links (λ (k : S). how .passed far k ≡ true) (stays far) d near s h))
+  skipped-after near far h =
+      sym (walk-skipped how order links d far _ (walk-keeps how order links (λ (k : S). how .skipped far k ≡ true) (stays far) d near s h))
 
   -- the left child is skipped beforehand: the walk of the right one alone is the walk of the pair
-  pub right-alone : how .rightFirst l r ≡ true → how .passed l (s .best) ≡ true
+  pub right-alone : how .rightFirst l r ≡ true → how .skipped l (s .best) ≡ true
       → next ≡ nodeWalk how order links d r s → next ≡ pairWalk how order links d l r s
-  right-alone e h a = a ∙ passed-after r l h ∙ sym (pair-right how order links d l r s e)
+  right-alone e h a = a ∙ skipped-after r l h ∙ sym (pair-right how order links d l r s e)
 
   -- the right child is skipped beforehand: the walk of the left one alone is the walk of the pair
-  pub left-alone : how .rightFirst l r ≡ false → how .passed r (s .best) ≡ true
+  pub left-alone : how .rightFirst l r ≡ false → how .skipped r (s .best) ≡ true
       → next ≡ nodeWalk how order links d l s → next ≡ pairWalk how order links d l r s
-  left-alone e h a = a ∙ passed-after l r h ∙ sym (pair-left how order links d l r s e)
+  left-alone e h a = a ∙ skipped-after l r h ∙ sym (pair-left how order links d l r s e)
 
 -- ---- what the tests of the sure walk say, of distances that were measured
 module _ (f : Format) (boxes : List Float) (p : Point) where
   -- whether a node is skipped, decided by its box's distance that was computed before
-  pub passed-here : (limit squared : Float) (node : ℕ) (k : Answer) (b flag : Bool) → squared ≡ nodeSquared f boxes p node → b ≡ isPassed limit squared k → b ≡ flag → passedSure f boxes p limit node k ≡ flag
-  unfolding passedSure
-  passed-here limit squared node k b flag s e h = ap (λ (d : Float). isPassed limit d k) (sym s) ∙ sym e ∙ h
+  pub skipped-here : (limit squared : Float) (node : ℕ) (k : Answer) (b flag : Bool) → squared ≡ nodeSquared f boxes p node → b ≡ isSkipped limit squared k → b ≡ flag → skippedSure f boxes p limit node k ≡ flag
+  unfolding skippedSure
+  skipped-here limit squared node k b flag s e h = ap (λ (d : Float). isSkipped limit d k) (sym s) ∙ sym e ∙ h
 
   -- which child goes first, decided by the boxes' distances that were computed before
   pub right-first-here : (l r : ℕ) (toLeft toRight : Float) (flag : Bool) → toLeft ≡ nodeSquared f boxes p l → toRight ≡ nodeSquared f boxes p r → lt toRight toLeft ≡ flag → rightNearer f boxes p l r ≡ flag
@@ -181,6 +181,6 @@ module _ (f : Format) (boxes : List Float) (p : Point) where
 
 -- the sure search is one in which what is skipped stays so
 pub sure-stays : (f : Format) (triangles boxes : List Float) (p : Point) (limit : Float) (node t : ℕ) (k : Answer)
-    → passedSure f boxes p limit node k ≡ true → passedSure f boxes p limit node (tookSure f triangles p limit t k) ≡ true
-unfolding passedSure tookSure hit
-sure-stays f triangles boxes p limit node t k = still-passed limit (hit f triangles p) (λ u. refl) (nodeSquared f boxes p node) t k
+    → skippedSure f boxes p limit node k ≡ true → skippedSure f boxes p limit node (tookSure f triangles p limit t k) ≡ true
+unfolding skippedSure tookSure hit
+sure-stays f triangles boxes p limit node t k = still-skipped limit (hit f triangles p) (λ u. refl) (nodeSquared f boxes p node) t k

@@ -20,14 +20,14 @@ use Rattle.spec_lists.specs.Passed.{GoodTriangles}
 use Rattle.spec_lists.proofs.Reading.{triangle-inside, corners-finite, box-at-proper}
 use Rattle.spec_tree.specs.Trees.{Tree, leaf, branch, numbers, levels, Filled, boxOver, kindAt, leftAt, rightAt, nodeBox}
 use Rattle.spec_tree.specs.Accepted.{Listing, accepted}
-use Rattle.spec_tree.specs.Hangs.{Hangs, leafPart}
+use Rattle.spec_tree.specs.Hangs.{Hangs, leafSlice}
 use Rattle.spec_tree.proofs.Order.{permutes-below}
 use Rattle.spec_tree.proofs.Accepted.{accepted-listed}
 use Rattle.spec_tree.proofs.Hangs.{listing-hangs}
 use Rattle.spec_tree.proofs.Boxes.{Holds, box-over-holds}
 use Rattle.spec_search.specs.Answers.{Answer, nothing}
-use Rattle.spec_search.specs.Walk.{Sought, isLeaf, nodeWalk, keptBy}
-use Rattle.spec_search.specs.Sure.{hit, tookSure, scan, nodeSquared, passedSure, rightNearer, sureSearch, sureWalk, atFirst}
+use Rattle.spec_search.specs.Walk.{Sought, isLeaf, nodeWalk, fold}
+use Rattle.spec_search.specs.Sure.{hit, tookSure, scan, nodeSquared, skippedSure, rightNearer, sureSearch, sureWalk, atFirst}
 use Rattle.spec_search.proofs.Scan.{walk-scans, kept-permuted}
 use Rattle.spec_search.proofs.Smallest.{Good, stays, swaps, skips}
 
@@ -67,11 +67,11 @@ module _ (f : Format) (triangles : List Float) (good : GoodTriangles triangles) 
 
     box-at-node : (t : Tree) (node : ℕ) → Hangs (boxAt triangles) order links boxes t node → nodeBox boxes node ≡ boxOver (boxAt triangles) t
     unfolding boxOver
-    box-at-node (leaf part) node h = h .box-is
+    box-at-node (leaf slice) node h = h .box-is
     box-at-node (branch l r) node h = h .box-is
 
-    met-leaf : (part : List ℕ) (node : ℕ) → Met (leaf part) node → (isLeaf links node ≡ true) × (leafPart order links node ≡ part)
-    met-leaf part node m = (eq-eqb _ _ (m .hangs .kind-is), m .hangs .part-is)
+    met-leaf : (slice : List ℕ) (node : ℕ) → Met (leaf slice) node → (isLeaf links node ≡ true) × (leafSlice order links node ≡ slice)
+    met-leaf slice node m = (eq-eqb _ _ (m .hangs .kind-is), m .hangs .slice-is)
 
     met-branch : (l r : Tree) (node : ℕ) → Met (branch l r) node → (isLeaf links node ≡ false) × (Met l (leftAt links node) × Met r (rightAt links node))
     unfolding numbers
@@ -83,8 +83,8 @@ module _ (f : Format) (triangles : List Float) (good : GoodTriangles triangles) 
       ),
     )
 
-    met-skips : (t : Tree) (node : ℕ) (s : Answer) → Met t node → Good s → passedSure f boxes p limit node s ≡ true → (k : ℕ) → List·Memᴰ k (numbers t) → tookSure f triangles p limit k s ≡ s
-    unfolding passedSure nodeSquared tookSure
+    met-skips : (t : Tree) (node : ℕ) (s : Answer) → Met t node → Good s → skippedSure f boxes p limit node s ≡ true → (k : ℕ) → List·Memᴰ k (numbers t) → tookSure f triangles p limit k s ≡ s
+    unfolding skippedSure nodeSquared tookSure
     met-skips t node s m g h k mem =
         let box : nodeBox boxes node ≡ boxOver (boxAt triangles) t = box-at-node t node (m .hangs) in
         let holds : Holds (boxAt triangles) (boxOver (boxAt triangles) t) (numbers t) =
@@ -95,8 +95,8 @@ module _ (f : Format) (triangles : List Float) (good : GoodTriangles triangles) 
 
     -- the walk of a tree that is met at a node keeps what the scan of the tree's triangles keeps
     walk-answers : (t : Tree) (d node : ℕ) (s : Sought Answer) → Met t node → levels t ≤ suc d → Good (s .best)
-        → (nodeWalk (sureSearch f triangles boxes p limit) order links d node s) .best ≡ keptBy (tookSure f triangles p limit) (numbers t) (s .best)
-    walk-answers = walk-scans (tookSure f triangles p limit) Good good-stays takes-swap (passedSure f boxes p limit) (rightNearer f boxes p) order links Met met-leaf met-branch met-skips
+        → (nodeWalk (sureSearch f triangles boxes p limit) order links d node s) .best ≡ fold (tookSure f triangles p limit) (numbers t) (s .best)
+    walk-answers = walk-scans (tookSure f triangles p limit) Good good-stays takes-swap (skippedSure f boxes p limit) (rightNearer f boxes p) order links Met met-leaf met-branch met-skips
 
     module _ (nodes : ℕ) where
       listing-met : (t : Tree) → Listing (boxAt triangles) n order links boxes nodes t → Met t (nodes - 1)
@@ -114,5 +114,5 @@ module _ (f : Format) (triangles : List Float) (good : GoodTriangles triangles) 
           let t : Tree = listed .0 in
           let s : Listing (boxAt triangles) n order links boxes nodes t = listed .1 in
           walk-answers t (deepest - 1) (nodes - 1) atFirst (listing-met t s) (s .shallow) tt
-          ∙ ap (λ (l : List ℕ). keptBy (tookSure f triangles p limit) l nothing) (sym (s .order-is))
+          ∙ ap (λ (l : List ℕ). fold (tookSure f triangles p limit) l nothing) (sym (s .order-is))
           ∙ kept-permuted (tookSure f triangles p limit) Good good-stays takes-swap (s .permuted) nothing tt

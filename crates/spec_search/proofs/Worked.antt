@@ -12,11 +12,11 @@ use Rattle.spec_shapes.specs.Boxes.{union, withExcess, withOutside, boxSquared,
 use Rattle.spec_shapes.specs.Triangles.{boxOf, dots, crossed, part, along, facePoint, pointOn, closestPoint, finiteOr, heldPoint, measured}
 use Rattle.spec_lists.specs.Reading.{numberAt, pointAt, triangleAt, boxAt, triangleCount}
 use Rattle.spec_tree.specs.Trees.{Tree, leaf, branch, numbers, nodeCount, joinedTo, joined, boxOver, rootFrom, linksFrom, boxesOf}
-use Rattle.spec_tree.specs.Order.{upTo}
+use Rattle.spec_tree.specs.Order.{range}
 use Rattle.spec_search.specs.Answers.{Hit, Answer, nothing, found}
-use Rattle.spec_search.specs.Walk.{Sought, tookAll, nodeWalk, pairWalk, rootWalk, keptBy}
-use Rattle.spec_search.specs.Sure.{limitOf, counts, offered, isPassed, hit, tookSure, scan, nodeSquared, passedSure, rightNearer, sureWalk}
-use Rattle.spec_search.specs.Source.{sourceHit, strictly, tookSource, enters, sourceWalk}
+use Rattle.spec_search.specs.Walk.{Sought, tookAll, nodeWalk, pairWalk, rootWalk, fold}
+use Rattle.spec_search.specs.Sure.{limitOf, counts, offered, isSkipped, hit, tookSure, scan, nodeSquared, skippedSure, rightNearer, sureWalk}
+use Rattle.spec_search.specs.Source.{sourceHit, keepSmaller, tookSource, enters, sourceWalk}
 use Rattle.spec_search.specs.Calls.{sureAnswer, sourceAnswer}
 
 module _ (f : Format) where
@@ -72,8 +72,8 @@ pub source-worked : (f : Format)
     ≡ (foundAt f 1 (pos 10) (level f) ∷ nothing ∷ foundAt f 0 (pos 1) (n f (pos 9801)) ∷ [])
 unfolding add sub mul div lt le eq round ofInt minus plus scale dot smallest largest isUnder isFinite plusZero squaredDistance union withExcess
     withOutside boxSquared containsPoint heldIn heldSquared boxOf dots crossed part along facePoint pointOn closestPoint finiteOr heldPoint measured
-    numberAt pointAt triangleAt boxAt triangleCount numbers nodeCount joinedTo joined boxOver rootFrom linksFrom boxesOf upTo tookAll nodeWalk
-    pairWalk rootWalk keptBy limitOf counts offered isPassed hit tookSure scan nodeSquared passedSure rightNearer sureWalk sourceHit strictly
+    numberAt pointAt triangleAt boxAt triangleCount numbers nodeCount joinedTo joined boxOver rootFrom linksFrom boxesOf range tookAll nodeWalk
+    pairWalk rootWalk fold limitOf counts offered isSkipped hit tookSure scan nodeSquared skippedSure rightNearer sureWalk sourceHit keepSmaller
     tookSource enters sourceWalk sureAnswer sourceAnswer
 source-worked binary32 = refl
 source-worked binary64 = refl
@@ -84,20 +84,20 @@ pub sure-worked : (f : Format)
     ≡ (foundAt f 0 (pos 1) (level f) ∷ nothing ∷ nothing ∷ [])
 unfolding add sub mul div lt le eq round ofInt minus plus scale dot smallest largest isUnder isFinite plusZero squaredDistance union withExcess
     withOutside boxSquared containsPoint heldIn heldSquared boxOf dots crossed part along facePoint pointOn closestPoint finiteOr heldPoint measured
-    numberAt pointAt triangleAt boxAt triangleCount numbers nodeCount joinedTo joined boxOver rootFrom linksFrom boxesOf upTo tookAll nodeWalk
-    pairWalk rootWalk keptBy limitOf counts offered isPassed hit tookSure scan nodeSquared passedSure rightNearer sureWalk sourceHit strictly
+    numberAt pointAt triangleAt boxAt triangleCount numbers nodeCount joinedTo joined boxOver rootFrom linksFrom boxesOf range tookAll nodeWalk
+    pairWalk rootWalk fold limitOf counts offered isSkipped hit tookSure scan nodeSquared skippedSure rightNearer sureWalk sourceHit keepSmaller
     tookSource enters sourceWalk sureAnswer sourceAnswer
 sure-worked binary32 = refl
 sure-worked binary64 = refl
 
--- a level box is looked into, the nearer box goes first, and the farther one is passed over
+-- a level box is looked into, the nearer box goes first, and the farther one is skipped
 pub walk-worked : (f : Format)
     → (walkIn f (between f) (n f (pos 5)) ∷ walkIn f (n f (pos 9)) (n f (pos 50)) ∷ [])
     ≡ (record { best = foundAt f 0 (pos 1) (level f); measured = 2 } ∷ record { best = foundAt f 1 (pos 10) (n f (pos 1)); measured = 1 } ∷ [])
 unfolding add sub mul div lt le eq round ofInt minus plus scale dot smallest largest isUnder isFinite plusZero squaredDistance union withExcess
     withOutside boxSquared containsPoint heldIn heldSquared boxOf dots crossed part along facePoint pointOn closestPoint finiteOr heldPoint measured
-    numberAt pointAt triangleAt boxAt triangleCount numbers nodeCount joinedTo joined boxOver rootFrom linksFrom boxesOf upTo tookAll nodeWalk
-    pairWalk rootWalk keptBy limitOf counts offered isPassed hit tookSure scan nodeSquared passedSure rightNearer sureWalk sourceHit strictly
+    numberAt pointAt triangleAt boxAt triangleCount numbers nodeCount joinedTo joined boxOver rootFrom linksFrom boxesOf range tookAll nodeWalk
+    pairWalk rootWalk fold limitOf counts offered isSkipped hit tookSure scan nodeSquared skippedSure rightNearer sureWalk sourceHit keepSmaller
     tookSource enters sourceWalk sureAnswer sourceAnswer
 walk-worked binary32 = refl
 walk-worked binary64 = refl

@@ -4,7 +4,7 @@ use mathlib.Core.Bool.{true}
 use mathlib.Core.List.{List, [], _∷_}
 use Prim.Native.Nat.{ℕ, _*_, _/_}
 use lib.Ieee.{Float, Format}
-use Rattle.spec_tables.specs.Tables.{over, many}
+use Rattle.spec_tables.specs.Tables.{overwrite, concatMap}
 use Rattle.spec_shapes.specs.Points.{Point}
 use Rattle.spec_lists.specs.Reading.{boxAt, triangleCount, pointAt, pointCount}
 use Rattle.spec_lists.specs.Passed.{GoodTriangles, GoodPoints}
@@ -28,11 +28,11 @@ queryRefusal triangles order links boxes nodes points distance room =
 
 -- the answers to all points, concatenated
 unfoldable pub answerWords : Format → (Point → Answer) → List Float → List ℕ
-answerWords f answer points = many (λ k. sixWords f (answer (pointAt points (3 * k)))) (pointCount points)
+answerWords f answer points = concatMap (λ k. sixWords f (answer (pointAt points (3 * k)))) (pointCount points)
 
 -- the lent list afterwards: the answers from the front, what was there behind them; on a refusal as it was
 unfoldable pub afterQuery : Format → (Point → Answer) → List Float → Verdict → List ℕ → List ℕ
-afterQuery f answer points verdict old = afterVerdict verdict (over 0 (answerWords f answer points) old) old
+afterQuery f answer points verdict old = afterVerdict verdict (overwrite 0 (answerWords f answer points) old) old
 
 -- what a sure query answers at a point: the scan alone, whatever accepted tree is used
 unfoldable pub sureAnswer : Format → (triangles : List Float) (distance : Float) → Point → Answer

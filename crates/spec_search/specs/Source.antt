@@ -26,11 +26,11 @@ sourceHit f triangles p t =
     record { point = q; squared = squaredDistance f q p; triangle = t }
 
 -- the strictly smaller one is kept: among equals, the one that was measured first
-unfoldable pub strictly : Hit → Answer → Answer
-strictly h k = cond (lt (h .squared) (smallest k)) (found h) k
+unfoldable pub keepSmaller : Hit → Answer → Answer
+keepSmaller h k = cond (lt (h .squared) (smallest k)) (found h) k
 
 unfoldable pub tookSource : Format → List Float → Point → ℕ → Answer → Answer
-tookSource f triangles p t k = strictly (sourceHit f triangles p t) k
+tookSource f triangles p t k = keepSmaller (sourceHit f triangles p t) k
 
 -- a child is entered if its box holds the point or its squared distance is below the limit squared
 unfoldable pub enters : Format → List Float → Point → Float → ℕ → Bool
@@ -38,7 +38,7 @@ enters f boxes p limit node = containsPoint (nodeBox boxes node) p || lt (boxSqu
 
 abbrev pub sourceSearch : Format → List Float → List Float → Point → Float → Search Answer
 sourceSearch f triangles boxes p limit =
-    record { passed = λ node k. not (enters f boxes p limit node); rightFirst = λ l r. true; took = tookSource f triangles p }
+    record { skipped = λ node k. not (enters f boxes p limit node); rightFirst = λ l r. true; took = tookSource f triangles p }
 
 unfoldable pub sourceWalk : Format → List Float → List ℕ → List ℕ → List Float → ℕ → Point → Float → Sought Answer
 sourceWalk f triangles order links boxes nodes p limit = rootWalk (sourceSearch f triangles boxes p limit) order links (deepest - 1) (nodes - 1) atFirst

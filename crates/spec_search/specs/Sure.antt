@@ -9,10 +9,10 @@ use Rattle.spec_shapes.specs.Boxes.{heldSquared}
 use Rattle.spec_shapes.specs.Triangles.{measured}
 use Rattle.spec_lists.specs.Limits.{deepest}
 use Rattle.spec_lists.specs.Reading.{triangleAt, triangleCount}
-use Rattle.spec_tree.specs.Order.{upTo}
+use Rattle.spec_tree.specs.Order.{range}
 use Rattle.spec_tree.specs.Trees.{nodeBox}
 use Rattle.spec_search.specs.Answers.{Hit, Answer, nothing, found}
-use Rattle.spec_search.specs.Walk.{Search, Sought, nodeWalk, keptBy}
+use Rattle.spec_search.specs.Walk.{Search, Sought, nodeWalk, fold}
 
 -- the limit squared: the distance times itself, rounded
 unfoldable pub limitOf : Format → Float → Float
@@ -37,8 +37,8 @@ above d nothing = false
 above d (found k) = lt (k .squared) d
 
 -- a box at this squared distance is skipped: it does not count, or is above the best so far
-unfoldable pub isPassed : Float → Float → Answer → Bool
-isPassed limit d k = not (counts limit d) || above d k
+unfoldable pub isSkipped : Float → Float → Answer → Bool
+isSkipped limit d k = not (counts limit d) || above d k
 
 module _ (f : Format) (triangles : List Float) (p : Point) where
   -- what is measured of triangle t: its held point
@@ -50,14 +50,14 @@ module _ (f : Format) (triangles : List Float) (p : Point) where
 
   -- the best of all triangles, in the order of their numbers
   unfoldable pub scan : Float → Answer
-  scan limit = keptBy (tookSure limit) (upTo (triangleCount triangles)) nothing
+  scan limit = fold (tookSure limit) (range (triangleCount triangles)) nothing
 
 -- ---- the walk
 unfoldable pub nodeSquared : Format → List Float → Point → ℕ → Float
 nodeSquared f boxes p node = heldSquared f (nodeBox boxes node) p
 
-unfoldable pub passedSure : Format → List Float → Point → Float → ℕ → Answer → Bool
-passedSure f boxes p limit node k = isPassed limit (nodeSquared f boxes p node) k
+unfoldable pub skippedSure : Format → List Float → Point → Float → ℕ → Answer → Bool
+skippedSure f boxes p limit node k = isSkipped limit (nodeSquared f boxes p node) k
 
 -- the nearer box first, the left one among equals: the farther one is then skipped more often
 unfoldable pub rightNearer : Format → List Float → Point → ℕ → ℕ → Bool
@@ -65,7 +65,7 @@ rightNearer f boxes p l r = lt (nodeSquared f boxes p r) (nodeSquared f boxes p 
 
 abbrev pub sureSearch : Format → List Float → List Float → Point → Float → Search Answer
 sureSearch f triangles boxes p limit =
-    record { passed = passedSure f boxes p limit; rightFirst = rightNearer f boxes p; took = tookSure f triangles p limit }
+    record { skipped = skippedSure f boxes p limit; rightFirst = rightNearer f boxes p; took = tookSure f triangles p limit }
 
 -- before anything is measured
 abbrev pub atFirst : Sought Answer

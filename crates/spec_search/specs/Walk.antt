@@ -4,12 +4,12 @@ use mathlib.Core.List.{List, [], _∷_}
 use Prim.Native.Nat.{ℕ, zero, suc, _+_}
 use lib.Dec.{eqb}
 use Rattle.spec_tree.specs.Trees.{kindAt, leftAt, rightAt}
-use Rattle.spec_tree.specs.Hangs.{leafPart}
+use Rattle.spec_tree.specs.Hangs.{leafSlice}
 
 -- a search that keeps an S
 pub record Search (S : Type 0) : Type 0 where
   -- this node is skipped, at what is kept so far
-  pub passed : ℕ → S → Bool
+  pub skipped : ℕ → S → Bool
   -- of a left and a right child, the right one goes first
   pub rightFirst : ℕ → ℕ → Bool
   -- what is kept once this triangle is measured
@@ -39,7 +39,7 @@ inTurn false walk l r s = walk r (walk l s)
 module _ {S : Type 0} (how : Search S) (order links : List ℕ) where
   -- a node that is looked at: a leaf is measured whole, a branch's children are walked as a pair
   abbrev pub lookedAt : Bool → (ℕ → ℕ → Sought S → Sought S) → ℕ → Sought S → Sought S
-  lookedAt true pair node s = tookAll (how .took) (leafPart order links node) s
+  lookedAt true pair node s = tookAll (how .took) (leafSlice order links node) s
   lookedAt false pair node s = pair (leftAt links node) (rightAt links node) s
 
   -- a node, by whether it is skipped
@@ -49,8 +49,8 @@ module _ {S : Type 0} (how : Search S) (order links : List ℕ) where
 
   -- The walk of a node, with d levels of branches remaining to be opened: below them nothing is looked at, so that it ends on any links.
   unfoldable pub nodeWalk : ℕ → ℕ → Sought S → Sought S
-  nodeWalk zero node s = visited (how .passed node (s .best)) (λ l r s′. s′) node s
-  nodeWalk (suc d) node s = visited (how .passed node (s .best)) (λ l r s′. inTurn (how .rightFirst l r) (nodeWalk d) l r s′) node s
+  nodeWalk zero node s = visited (how .skipped node (s .best)) (λ l r s′. s′) node s
+  nodeWalk (suc d) node s = visited (how .skipped node (s .best)) (λ l r s′. inTurn (how .rightFirst l r) (nodeWalk d) l r s′) node s
 
   -- The walk of two children, each with d levels remaining.
   unfoldable pub pairWalk : ℕ → ℕ → ℕ → Sought S → Sought S
@@ -62,6 +62,6 @@ module _ {S : Type 0} (how : Search S) (order links : List ℕ) where
   rootWalk (suc d) node s = lookedAt (isLeaf links node) (pairWalk d) node s
 
 -- the fold of a search over a list: what is kept once each triangle is measured, in this order
-unfoldable pub keptBy : {S : Type 0} → (ℕ → S → S) → List ℕ → S → S
-keptBy took [] s = s
-keptBy took (t ∷ ts) s = keptBy took ts (took t s)
+unfoldable pub fold : {S : Type 0} → (ℕ → S → S) → List ℕ → S → S
+fold took [] s = s
+fold took (t ∷ ts) s = fold took ts (took t s)

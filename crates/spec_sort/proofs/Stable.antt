@@ -3,7 +3,7 @@ use mathlib.Core.Path.{_≡_, refl, sym, ap, _∙_}
 use mathlib.Core.Bool.{Bool, true, false, cond, not, _&&_, true≢false}
 use mathlib.Core.List.{List, [], _∷_}
 use Prim.Native.Nat.{ℕ}
-use Rattle.spec_sort.specs.Sort.{inserted, sorted, Each, equals, those, Ordered}
+use Rattle.spec_sort.specs.Sort.{inserted, sorted, Each, equals, filter, Ordered}
 use Rattle.spec_sort.proofs.Permutes.{each-sorted}
 use Rattle.spec_sort.proofs.Merges.{inserted-nowhere, inserted-passes, inserted-stops}
 
@@ -24,20 +24,20 @@ module _ {before : ℕ → ℕ → Bool} {Used : ℕ → Type 0} (o : Ordered be
   apart x y ux uy h p q =
       true≢false (sym h ∙ o .not-before-transitive y a x uy ua ux (neither (before a y) (before y a) q .1) (neither (before a x) (before x a) p .0))
 
-  inserted-stable : (x : ℕ) (ys : List ℕ) → Used x → Each Used ys → those (equals before a) (inserted before x ys) ≡ those (equals before a) (x ∷ ys)
-  inserted-stable x [] ux u = ap (those (equals before a)) (inserted-nowhere before x)
+  inserted-stable : (x : ℕ) (ys : List ℕ) → Used x → Each Used ys → filter (equals before a) (inserted before x ys) ≡ filter (equals before a) (x ∷ ys)
+  inserted-stable x [] ux u = ap (filter (equals before a)) (inserted-nowhere before x)
   inserted-stable x (y ∷ ys) ux u = go (before y x) refl (inserted-stable x ys ux (u .1))
     where
-      go : (b : Bool) → before y x ≡ b → those (equals before a) (inserted before x ys) ≡ those (equals before a) (x ∷ ys)
-          → those (equals before a) (inserted before x (y ∷ ys)) ≡ those (equals before a) (x ∷ (y ∷ ys))
+      go : (b : Bool) → before y x ≡ b → filter (equals before a) (inserted before x ys) ≡ filter (equals before a) (x ∷ ys)
+          → filter (equals before a) (inserted before x (y ∷ ys)) ≡ filter (equals before a) (x ∷ (y ∷ ys))
       go true e ih =
-          ap (those (equals before a)) (inserted-passes before x y ys e)
+          ap (filter (equals before a)) (inserted-passes before x y ys e)
           ∙ ap (λ (l : List ℕ). cond (equals before a y) (y ∷ l) l) ih
-          ∙ pick-swaps (equals before a x) (equals before a y) x y (those (equals before a) ys) (apart x y ux (u .0) e)
-      go false e ih = ap (those (equals before a)) (inserted-stops before x y ys e)
+          ∙ pick-swaps (equals before a x) (equals before a y) x y (filter (equals before a) ys) (apart x y ux (u .0) e)
+      go false e ih = ap (filter (equals before a)) (inserted-stops before x y ys e)
 
   -- the elements that equal a given one stand in the same order before and after the sort
-  pub sorted-stable : (xs : List ℕ) → Each Used xs → those (equals before a) (sorted before xs) ≡ those (equals before a) xs
+  pub sorted-stable : (xs : List ℕ) → Each Used xs → filter (equals before a) (sorted before xs) ≡ filter (equals before a) xs
   unfolding sorted
   sorted-stable [] u = refl
   sorted-stable (x ∷ xs) u =

@@ -115,7 +115,7 @@ below-zero x h = rw (cut-below-zero 64 x h)
 small : (m : ℕ) (e : ℤ) → T (lt (fin false m e) eleven) → m * up e / down e < 11
 small m e h = div-lt-iff-lt-mul (down-pos e) .1 (omega (arith, compared (fin false m e) eleven tt tt .lt→less h))
 
--- between the two tests the bucket is the whole part
+-- between the two tests the bucket is the whole slice
 pub below-eleven-kept : (x : Float) → T (not (le eleven x)) → T (le Values.zero x) → toUnsigned 64 x ≡ upTo11 x
 unfolding toUnsigned le
 below-eleven-kept (inf true) h k = absurd k
@@ -170,8 +170,8 @@ seen-goes-on now next v i e h = let one : next .seen ≡ now .seen + 1 = ap (λ 
 
 -- ---- a loop that looks for the first object in a later bucket
 module _ (bucket : Box → ℕ) (last : ℕ) (box : ℕ → Box) (l : List ℕ) (i : ℕ) (whole : Split) where
-  left-over : List ℕ → ℕ → Split
-  left-over m k = firstLater bucket last (map box m) k
+  remaining : List ℕ → ℕ → Split
+  remaining m k = firstLater bucket last (map box m) k
 
   -- what the test picks
   picks : Bool → Split
@@ -179,15 +179,15 @@ module _ (bucket : Box → ℕ) (last : ℕ) (box : ℕ → Box) (l : List ℕ) 
 
   -- an object in a later bucket settles it: the cut is before this object
   pub looking-finds : i < length l → ltb last (bucket (box (getD l i 0))) ≡ true → firstLater bucket last (map box (drop i l)) i ≡ whole → cutAt i ≡ whole
-  unfolding left-over firstLater picks
-  looking-finds h e inv = sym (ap picks e) ∙ look-here 0 left-over l i whole h inv
+  unfolding remaining firstLater picks
+  looking-finds h e inv = sym (ap picks e) ∙ look-here 0 remaining l i whole h inv
 
   -- any other object leaves the answer to those that remain
   pub looking-goes-on : i < length l → ltb last (bucket (box (getD l i 0))) ≡ false → firstLater bucket last (map box (drop i l)) i ≡ whole → firstLater bucket last (map box (drop (i + 1) l)) (i + 1) ≡ whole
-  unfolding left-over firstLater picks
-  looking-goes-on h e inv = look-on 0 left-over l i whole h (ap picks e) inv
+  unfolding remaining firstLater picks
+  looking-goes-on h e inv = look-on 0 remaining l i whole h (ap picks e) inv
 
   -- at the end there is no cut
   pub looking-ends : length l ≤ i → firstLater bucket last (map box (drop i l)) i ≡ whole → nowhere ≡ whole
-  unfolding left-over firstLater
-  looking-ends h inv = look-ended 0 left-over l i whole h inv
+  unfolding remaining firstLater
+  looking-ends h inv = look-ended 0 remaining l i whole h inv

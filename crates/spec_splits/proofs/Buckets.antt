@@ -64,25 +64,25 @@ module _ (f : Format) where
     plain-put b buckets B h j =
         stored (λ (s : Bucket). PlainBox f (s .bounds)) buckets (bucket b) j _ (emptyBucket f) (union-plain f _ _ (h (bucket b)) B) (h j)
 
-    plain-all : (part : List ℕ) (buckets : List Bucket) → ((i : ℕ) → i < length part → PlainBox f (box (getD part i 0))) → ArePlain f buckets
-        → ArePlain f (foldl (putBox f bucket) buckets (map box part))
+    plain-all : (slice : List ℕ) (buckets : List Bucket) → ((i : ℕ) → i < length slice → PlainBox f (box (getD slice i 0))) → ArePlain f buckets
+        → ArePlain f (foldl (putBox f bucket) buckets (map box slice))
     plain-all [] buckets all h = h
-    plain-all (t ∷ part) buckets all h =
-        plain-all part _ (λ (i : ℕ) (k : i < length part). all (suc i) (omega arith)) (plain-put (box t) buckets (all 0 (omega arith)) h)
+    plain-all (t ∷ slice) buckets all h =
+        plain-all slice _ (λ (i : ℕ) (k : i < length slice). all (suc i) (omega arith)) (plain-put (box t) buckets (all 0 (omega arith)) h)
 
     -- plain boxes of a slice of the order list fill buckets with plain bounds: the costs need them so
-    pub filled-plain : (part : List ℕ) → ((i : ℕ) → i < length part → PlainBox f (box (getD part i 0)))
-        → ArePlain f (filled f bucket (map box part))
+    pub filled-plain : (slice : List ℕ) → ((i : ℕ) → i < length slice → PlainBox f (box (getD slice i 0)))
+        → ArePlain f (filled f bucket (map box slice))
     unfolding filled
-    filled-plain part all = plain-all part (emptyBuckets f) all plain-none
+    filled-plain slice all = plain-all slice (emptyBuckets f) all plain-none
 
 -- ---- a loop that puts the boxes of a slice into buckets; g is what a stored bucket stands for, and `box` what a number of the slice does
-module _ {A : Type 0} (g : A → Bucket) (f : Format) (bucket : Box → ℕ) (box : ℕ → Box) (part : List ℕ) where
+module _ {A : Type 0} (g : A → Bucket) (f : Format) (bucket : Box → ℕ) (box : ℕ → Box) (slice : List ℕ) where
   -- i boxes are put
   pub record Filling (each : List A) (i : ℕ) : Type 0 where
     pub full : length each ≡ bucketCount
     pub counts : CountsAtMost f (map g each) i
-    pub fills : foldl (putBox f bucket) (map g each) (map box (drop i part)) ≡ filled f bucket (map box part)
+    pub fills : foldl (putBox f bucket) (map g each) (map box (drop i slice)) ≡ filled f bucket (map box slice)
 
   -- before the first turn: empty buckets
   pub filling-starts : (each : List A) → map g each ≡ emptyBuckets f → Filling each 0
@@ -90,12 +90,12 @@ module _ {A : Type 0} (g : A → Bucket) (f : Format) (bucket : Box → ℕ) (bo
   filling-starts each e = record {
     full = sym (length-map each g) ∙ ap length e;
     counts = subst (λ (l : List Bucket). CountsAtMost f l 0) (sym e) (counts-none f);
-    fills = ap (λ (l : List Bucket). foldl (putBox f bucket) l (map box part)) e;
+    fills = ap (λ (l : List Bucket). foldl (putBox f bucket) l (map box slice)) e;
   }
 
   module _ (each : List A) (i k : ℕ) (d : A) (now : Filling each i) (below : k < bucketCount) where
     -- what a turn needs: the bucket that is taken out counts few enough for one more
-    pub filling-small : i < length part → length part < 2 ^ 28 → g (getD each k d) .count < 2 ^ 28
+    pub filling-small : i < length slice → length slice < 2 ^ 28 → g (getD each k d) .count < 2 ^ 28
     filling-small h small = let at = ap (λ (s : Bucket). s .count) (at-map g each k d (emptyBucket f) (rw (now .full) below)) in omega (arith, at, now .counts k)
 
     -- the bucket that the next box falls into, with that box, stored in its place
@@ -107,15 +107,15 @@ module _ {A : Type 0} (g : A → Bucket) (f : Format) (bucket : Box → ℕ) (bo
         ∙ ap (λ (n : ℕ). set (map g each) n (withBox (bucketAt f (map g each) n) b)) e
 
     -- after a turn, which stores the bucket of the next box with that box in it
-    pub filling-goes-on : (v : A) (c : Box) → i < length part → k ≡ bucket (box (getD part i 0)) → g v ≡ withBox (g (getD each k d)) c → c ≡ box (getD part i 0) → Filling (set each k v) (i + 1)
+    pub filling-goes-on : (v : A) (c : Box) → i < length slice → k ≡ bucket (box (getD slice i 0)) → g v ≡ withBox (g (getD each k d)) c → c ≡ box (getD slice i 0) → Filling (set each k v) (i + 1)
     filling-goes-on v c h e w same =
-        let put = put-stored v (box (getD part i 0)) c e w same in
+        let put = put-stored v (box (getD slice i 0)) c e w same in
         record {
           full = length-set each k v ∙ now .full;
-          counts = subst (λ (l : List Bucket). CountsAtMost f l (i + 1)) (sym put) (counts-put f bucket (box (getD part i 0)) (map g each) i (now .counts));
-          fills = fold-on-named (putBox f bucket) box part i (map g each) _ (map g (set each k v)) h put (now .fills);
+          counts = subst (λ (l : List Bucket). CountsAtMost f l (i + 1)) (sym put) (counts-put f bucket (box (getD slice i 0)) (map g each) i (now .counts));
+          fills = fold-on-named (putBox f bucket) box slice i (map g each) _ (map g (set each k v)) h put (now .fills);
         }
 
   -- after the last turn the buckets are the area rule's
-  pub filling-ends : (each : List A) (i : ℕ) → length part ≤ i → Filling each i → map g each ≡ filled f bucket (map box part)
-  filling-ends each i h now = fold-ended-named (putBox f bucket) box part i (map g each) _ h (now .fills)
+  pub filling-ends : (each : List A) (i : ℕ) → length slice ≤ i → Filling each i → map g each ≡ filled f bucket (map box slice)
+  filling-ends each i h now = fold-ended-named (putBox f bucket) box slice i (map g each) _ h (now .fills)

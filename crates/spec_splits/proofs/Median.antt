@@ -21,20 +21,20 @@ not-false true h = refl
 not-false false h = sym h
 
 module _ (f : Format) (plane : Plane) (g : ℕ → Box) (l : List ℕ) (i : ℕ) (whole : Bool) where
-  left-over : List ℕ → ℕ → Bool
-  left-over m k = allMeet f plane (map g m)
+  remaining : List ℕ → ℕ → Bool
+  remaining m k = allMeet f plane (map g m)
 
   -- a box that does not meet the plane settles it: not all do
   pub meeting-stops : i < length l → meetsBox f plane (g (getD l i 0)) ≡ false → allMeet f plane (map g (drop i l)) ≡ whole → false ≡ whole
-  unfolding left-over allMeet
-  meeting-stops h e inv = sym (ap (λ (b : Bool). b && allMeet f plane (map g (drop (suc i) l))) e) ∙ look-here 0 left-over l i whole h inv
+  unfolding remaining allMeet
+  meeting-stops h e inv = sym (ap (λ (b : Bool). b && allMeet f plane (map g (drop (suc i) l))) e) ∙ look-here 0 remaining l i whole h inv
 
   -- a box that meets the plane leaves the answer to those that remain
   pub meeting-goes-on : i < length l → meetsBox f plane (g (getD l i 0)) ≡ true → allMeet f plane (map g (drop i l)) ≡ whole → allMeet f plane (map g (drop (i + 1) l)) ≡ whole
-  unfolding left-over allMeet
-  meeting-goes-on h e inv = look-on 0 left-over l i whole h (ap (λ (b : Bool). b && allMeet f plane (map g (drop (suc i) l))) e) inv
+  unfolding remaining allMeet
+  meeting-goes-on h e inv = look-on 0 remaining l i whole h (ap (λ (b : Bool). b && allMeet f plane (map g (drop (suc i) l))) e) inv
 
   -- at the end all have met the plane
   pub meeting-ends : length l ≤ i → allMeet f plane (map g (drop i l)) ≡ whole → true ≡ whole
-  unfolding left-over allMeet
-  meeting-ends h inv = look-ended 0 left-over l i whole h inv
+  unfolding remaining allMeet
+  meeting-ends h inv = look-ended 0 remaining l i whole h inv

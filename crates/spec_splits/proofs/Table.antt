@@ -42,22 +42,22 @@ module _ {A B : Type 0} (g : A → B) where
 pub to-the-end : {A : Type 0} (n : ℕ) (l : List A) → take (length l - n) (drop n l) ≡ drop n l
 to-the-end n l = take-all (length l - n) (drop n l) (rw (length-drop n l) (omega arith))
 
-module _ (bounds : List Float) (part : List ℕ) (all : AllInTable bounds part) (n : ℕ) where
+module _ (bounds : List Float) (slice : List ℕ) (all : AllInTable bounds slice) (n : ℕ) where
   -- the first n triangles of a slice have their boxes in the table, where the slice has
-  pub in-table-before : n ≤ length part → AllInTable bounds (take n part)
+  pub in-table-before : n ≤ length slice → AllInTable bounds (take n slice)
   in-table-before h i k =
-      let j : i < n = omega (arith, length-take n part) in
-      rw (getD-take n part i 0 j) (all i (omega arith))
+      let j : i < n = omega (arith, length-take n slice) in
+      rw (getD-take n slice i 0 j) (all i (omega arith))
 
   -- so have the triangles that remain behind them
-  pub in-table-after : AllInTable bounds (drop n part)
-  in-table-after i k = rw (getD-drop n part i 0) (all (n + i) (omega (arith, length-drop n part)))
+  pub in-table-after : AllInTable bounds (drop n slice)
+  in-table-after i k = rw (getD-drop n slice i 0) (all (n + i) (omega (arith, length-drop n slice)))
 
 -- the union of the boxes of a slice begins with its first: the loop starts there
-pub union-from-first : (f : Format) (g : ℕ → Box) (part : List ℕ) → 0 < length part → foldl union (g (getD part 0 0)) (map g (drop 1 part)) ≡ unionOf f (map g part)
+pub union-from-first : (f : Format) (g : ℕ → Box) (slice : List ℕ) → 0 < length slice → foldl union (g (getD slice 0 0)) (map g (drop 1 slice)) ≡ unionOf f (map g slice)
 unfolding unionOf
 union-from-first f g [] h = absurd (omega arith)
-union-from-first f g (t ∷ part) h = refl
+union-from-first f g (t ∷ slice) h = refl
 
 -- ---- the centre of a box of the table, on one axis
 -- an axis has its place among a point's three numbers

@@ -21,7 +21,7 @@ unfoldable pub boxIn : List Float → ℕ → Box
 boxIn bounds t = nodeBox bounds t
 
 abbrev pub boxesIn : List Float → List ℕ → List Box
-boxesIn bounds part = map (boxIn bounds) part
+boxesIn bounds slice = map (boxIn bounds) slice
 
 -- where the number of an axis stands in a point
 abbrev pub place : Axis → ℕ
@@ -34,12 +34,12 @@ abbrev pub InTable : List Float → ℕ → Type 0
 InTable bounds t = 6 * t + 6 ≤ length bounds
 
 abbrev pub AllInTable : List Float → List ℕ → Type 0
-AllInTable bounds part = (i : ℕ) → i < length part → InTable bounds (getD part i 0)
+AllInTable bounds slice = (i : ℕ) → i < length slice → InTable bounds (getD slice i 0)
 
 -- what a rule needs of a slice: each of its triangles has a box in the table, and that box is plain
-pub record Boxed (f : Format) (bounds : List Float) (part : List ℕ) : Type 0 where
-  pub in-table : AllInTable bounds part
-  pub plain : (i : ℕ) → i < length part → PlainBox f (boxIn bounds (getD part i 0))
+pub record Boxed (f : Format) (bounds : List Float) (slice : List ℕ) : Type 0 where
+  pub in-table : AllInTable bounds slice
+  pub plain : (i : ℕ) → i < length slice → PlainBox f (boxIn bounds (getD slice i 0))
 
 -- ---- the union of boxes, from the left
 unfoldable pub unionOf : Format → List Box → Box

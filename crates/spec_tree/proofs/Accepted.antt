@@ -17,7 +17,7 @@ use Rattle.spec_shapes.specs.Boxes.{Box}
 use Rattle.spec_tree.specs.Trees.{Tree, numbers, nodeCount, linksFrom, boxesOf}
 use Rattle.spec_tree.specs.Order.{Permutes, permutes}
 use Rattle.spec_tree.specs.Accepted.{Listing, Finding, wrong, spans, finding, Room, isWhole, present, accepted}
-use Rattle.spec_tree.proofs.Standing.{Stands, taken-stands, stands-part}
+use Rattle.spec_tree.proofs.Standing.{Stands, taken-stands, stands-slice}
 use Rattle.spec_tree.proofs.Trees.{root-last, links-length, boxes-length, count-least, count-most}
 use Rattle.spec_tree.proofs.Order.{test-permutes, permutes-test, permutes-length}
 use Rattle.spec_tree.proofs.Found.{Says, found}
@@ -33,17 +33,17 @@ whole-listed boxAt n order links boxes nodes p w (spans first entry box) s h =
     let t : Tree = s .tree in
     let count : nodes ≡ nodeCount t = omega (arith, root-last first t, s .root) in
     let long : n - 0 ≡ length order = omega (arith, permutes-length n order p) in
-    let all : Tables.part order 0 (n - 0) ≡ order = ap (λ (k : ℕ). take k order) long ∙ take-length order in
+    let all : Tables.slice order 0 (n - 0) ≡ order = ap (λ (k : ℕ). take k order) long ∙ take-length order in
     let links-at-0 : Stands 0 links 0 (linksFrom 0 0 t) = subst₂ (λ (i a : ℕ). Stands 0 links (3 * i) (linksFrom i a t)) node-0 entry-0 (s .links-stand) in
     let boxes-at-0 : Stands nan boxes 0 (boxesOf boxAt t) = subst (λ (i : ℕ). Stands nan boxes (6 * i) (boxesOf boxAt t)) node-0 (s .boxes-stand) in (
       t,
       record {
-        order-is = sym (s .part ∙ ap (λ (k : ℕ). Tables.part order k (n - k)) entry-0 ∙ all);
+        order-is = sym (s .slice ∙ ap (λ (k : ℕ). Tables.slice order k (n - k)) entry-0 ∙ all);
         permuted = p;
         filled = s .filled;
         nodes-are = count;
-        links-are = stands-part 0 links (linksFrom 0 0 t) 0 (3 * nodes) (links-length 0 0 t ∙ ap (λ (k : ℕ). 3 * k) (sym count)) links-at-0;
-        boxes-are = stands-part nan boxes (boxesOf boxAt t) 0 (6 * nodes) (boxes-length boxAt t ∙ ap (λ (k : ℕ). 6 * k) (sym count)) boxes-at-0;
+        links-are = stands-slice 0 links (linksFrom 0 0 t) 0 (3 * nodes) (links-length 0 0 t ∙ ap (λ (k : ℕ). 3 * k) (sym count)) links-at-0;
+        boxes-are = stands-slice nan boxes (boxesOf boxAt t) 0 (6 * nodes) (boxes-length boxAt t ∙ ap (λ (k : ℕ). 6 * k) (sym count)) boxes-at-0;
         shallow = s .shallow;
       },
     )
@@ -89,7 +89,7 @@ module _ (boxAt : ℕ → Box) (n : ℕ) (order links : List ℕ) (boxes : List 
   listing-stands =
       record {
         root = omega (arith, s .nodes-are, root-last 0 t);
-        part = taken-stands 0 order (numbers t) (length order) (take-length order ∙ s .order-is);
+        slice = taken-stands 0 order (numbers t) (length order) (take-length order ∙ s .order-is);
         ends = omega (arith, ap length (s .order-is), permutes-length n order (s .permuted));
         within = omega (arith, permutes-length n order (s .permuted));
         links-stand = taken-stands 0 links (linksFrom 0 0 t) (3 * nodes) (s .links-are);

@@ -52,7 +52,7 @@ module _ (boxAt : ℕ → Box) where
   -- the box over a tree bounds every triangle under it, so a box that is too far away rules all of them out
   pub box-over-holds : (t : Tree) → Filled t → AllProper (numbers t) → Holds (boxOver boxAt t) (numbers t)
   unfolding boxOver numbers
-  box-over-holds (leaf part) f all = joined-holds part f all
+  box-over-holds (leaf slice) f all = joined-holds slice f all
   box-over-holds (branch l r) f all =
       let left : Holds (boxOver boxAt l) (numbers l) = box-over-holds l (f .0) (λ k m. all k (Memᴰ·append-left (numbers r) m)) in
       let right : Holds (boxOver boxAt r) (numbers r) = box-over-holds r (f .1) (λ k m. all k (Memᴰ·append-right (numbers l) m)) in

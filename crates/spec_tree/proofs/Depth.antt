@@ -23,8 +23,8 @@ use Rattle.spec_tree.proofs.Hangs.{listing-hangs}
 module _ (over : ℕ → Box) (order links : List ℕ) (boxes : List Float) where
   hangs-depth : (t : Tree) (most node : ℕ) → levels t ≤ most → Hangs over order links boxes t node → depthAt links most node ≡ levels t
   unfolding depthAt levels
-  hangs-depth (leaf part) zero node w h = absurd (omega arith)
-  hangs-depth (leaf part) (suc most) node w h = rw (h .kind-is)
+  hangs-depth (leaf slice) zero node w h = absurd (omega arith)
+  hangs-depth (leaf slice) (suc most) node w h = rw (h .kind-is)
   hangs-depth (branch l r) zero node w h = absurd (omega arith)
   hangs-depth (branch l r) (suc most) node w h =
       let left : depthAt links most (leftAt links node) ≡ levels l = hangs-depth l most (leftAt links node) (omega arith) (h .left) in

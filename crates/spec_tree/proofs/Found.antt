@@ -13,7 +13,7 @@ use Rattle.spec_numbers.proofs.Tests.{both-passed}
 use Rattle.spec_shapes.specs.Boxes.{Box, union}
 use Rattle.spec_tree.specs.Trees.{Tree, leaf, branch, numbers, nodeCount, levels, Filled, joined, boxOver, rootFrom, linksFrom, boxesOf, kindAt, leftAt, rightAt, nodeBox}
 use Rattle.spec_tree.specs.Accepted.{sameBox, Finding, wrong, spans, boxed, leafFinding, leftFound, leftTried, rightFound, rightTried, byKind, finding, Room}
-use Rattle.spec_tree.proofs.Standing.{Stands, stands-three, part-join, part-length}
+use Rattle.spec_tree.proofs.Standing.{Stands, stands-three, slice-join, slice-length}
 use Rattle.spec_tree.proofs.Nodes.{same-box, links-stand, box-stands}
 use Rattle.spec_tree.proofs.Trees.{root-last, links-length, boxes-length, count-least}
 
@@ -24,7 +24,7 @@ module _ (boxAt : ℕ → Box) (order links : List ℕ) (boxes : List Float) whe
     pub filled : Filled tree
     pub shallow : levels tree ≤ most
     pub root : rootFrom first tree ≡ node
-    pub part : numbers tree ≡ Tables.part order entry (last - entry)
+    pub slice : numbers tree ≡ Tables.slice order entry (last - entry)
     pub ends : entry + length (numbers tree) ≡ last
     pub under : box ≡ boxOver boxAt tree
     pub links-stand : Stands 0 links (3 * first) (linksFrom first entry tree)
@@ -38,23 +38,23 @@ module _ (boxAt : ℕ → Box) (order links : List ℕ) (boxes : List Float) whe
   -- a leaf
   leaf-found : (most node last : ℕ) → 3 * node + 3 ≤ length links → 6 * node + 6 ≤ length boxes → last ≤ length order
       → kindAt links node ≡ 1 → leftAt links node < last → rightAt links node ≡ last
-      → joined boxAt (Tables.part order (leftAt links node) (last - leftAt links node)) ≡ nodeBox boxes node
-      → Found (suc most) node last node (leftAt links node) (joined boxAt (Tables.part order (leftAt links node) (last - leftAt links node)))
+      → joined boxAt (Tables.slice order (leftAt links node) (last - leftAt links node)) ≡ nodeBox boxes node
+      → Found (suc most) node last node (leftAt links node) (joined boxAt (Tables.slice order (leftAt links node) (last - leftAt links node)))
   unfolding numbers levels rootFrom boxOver linksFrom boxesOf
   leaf-found most node last wl wb wo k l r b =
-      let part = Tables.part order (leftAt links node) (last - leftAt links node) in
-      let long : length part ≡ last - leftAt links node = part-length order (leftAt links node) (last - leftAt links node) (omega arith) in
-      let end : leftAt links node + length part ≡ last = omega arith in
+      let slice = Tables.slice order (leftAt links node) (last - leftAt links node) in
+      let long : length slice ≡ last - leftAt links node = slice-length order (leftAt links node) (last - leftAt links node) (omega arith) in
+      let end : leftAt links node + length slice ≡ last = omega arith in
       record {
-        tree = leaf part;
+        tree = leaf slice;
         filled = omega arith;
         shallow = omega arith;
         root = refl;
-        part = refl;
+        slice = refl;
         ends = end;
         under = refl;
-        links-stand = links-stand links node 1 (leftAt links node) (leftAt links node + length part) wl k refl (omega arith);
-        boxes-stand = box-stands boxes node (joined boxAt part) wb b;
+        links-stand = links-stand links node 1 (leftAt links node) (leftAt links node + length slice) wl k refl (omega arith);
+        boxes-stand = box-stands boxes node (joined boxAt slice) wb b;
       }
 
   -- a branch, of what is found below it
@@ -74,7 +74,7 @@ module _ (boxAt : ℕ → Box) (order links : List ℕ) (boxes : List Float) whe
         filled = (left .filled, right .filled);
         shallow = omega (arith, left .shallow, right .shallow);
         root = omega arith;
-        part = (λ i. left .part i ++ right .part i) ∙ part-join order entry entry′ last (omega arith) (omega (arith, right .ends));
+        slice = (λ i. left .slice i ++ right .slice i) ∙ slice-join order entry entry′ last (omega arith) (omega (arith, right .ends));
         ends = omega (arith, length-append (numbers lt) (numbers rt), right .ends);
         under = λ i. union (left .under i) (right .under i);
         links-stand =
@@ -97,7 +97,7 @@ module _ (boxAt : ℕ → Box) (order links : List ℕ) (boxes : List Float) whe
       entry = leftAt links node
 
       box : Box
-      box = joined boxAt (Tables.part order entry (last - entry))
+      box = joined boxAt (Tables.slice order entry (last - entry))
 
       same-boxes : (b : Bool) → sameBox box (nodeBox boxes node) ≡ b → entry < last → rightAt links node ≡ last → Says (suc most) node last (cond b (spans node entry box) wrong)
       same-boxes true p h r = leaf-found most node last (w .links-there) (w .boxes-there) (w .order-there) k h r (same-box box (nodeBox boxes node) p)

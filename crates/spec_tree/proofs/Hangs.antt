@@ -11,7 +11,7 @@ use Rattle.spec_shapes.specs.Boxes.{Box}
 use Rattle.spec_tree.specs.Trees.{Tree, leaf, branch, numbers, nodeCount, Filled, joined, boxOver, rootFrom, linksFrom, boxesOf}
 use Rattle.spec_tree.specs.Accepted.{Listing}
 use Rattle.spec_tree.specs.Hangs.{There, LeafAt, Hangs, LeafRange, ChildrenBefore, Sound}
-use Rattle.spec_tree.proofs.Standing.{stands-part}
+use Rattle.spec_tree.proofs.Standing.{stands-slice}
 use Rattle.spec_tree.proofs.Nodes.{NodeLinks, links-read, box-read}
 use Rattle.spec_tree.proofs.Trees.{root-last, count-least}
 use Rattle.spec_tree.proofs.Listed.{Listed, Halves, halves}
@@ -19,28 +19,28 @@ use Rattle.spec_tree.proofs.Accepted.{listing-stands, listing-some, lis
 use Rattle.spec_tree.proofs.Order.{permutes-entries}
 
 module _ (boxAt : ℕ → Box) (order links : List ℕ) (boxes : List Float) where
-  leaf-hangs : (part : List ℕ) (entry node last : ℕ) → 0 < length part → Listed boxAt order links boxes node entry node last (leaf part) → There links boxes node
-      → LeafAt order links boxes part (joined boxAt part) node
+  leaf-hangs : (slice : List ℕ) (entry node last : ℕ) → 0 < length slice → Listed boxAt order links boxes node entry node last (leaf slice) → There links boxes node
+      → LeafAt order links boxes slice (joined boxAt slice) node
   unfolding numbers linksFrom boxesOf
-  leaf-hangs part entry node last f s w =
-      let own : NodeLinks links node 1 entry (entry + length part) = links-read links node 1 entry (entry + length part) (s .links-stand) in
-      let end : entry + length part ≡ last = s .ends in
-      let size : length part ≡ entry + length part - entry = omega arith in
+  leaf-hangs slice entry node last f s w =
+      let own : NodeLinks links node 1 entry (entry + length slice) = links-read links node 1 entry (entry + length slice) (s .links-stand) in
+      let end : entry + length slice ≡ last = s .ends in
+      let size : length slice ≡ entry + length slice - entry = omega arith in
       record {
         there = w;
         kind-is = own .kind-is;
         nonempty = omega (arith, own .left-is, own .right-is);
         within = omega (arith, own .right-is, s .within);
-        part-is = rw (own .left-is, own .right-is) (stands-part 0 order part entry (entry + length part - entry) size (s .part));
-        box-is = box-read boxes node (joined boxAt part) (s .boxes-stand);
+        slice-is = rw (own .left-is, own .right-is) (stands-slice 0 order slice entry (entry + length slice - entry) size (s .slice));
+        box-is = box-read boxes node (joined boxAt slice) (s .boxes-stand);
       }
 
   -- the listing of a tree hangs at its root
   listed-hangs : (t : Tree) (first entry node last : ℕ) → Filled t → Listed boxAt order links boxes first entry node last t
       → 3 * node + 3 ≤ length links → 6 * node + 6 ≤ length boxes → Hangs boxAt order links boxes t node
   unfolding boxOver rootFrom
-  listed-hangs (leaf part) first entry node last f s wl wb =
-      leaf-hangs part entry node last f (subst (λ (k : ℕ). Listed boxAt order links boxes k entry node last (leaf part)) (s .root) s) (omega arith)
+  listed-hangs (leaf slice) first entry node last f s wl wb =
+      leaf-hangs slice entry node last f (subst (λ (k : ℕ). Listed boxAt order links boxes k entry node last (leaf slice)) (s .root) s) (omega arith)
   listed-hangs (branch l r) first entry node last f s wl wb =
       let h : Halves boxAt order links boxes first entry node last l r = halves boxAt order links boxes first entry node last l r s in
       record {
@@ -70,8 +70,8 @@ module _ (boxAt : ℕ → Box) (order links : List ℕ) (boxes : List Float) whe
   listed-node : (t : Tree) (first entry node last : ℕ) → Filled t → Listed boxAt order links boxes first entry node last t
       → 3 * node + 3 ≤ length links → 6 * node + 6 ≤ length boxes → (k : ℕ) → first ≤ k → k < node + 1 → Node k
   unfolding rootFrom
-  listed-node (leaf part) first entry node last f s wl wb k a b =
-      let here : LeafAt order links boxes part (joined boxAt part) node = listed-hangs (leaf part) first entry node last f s wl wb in
+  listed-node (leaf slice) first entry node last f s wl wb k a b =
+      let here : LeafAt order links boxes slice (joined boxAt slice) node = listed-hangs (leaf slice) first entry node last f s wl wb in
       let e : node ≡ k = omega (arith, s .root) in
       subst Node e (inl (record { is-leaf = here .kind-is; nonempty = here .nonempty; within = here .within }))
   listed-node (branch l r) first entry node last f s wl wb k a b =

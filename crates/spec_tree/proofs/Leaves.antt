@@ -17,12 +17,12 @@ use Rattle.spec_lists.proofs.Verdicts.{all-pass, so}
 use Rattle.spec_tables.specs.Tables as Tables
 use Rattle.spec_shapes.specs.Boxes.{Box}
 use Rattle.spec_tree.specs.Trees.{Tree, leaf, branch, numbers, nodeCount, Filled, joined, linksFrom, boxesOf, rootFrom, kindAt, nodeBox}
-use Rattle.spec_tree.specs.Order.{upTo, permutes, occurs, allBelow, distinct}
+use Rattle.spec_tree.specs.Order.{range, permutes, occurs, allBelow, distinct}
 use Rattle.spec_tree.specs.Accepted.{Listing, accepted}
 use Rattle.spec_tree.specs.Hangs.{Sound}
 use Rattle.spec_tree.specs.Refusals.{treeRefusal, checkRefusal}
-use Rattle.spec_tree.specs.Leaves.{leaves, Leaf, leavesFrom, partOf, oneIf, partsWith, leafNodes, leafAt, leafCount, LeafFound, nothing, found, notSought, kth, leafFrom, NodesThere, leafAnswer, EntryFound, noEntry, triangle, notAsked, entryAt, entryAnswer, counted, notCounted, countedIf, countAnswer}
-use Rattle.spec_tree.proofs.Standing.{Stands, stands-first, stands-second, stands-part}
+use Rattle.spec_tree.specs.Leaves.{leaves, Leaf, leavesFrom, sliceOf, oneIf, slicesWith, leafNodes, leafAt, leafCount, LeafFound, nothing, found, notSought, kth, leafFrom, NodesThere, leafAnswer, EntryFound, noEntry, triangle, entryRefused, entryAt, entryAnswer, counted, notCounted, countedIf, countAnswer}
+use Rattle.spec_tree.proofs.Standing.{Stands, stands-first, stands-second, stands-slice}
 use Rattle.spec_tree.proofs.Nodes.{NodeLinks, links-read, box-read}
 use Rattle.spec_tree.proofs.Trees.{root-last, count-least}
 use Rattle.spec_tree.proofs.Listed.{Listed, Halves, halves}
@@ -44,40 +44,40 @@ flatten-append (x ∷ xs) ys = ap (λ (r : List _). x ++ r) (flatten-append xs y
 -- their slices, one after another, are the tree's triangle numbers
 leaves-numbers : (t : Tree) → flatten (leaves t) ≡ numbers t
 unfolding leaves numbers flatten
-leaves-numbers (leaf part) = append-nil part
+leaves-numbers (leaf slice) = append-nil slice
 leaves-numbers (branch l r) = flatten-append (leaves l) (leaves r) ∙ (λ i. leaves-numbers l i ++ leaves-numbers r i)
 
 leaves-least : (t : Tree) → 1 ≤ length (leaves t)
 unfolding leaves
-leaves-least (leaf part) = omega arith
+leaves-least (leaf slice) = omega arith
 leaves-least (branch l r) = omega (arith, leaves-least l, length-append (leaves l) (leaves r))
 
 leaves-most : (t : Tree) → Filled t → length (leaves t) ≤ length (numbers t)
 unfolding leaves numbers
-leaves-most (leaf part) f = omega arith
+leaves-most (leaf slice) f = omega arith
 leaves-most (branch l r) f =
     omega (arith, leaves-most l (f .0), leaves-most r (f .1), length-append (leaves l) (leaves r), length-append (numbers l) (numbers r))
 
 -- each has the box that its triangles give it
 leaves-boxed : (boxAt : ℕ → Box) (node entry : ℕ) (t : Tree) → map (λ (l : Leaf). l .box) (leavesFrom boxAt node entry t) ≡ map (joined boxAt) (leaves t)
 unfolding leavesFrom leaves
-leaves-boxed boxAt node entry (leaf part) = refl
+leaves-boxed boxAt node entry (leaf slice) = refl
 leaves-boxed boxAt node entry (branch l r) =
     map-append _ (leavesFrom boxAt node entry l) _
     ∙ (λ i. leaves-boxed boxAt node entry l i ++ leaves-boxed boxAt (node + nodeCount l) (entry + length (numbers l)) r i)
     ∙ sym (map-append (joined boxAt) (leaves l) (leaves r))
 
 -- and its slice of an order list in which the tree's triangle numbers stand
-leaves-parts : (boxAt : ℕ → Box) (order : List ℕ) (node entry : ℕ) (t : Tree) → Stands 0 order entry (numbers t) → map (partOf order) (leavesFrom boxAt node entry t) ≡ leaves t
+leaves-slices : (boxAt : ℕ → Box) (order : List ℕ) (node entry : ℕ) (t : Tree) → Stands 0 order entry (numbers t) → map (sliceOf order) (leavesFrom boxAt node entry t) ≡ leaves t
 unfolding leavesFrom leaves numbers
-leaves-parts boxAt order node entry (leaf part) s =
-    let cut : Tables.part order entry (entry + length part - entry) ≡ part = stands-part 0 order part entry (entry + length part - entry) (omega arith) s in
+leaves-slices boxAt order node entry (leaf slice) s =
+    let cut : Tables.slice order entry (entry + length slice - entry) ≡ slice = stands-slice 0 order slice entry (entry + length slice - entry) (omega arith) s in
     ap (λ (p : List ℕ). p ∷ []) cut
-leaves-parts boxAt order node entry (branch l r) s =
+leaves-slices boxAt order node entry (branch l r) s =
     let mid : ℕ = entry + length (numbers l) in
     map-append _ (leavesFrom boxAt node entry l) _
-    ∙ (λ i. leaves-parts boxAt order node entry l (stands-first 0 order (numbers l) (numbers r) entry s) i
-    ++ leaves-parts boxAt order (node + nodeCount l) mid r (stands-second 0 order (numbers l) (numbers r) entry mid refl s) i)
+    ∙ (λ i. leaves-slices boxAt order node entry l (stands-first 0 order (numbers l) (numbers r) entry s) i
+    ++ leaves-slices boxAt order (node + nodeCount l) mid r (stands-second 0 order (numbers l) (numbers r) entry mid refl s) i)
 
 -- ---- a number that stands in a list of slices, in which none stands twice, stands in exactly one of them
 neither : (a b : Bool) → (a || b) ≡ false → (a ≡ false) × (b ≡ false)
@@ -103,40 +103,40 @@ module _ (k : ℕ) where
           neither (occurs k xs) (occurs k ys) (sym (occurs-append k xs ys) ∙ free-of-k) .1
       at false p free rest q = rest q
 
-  parts-none : (parts : List (List ℕ)) → occurs k (flatten parts) ≡ false → partsWith k parts ≡ 0
-  unfolding partsWith flatten
-  parts-none [] h = refl
-  parts-none (part ∷ parts) h =
-      let free = neither (occurs k part) (occurs k (flatten parts)) (sym (occurs-append k part (flatten parts)) ∙ h) in
-      rw (free .0, parts-none parts (free .1))
+  slices-none : (slices : List (List ℕ)) → occurs k (flatten slices) ≡ false → slicesWith k slices ≡ 0
+  unfolding slicesWith flatten
+  slices-none [] h = refl
+  slices-none (slice ∷ slices) h =
+      let free = neither (occurs k slice) (occurs k (flatten slices)) (sym (occurs-append k slice (flatten slices)) ∙ h) in
+      rw (free .0, slices-none slices (free .1))
 
-  parts-one : (parts : List (List ℕ)) → distinct (flatten parts) ≡ true → occurs k (flatten parts) ≡ true → partsWith k parts ≡ 1
-  unfolding partsWith flatten occurs
-  parts-one [] d h = absurd (true≢false (sym h))
-  parts-one (part ∷ parts) d h = at (occurs k part) refl (parts-one parts (distinct-behind part (flatten parts) d)) (sym (occurs-append k part (flatten parts)) ∙ h)
+  slices-one : (slices : List (List ℕ)) → distinct (flatten slices) ≡ true → occurs k (flatten slices) ≡ true → slicesWith k slices ≡ 1
+  unfolding slicesWith flatten occurs
+  slices-one [] d h = absurd (true≢false (sym h))
+  slices-one (slice ∷ slices) d h = at (occurs k slice) refl (slices-one slices (distinct-behind slice (flatten slices) d)) (sym (occurs-append k slice (flatten slices)) ∙ h)
     where
-      at : (b : Bool) → occurs k part ≡ b → (occurs k (flatten parts) ≡ true → partsWith k parts ≡ 1) → (occurs k part || occurs k (flatten parts)) ≡ true
-          → oneIf (occurs k part) + partsWith k parts ≡ 1
-      at true p rest q = rw (p, parts-none parts (not-behind part (flatten parts) d p))
+      at : (b : Bool) → occurs k slice ≡ b → (occurs k (flatten slices) ≡ true → slicesWith k slices ≡ 1) → (occurs k slice || occurs k (flatten slices)) ≡ true
+          → oneIf (occurs k slice) + slicesWith k slices ≡ 1
+      at true p rest q = rw (p, slices-none slices (not-behind slice (flatten slices) d p))
       at false p rest q = rw (p, rest (rw p at q))
 
-up-to-has : (n k : ℕ) → k < n → occurs k (upTo n) ≡ true
-unfolding upTo occurs
-up-to-has zero k h = absurd (omega arith)
-up-to-has (suc n) k h = occurs-append k (upTo n) (n ∷ []) ∙ at (decLt k n) (up-to-has n k)
+range-has : (n k : ℕ) → k < n → occurs k (range n) ≡ true
+unfolding range occurs
+range-has zero k h = absurd (omega arith)
+range-has (suc n) k h = occurs-append k (range n) (n ∷ []) ∙ at (decLt k n) (range-has n k)
   where
-    at : Dec (k < n) → (k < n → occurs k (upTo n) ≡ true) → (occurs k (upTo n) || (eqb n k || false)) ≡ true
+    at : Dec (k < n) → (k < n → occurs k (range n) ≡ true) → (occurs k (range n) || (eqb n k || false)) ≡ true
     at (yes p) before = rw (before p)
-    at (no p) before = let e : n ≡ k = omega arith in rw (eq-eqb n k e) (or-true (occurs k (upTo n)))
+    at (no p) before = let e : n ≡ k = omega arith in rw (eq-eqb n k e) (or-true (occurs k (range n)))
 
 module _ (boxAt : ℕ → Box) (order links : List ℕ) (boxes : List Float) where
   -- of a tree that stands in the lists, the leaves that are read are the tree's
   listed-leaves : (t : Tree) (first entry node last : ℕ) → Listed boxAt order links boxes first entry node last t
       → map (leafAt links boxes) (leafNodes links first (nodeCount t)) ≡ leavesFrom boxAt first entry t
   unfolding nodeCount leavesFrom linksFrom boxesOf leafNodes
-  listed-leaves (leaf part) first entry node last s =
-      let own : NodeLinks links first 1 entry (entry + length part) = links-read links first 1 entry (entry + length part) (s .links-stand) in
-      let box : nodeBox boxes first ≡ joined boxAt part = box-read boxes first (joined boxAt part) (s .boxes-stand) in
+  listed-leaves (leaf slice) first entry node last s =
+      let own : NodeLinks links first 1 entry (entry + length slice) = links-read links first 1 entry (entry + length slice) (s .links-stand) in
+      let box : nodeBox boxes first ≡ joined boxAt slice = box-read boxes first (joined boxAt slice) (s .boxes-stand) in
       rw (own .kind-is) (λ i. record { node = first; first = own .left-is i; last = own .right-is i; box = box i } ∷ [])
   listed-leaves (branch l r) first entry node last s =
       let h : Halves boxAt order links boxes first entry node last l r = halves boxAt order links boxes first entry node last l r s in
@@ -162,11 +162,11 @@ getD-map g (x ∷ xs) zero d e h = refl
 getD-map g (x ∷ xs) (suc k) d e h = getD-map g xs k d e (omega arith)
 
 -- a leaf of these triangles was found: its slice of the order list, and the box that its triangles give it
-pub record TheLeaf (boxAt : ℕ → Box) (order : List ℕ) (f : LeafFound) (part : List ℕ) : Type 0 where
+pub record TheLeaf (boxAt : ℕ → Box) (order : List ℕ) (f : LeafFound) (slice : List ℕ) : Type 0 where
   pub leaf : Leaf
   pub found-is : f ≡ found leaf
-  pub part-is : partOf order leaf ≡ part
-  pub box-is : leaf .box ≡ joined boxAt part
+  pub slice-is : sliceOf order leaf ≡ slice
+  pub box-is : leaf .box ≡ joined boxAt slice
 
 -- ---- what is read off the lists of a tree
 module _ (boxAt : ℕ → Box) (n : ℕ) (order links : List ℕ) (boxes : List Float) (nodes : ℕ) (t : Tree) (s : Listing boxAt n order links boxes nodes t) where
@@ -178,16 +178,16 @@ module _ (boxAt : ℕ → Box) (n : ℕ) (order links : List ℕ) (boxes : List 
   leaves-read = rw (s .nodes-are) (listed-leaves boxAt order links boxes t 0 0 (nodes - 1) n stands)
 
   -- their slices are the tree's leaves, and one after another the whole order list
-  parts-read : map (partOf order) (leavesFrom boxAt 0 0 t) ≡ leaves t
-  parts-read = leaves-parts boxAt order 0 0 t (stands .part)
+  slices-read : map (sliceOf order) (leavesFrom boxAt 0 0 t) ≡ leaves t
+  slices-read = leaves-slices boxAt order 0 0 t (stands .slice)
 
-  parts-whole : flatten (leaves t) ≡ order
-  parts-whole = leaves-numbers t ∙ sym (s .order-is)
+  slices-whole : flatten (leaves t) ≡ order
+  slices-whole = leaves-numbers t ∙ sym (s .order-is)
 
   -- each triangle stands in exactly one
-  in-one-leaf : (k : ℕ) → k < n → partsWith k (leaves t) ≡ 1
+  in-one-leaf : (k : ℕ) → k < n → slicesWith k (leaves t) ≡ 1
   unfolding permutes
-  in-one-leaf k h = parts-one k (leaves t) (rw parts-whole order-distinct) (rw parts-whole (permuted-occurs k (s .permuted) ∙ up-to-has n k h))
+  in-one-leaf k h = slices-one k (leaves t) (rw slices-whole order-distinct) (rw slices-whole (permuted-occurs k (s .permuted) ∙ range-has n k h))
     where
       order-distinct : distinct order ≡ true
       order-distinct = both-passed (eqb (length order) n && allBelow n order) (distinct order) (permutes-test n order (s .permuted)) .1
@@ -196,7 +196,7 @@ module _ (boxAt : ℕ → Box) (n : ℕ) (order links : List ℕ) (boxes : List 
   count-read : leafCount links nodes ≡ length (leaves t)
   unfolding leafCount
   count-read =
-      sym (length-map (leafNodes links 0 nodes) (leafAt links boxes)) ∙ ap length leaves-read ∙ sym (length-map (leavesFrom boxAt 0 0 t) (partOf order)) ∙ ap length parts-read
+      sym (length-map (leafNodes links 0 nodes) (leafAt links boxes)) ∙ ap length leaves-read ∙ sym (length-map (leavesFrom boxAt 0 0 t) (sliceOf order)) ∙ ap length slices-read
 
   count-some : 1 ≤ leafCount links nodes
   count-some = omega (arith, count-read, leaves-least t)
@@ -211,19 +211,19 @@ module _ (boxAt : ℕ → Box) (n : ℕ) (order links : List ℕ) (boxes : List 
 
   -- past the last there is nothing
   leaf-none : (k : ℕ) → leafCount links nodes ≤ k → leafFrom links boxes nodes 0 k ≡ nothing
-  leaf-none k h = leaf-is k ∙ kth-none (leavesFrom boxAt 0 0 t) k (omega (arith, count-read, ap length parts-read, length-map (leavesFrom boxAt 0 0 t) (partOf order)))
+  leaf-none k h = leaf-is k ∙ kth-none (leavesFrom boxAt 0 0 t) k (omega (arith, count-read, ap length slices-read, length-map (leavesFrom boxAt 0 0 t) (sliceOf order)))
 
   -- up to the last, it has the k-th leaf's slice, and the box that its triangles give it
   leaf-some : (k : ℕ) → k < leafCount links nodes → TheLeaf boxAt order (leafFrom links boxes nodes 0 k) (getD (leaves t) k [])
   leaf-some k h =
       let all = leavesFrom boxAt 0 0 t in
       let none : Leaf = record { node = 0; first = 0; last = 0; box = boxAt 0 } in
-      let long : length all ≡ length (leaves t) = sym (length-map all (partOf order)) ∙ ap length parts-read in
+      let long : length all ≡ length (leaves t) = sym (length-map all (sliceOf order)) ∙ ap length slices-read in
       let within : k < length all = omega (arith, count-read) in
       record {
         leaf = getD all k none;
         found-is = leaf-is k ∙ kth-some all k none within;
-        part-is = sym (getD-map (partOf order) all k none [] within) ∙ ap (λ (l : List (List ℕ)). getD l k []) parts-read;
+        slice-is = sym (getD-map (sliceOf order) all k none [] within) ∙ ap (λ (l : List (List ℕ)). getD l k []) slices-read;
         box-is =
             sym (getD-map (λ (l : Leaf). l .box) all k none (boxAt 0) within)
             ∙ ap (λ (l : List Box). getD l k (boxAt 0)) (leaves-boxed boxAt 0 0 t)
@@ -231,21 +231,21 @@ module _ (boxAt : ℕ → Box) (n : ℕ) (order links : List ℕ) (boxes : List 
       }
 
 -- ---- a leaf's triangles: each in its place, and nothing behind the last
-pub entry-there : (part : List ℕ) (i : ℕ) → i < length part → entryAt part i ≡ triangle (getD part i 0)
+pub entry-there : (slice : List ℕ) (i : ℕ) → i < length slice → entryAt slice i ≡ triangle (getD slice i 0)
 unfolding entryAt
-entry-there part i h = rw (lt-ltb i (length part) h)
+entry-there slice i h = rw (lt-ltb i (length slice) h)
 
 -- behind the last triangle there is none
-pub entry-past : (part : List ℕ) (i : ℕ) → length part ≤ i → entryAt part i ≡ noEntry
+pub entry-past : (slice : List ℕ) (i : ℕ) → length slice ≤ i → entryAt slice i ≡ noEntry
 unfolding entryAt
-entry-past part i h = rw (le-ltb i (length part) h)
+entry-past slice i h = rw (le-ltb i (length slice) h)
 
 -- ---- what an accepted tree's leaves are, in one place
 pub record LeavesAre (boxAt : ℕ → Box) (n : ℕ) (order links : List ℕ) (boxes : List Float) (nodes : ℕ) (t : Tree) : Type 0 where
   pub read : map (leafAt links boxes) (leafNodes links 0 nodes) ≡ leavesFrom boxAt 0 0 t
-  pub parts : map (partOf order) (leavesFrom boxAt 0 0 t) ≡ leaves t
+  pub slices : map (sliceOf order) (leavesFrom boxAt 0 0 t) ≡ leaves t
   pub whole : flatten (leaves t) ≡ order
-  pub once : (k : ℕ) → k < n → partsWith k (leaves t) ≡ 1
+  pub once : (k : ℕ) → k < n → slicesWith k (leaves t) ≡ 1
   pub count : leafCount links nodes ≡ length (leaves t)
   pub some : 1 ≤ leafCount links nodes
   pub few : leafCount links nodes ≤ n
@@ -263,8 +263,8 @@ accepted-leaves boxAt n order links boxes nodes h =
       s,
       record {
         read = leaves-read boxAt n order links boxes nodes t s;
-        parts = parts-read boxAt n order links boxes nodes t s;
-        whole = parts-whole boxAt n order links boxes nodes t s;
+        slices = slices-read boxAt n order links boxes nodes t s;
+        whole = slices-whole boxAt n order links boxes nodes t s;
         once = in-one-leaf boxAt n order links boxes nodes t s;
         count = count-read boxAt n order links boxes nodes t s;
         some = count-some boxAt n order links boxes nodes t s;
@@ -325,7 +325,7 @@ module _ (triangles : List Float) (order links : List ℕ) (boxes : List Float) 
   count-made n p q = rw p (ap counted q)
 
   -- where a leaf is refused, so is each of its triangles, with the same number and place
-  pub entry-refused : (k i number place : ℕ) → leafAnswer triangles order links boxes nodes k ≡ notSought number place → notAsked number place ≡ entryAnswer triangles order links boxes nodes k i
+  pub entry-refused : (k i number place : ℕ) → leafAnswer triangles order links boxes nodes k ≡ notSought number place → entryRefused number place ≡ entryAnswer triangles order links boxes nodes k i
   unfolding entryAnswer
   entry-refused k i number place p = rw p
 
@@ -335,7 +335,7 @@ module _ (triangles : List Float) (order links : List ℕ) (boxes : List Float) 
   entry-none k i p = rw p
 
   -- where the k-th leaf is found, its i-th triangle is read from its slice
-  pub entry-read : (k i : ℕ) (l : Leaf) (e : EntryFound) → leafAnswer triangles order links boxes nodes k ≡ found l → e ≡ entryAt (partOf order l) i → e ≡ entryAnswer triangles order links boxes nodes k i
+  pub entry-read : (k i : ℕ) (l : Leaf) (e : EntryFound) → leafAnswer triangles order links boxes nodes k ≡ found l → e ≡ entryAt (sliceOf order l) i → e ≡ entryAnswer triangles order links boxes nodes k i
   unfolding entryAnswer
   entry-read k i l e p q = rw p q
 

@@ -11,7 +11,7 @@ use Rattle.spec_tables.specs.Tables as Tables
 use Rattle.spec_shapes.specs.Boxes.{Box, union}
 use Rattle.spec_tree.specs.Trees.{Tree, leaf, branch, numbers, nodeCount, levels, Filled, joined, boxOver, rootFrom, linksFrom, boxesOf, rightAt, nodeBox}
 use Rattle.spec_tree.specs.Accepted.{Finding, spans, boxed, leafFinding, rightTried, byKind, finding}
-use Rattle.spec_tree.proofs.Standing.{Stands, three-stand, stands-first, stands-second, stands-part}
+use Rattle.spec_tree.proofs.Standing.{Stands, three-stand, stands-first, stands-second, stands-slice}
 use Rattle.spec_tree.proofs.Nodes.{NodeLinks, links-read, box-read, box-same}
 use Rattle.spec_tree.proofs.Trees.{root-last, links-length, boxes-length}
 
@@ -20,11 +20,11 @@ module _ (boxAt : ℕ → Box) (order links : List ℕ) (boxes : List Float) whe
   unfolding boxed
   boxed-as node first entry box p = rw (box-same box (nodeBox boxes node) (sym p))
 
-  leaf-listed : (node last entry : ℕ) (part : List ℕ) → NodeLinks links node 1 entry last → entry < last → Tables.part order entry (last - entry) ≡ part → nodeBox boxes node ≡ joined boxAt part
-      → leafFinding boxAt order links boxes node last ≡ spans node entry (joined boxAt part)
+  leaf-listed : (node last entry : ℕ) (slice : List ℕ) → NodeLinks links node 1 entry last → entry < last → Tables.slice order entry (last - entry) ≡ slice → nodeBox boxes node ≡ joined boxAt slice
+      → leafFinding boxAt order links boxes node last ≡ spans node entry (joined boxAt slice)
   unfolding leafFinding
-  leaf-listed node last entry part l h p b =
-      rw (l .left-is, l .right-is, lt-ltb entry last h, eq-eqb last last refl, p) (boxed-as node node entry (joined boxAt part) b)
+  leaf-listed node last entry slice l h p b =
+      rw (l .left-is, l .right-is, lt-ltb entry last h, eq-eqb last last refl, p) (boxed-as node node entry (joined boxAt slice) b)
 
   branch-listed : (below : ℕ → ℕ → Finding) (node last entry left right first′ entry′ first : ℕ) (leftBox rightBox : Box) → NodeLinks links node 2 left right
       → right + 1 ≡ node → left + 1 ≡ first′ → below right last ≡ spans first′ entry′ rightBox → below left entry′ ≡ spans first entry leftBox → nodeBox boxes node ≡ union leftBox rightBox
@@ -42,7 +42,7 @@ module _ (boxAt : ℕ → Box) (order links : List ℕ) (boxes : List Float) whe
   -- the listing of t stands in the lists: nodes from `first` on to its root `node`, order entries from `entry` on up to `last`
   pub record Listed (first entry node last : ℕ) (t : Tree) : Type 0 where
     pub root : rootFrom first t ≡ node
-    pub part : Stands 0 order entry (numbers t)
+    pub slice : Stands 0 order entry (numbers t)
     pub ends : entry + length (numbers t) ≡ last
     pub within : last ≤ length order
     pub links-stand : Stands 0 links (3 * first) (linksFrom first entry t)
@@ -70,8 +70,8 @@ module _ (boxAt : ℕ → Box) (order links : List ℕ) (boxes : List Float) whe
       (omega (arith, boxes-length boxAt l)) (omega (arith, boxes-length boxAt r)) (s .boxes-stand) in
       let both : length (numbers l ++ numbers r) ≡ length (numbers l) + length (numbers r) = length-append (numbers l) (numbers r) in
       record {
-        left = record { root = refl; part = stands-first 0 order (numbers l) (numbers r) entry (s .part); ends = refl; within = omega (arith, s .ends, s .within); links-stand = three .0; boxes-stand = six .0 };
-        right = record { root = refl; part = stands-second 0 order (numbers l) (numbers r) entry mid refl (s .part); ends = omega (arith, s .ends); within = s .within; links-stand = three .1; boxes-stand = six .1 };
+        left = record { root = refl; slice = stands-first 0 order (numbers l) (numbers r) entry (s .slice); ends = refl; within = omega (arith, s .ends, s .within); links-stand = three .0; boxes-stand = six .0 };
+        right = record { root = refl; slice = stands-second 0 order (numbers l) (numbers r) entry mid refl (s .slice); ends = omega (arith, s .ends); within = s .within; links-stand = three .1; boxes-stand = six .1 };
         right-next = next;
         left-next = root-last first l;
         own = links-read links node 2 (rootFrom first l) (rootFrom (first + nodeCount l) r) (three .2);
@@ -82,14 +82,14 @@ module _ (boxAt : ℕ → Box) (order links : List ℕ) (boxes : List Float) whe
   pub listed-found : (t : Tree) (most first entry node last : ℕ) → Filled t → levels t ≤ most → Listed first entry node last t
       → finding boxAt order links boxes most node last ≡ spans first entry (boxOver boxAt t)
   unfolding levels boxOver numbers rootFrom linksFrom boxesOf
-  listed-found (leaf part) zero first entry node last f h s = absurd (omega arith)
-  listed-found (leaf part) (suc most) first entry node last f h s =
-      let own : NodeLinks links first 1 entry (entry + length part) = links-read links first 1 entry (entry + length part) (s .links-stand) in
-      let box : nodeBox boxes first ≡ joined boxAt part = box-read boxes first (joined boxAt part) (s .boxes-stand) in
-      let end : entry + length part ≡ last = s .ends in
-      let cut : Tables.part order entry (entry + length part - entry) ≡ part = stands-part 0 order part entry (entry + length part - entry) (omega arith) (s .part) in
+  listed-found (leaf slice) zero first entry node last f h s = absurd (omega arith)
+  listed-found (leaf slice) (suc most) first entry node last f h s =
+      let own : NodeLinks links first 1 entry (entry + length slice) = links-read links first 1 entry (entry + length slice) (s .links-stand) in
+      let box : nodeBox boxes first ≡ joined boxAt slice = box-read boxes first (joined boxAt slice) (s .boxes-stand) in
+      let end : entry + length slice ≡ last = s .ends in
+      let cut : Tables.slice order entry (entry + length slice - entry) ≡ slice = stands-slice 0 order slice entry (entry + length slice - entry) (omega arith) (s .slice) in
       rw (← s .root, ← end)
-      (by-kind most first (entry + length part) 1 entry (entry + length part) _ own (leaf-listed first (entry + length part) entry part own (omega arith) cut box))
+      (by-kind most first (entry + length slice) 1 entry (entry + length slice) _ own (leaf-listed first (entry + length slice) entry slice own (omega arith) cut box))
   listed-found (branch l r) zero first entry node last f h s = absurd (omega arith)
   listed-found (branch l r) (suc most) first entry node last f h s =
       let h′ : Halves first entry node last l r = halves first entry node last l r s in

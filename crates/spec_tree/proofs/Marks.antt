@@ -65,12 +65,12 @@ module _ (n : ℕ) (order : List ℕ) (seen : List Bool) (i : ℕ) (s : Marked n
   pub marked-large : n ≤ here → permutes n order ≡ false
   unfolding permutes
   marked-large b =
-      let part : allBelow n order ≡ false =
+      let slice : allBelow n order ≡ false =
       ap (allBelow n) (sym (take-append-drop (i + 1) order))
       ∙ below-append n (take (i + 1) order) (drop (i + 1) order)
       ∙ ap (λ (t : Bool). t && allBelow n (drop (i + 1) order)) (large-below b)
       in
-      rw (part, and-false (eqb (length order) n))
+      rw (slice, and-false (eqb (length order) n))
 
   -- early end: an entry that has a mark already, so the order list is no permutation
   pub marked-twice : here < n → getD seen here false ≡ true → permutes n order ≡ false

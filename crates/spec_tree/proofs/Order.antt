@@ -10,7 +10,7 @@ use borrow.Author.Tests.{eqb-true, eq-eqb, ne-eqb, ltb-true, lt-ltb, not-true}
 use lib.Dec.{ltb, eqb}
 use lib.ListN.{length, getD, length-append}
 use Rattle.spec_numbers.proofs.Tests.{both-passed}
-use Rattle.spec_tree.specs.Order.{upTo, Permutes, EntriesBelow, occurs, distinct, allBelow, permutes}
+use Rattle.spec_tree.specs.Order.{range, Permutes, EntriesBelow, occurs, distinct, allBelow, permutes}
 
 -- ---- a list with no number twice, whose numbers are all in another that is no longer, is a permutation of it
 -- a member is taken out
@@ -58,19 +58,19 @@ fills (x ∷ xs) ys d m w =
     List·Permᴰ·trans (List·Permᴰ·cons refl (fills xs (out .rest) (parts .1) inside (omega (arith, out .shorter)))) (out .same)
 
 -- ---- 0, 1, .. n - 1
-up-to-length : (n : ℕ) → length (upTo n) ≡ n
-unfolding upTo
-up-to-length zero = refl
-up-to-length (suc n) = length-append (upTo n) (n ∷ []) ∙ omega (arith, up-to-length n)
+range-length : (n : ℕ) → length (range n) ≡ n
+unfolding range
+range-length zero = refl
+range-length (suc n) = length-append (range n) (n ∷ []) ∙ omega (arith, range-length n)
 
-up-to-has : (n k : ℕ) → k < n → List·Memᴰ k (upTo n)
-unfolding upTo
-up-to-has zero k h = absurd (omega arith)
-up-to-has (suc n) k h = at (decLt k n) (up-to-has n k)
+range-has : (n k : ℕ) → k < n → List·Memᴰ k (range n)
+unfolding range
+range-has zero k h = absurd (omega arith)
+range-has (suc n) k h = at (decLt k n) (range-has n k)
   where
-    at : Dec (k < n) → (k < n → List·Memᴰ k (upTo n)) → List·Memᴰ k (upTo n ++ (n ∷ []))
+    at : Dec (k < n) → (k < n → List·Memᴰ k (range n)) → List·Memᴰ k (range n ++ (n ∷ []))
     at (yes b) m = Memᴰ·append-left (n ∷ []) (m b)
-    at (no b) m = Memᴰ·append-right (upTo n) (List·Memᴰ·head (omega arith))
+    at (no b) m = Memᴰ·append-right (range n) (List·Memᴰ·head (omega arith))
 
 below-each : (n : ℕ) (l : List ℕ) → allBelow n l ≡ true → (k : ℕ) → List·Memᴰ k l → k < n
 unfolding allBelow
@@ -84,7 +84,7 @@ test-permutes n order h =
     let outer = both-passed (eqb (length order) n && allBelow n order) (distinct order) h in
     let inner = both-passed (eqb (length order) n) (allBelow n order) (outer .0) in
     let long : length order ≡ n = eqb-true (length order) n (inner .0) in
-    fills order (upTo n) (outer .1) (λ j m. up-to-has n j (below-each n order (inner .1) j m)) (omega (arith, up-to-length n))
+    fills order (range n) (outer .1) (λ j m. range-has n j (below-each n order (inner .1) j m)) (omega (arith, range-length n))
 
 -- ---- the test says the same of two lists that are permutations of each other
 -- a permutation keeps the length
@@ -183,36 +183,36 @@ twice-before (x ∷ xs) ys h = at (occurs x xs) refl (twice-before xs ys)
     at false p rest = rw (rest (rw p at h)) (and-false (not (occurs x (xs ++ ys))))
 
 -- ---- a permutation passes the test
-up-to-free : (n k : ℕ) → n ≤ k → occurs k (upTo n) ≡ false
-unfolding upTo occurs
-up-to-free zero k h = refl
-up-to-free (suc n) k h =
-    rw (occurs-append k (upTo n) (n ∷ []), up-to-free n k (omega arith), ne-eqb n k (λ e. omega arith))
+range-free : (n k : ℕ) → n ≤ k → occurs k (range n) ≡ false
+unfolding range occurs
+range-free zero k h = refl
+range-free (suc n) k h =
+    rw (occurs-append k (range n) (n ∷ []), range-free n k (omega arith), ne-eqb n k (λ e. omega arith))
 
-up-to-distinct : (n : ℕ) → distinct (upTo n) ≡ true
-unfolding upTo distinct
-up-to-distinct zero = refl
-up-to-distinct (suc n) = rw (distinct-more (upTo n) n, up-to-distinct n, up-to-free n n (omega arith))
+range-distinct : (n : ℕ) → distinct (range n) ≡ true
+unfolding range distinct
+range-distinct zero = refl
+range-distinct (suc n) = rw (distinct-more (range n) n, range-distinct n, range-free n n (omega arith))
 
-up-to-below : (n k : ℕ) → n ≤ k → allBelow k (upTo n) ≡ true
-unfolding upTo allBelow
-up-to-below zero k h = refl
-up-to-below (suc n) k h =
-    rw (below-append k (upTo n) (n ∷ []), up-to-below n k (omega arith), lt-ltb n k (omega arith))
+range-below : (n k : ℕ) → n ≤ k → allBelow k (range n) ≡ true
+unfolding range allBelow
+range-below zero k h = refl
+range-below (suc n) k h =
+    rw (below-append k (range n) (n ∷ []), range-below n k (omega arith), lt-ltb n k (omega arith))
 
 -- completeness of the test: every permutation of 0 to n - 1 passes
 pub permutes-test : (n : ℕ) (order : List ℕ) → Permutes n order → permutes n order ≡ true
 unfolding permutes
 permutes-test n order p =
-    rw (permuted-below n p, permuted-distinct p, up-to-below n n (omega arith), up-to-distinct n, eq-eqb (length order) n (permuted-length p ∙ up-to-length n))
+    rw (permuted-below n p, permuted-distinct p, range-below n n (omega arith), range-distinct n, eq-eqb (length order) n (permuted-length p ∙ range-length n))
 
 -- a permutation of 0 to n - 1 has n entries
 pub permutes-length : (n : ℕ) (order : List ℕ) → Permutes n order → length order ≡ n
-permutes-length n order p = permuted-length p ∙ up-to-length n
+permutes-length n order p = permuted-length p ∙ range-length n
 
 -- each member of a permutation of 0 to n - 1 is below n: it is a triangle's number
 pub permutes-below : (n : ℕ) (order : List ℕ) → Permutes n order → (k : ℕ) → List·Memᴰ k order → k < n
-permutes-below n order p k m = below-each n order (permuted-below n p ∙ up-to-below n n (omega arith)) k m
+permutes-below n order p k m = below-each n order (permuted-below n p ∙ range-below n n (omega arith)) k m
 
 member-at : (l : List ℕ) (i : ℕ) → i < length l → List·Memᴰ (getD l i 0) l
 member-at [] i h = absurd (omega arith)

@@ -5,7 +5,7 @@ use Prim.Native.Nat.{ℕ, suc, _+_, _-_, _≤_, _<_, suc-le-suc, zero-le}
 use native.Mathlib.Omega.{arith}
 use lib.ListN.{length, getD, take, drop, take-append-drop, length-append, length-take, length-drop}
 use lib.Seq.{drop-cons, take-add, drop-drop}
-use Rattle.spec_tables.specs.Tables.{part}
+use Rattle.spec_tables.specs.Tables.{slice}
 
 -- the elements of xs are those of l from s on
 abbrev pub Stands : {A : Type 0} → A → List A → ℕ → List A → Type 0
@@ -46,10 +46,10 @@ module _ {A : Type 0} (d : A) where
         (stands-first l xs ys s two, stands-second l xs ys s s′ p two, stands-second l (xs ++ ys) zs s s″ over-two h)
 
   -- a list that stands there is the slice from there on
-  pub stands-part : (l xs : List A) (s n : ℕ) → length xs ≡ n → Stands d l s xs → part l s n ≡ xs
-  stands-part l [] s n p h = rw (← p)
-  stands-part l (x ∷ xs) s n p h =
-      rw (← p, drop-cons l s d (h .0)) (λ i. h .1 i ∷ stands-part l xs (suc s) (length xs) refl (h .2) i)
+  pub stands-slice : (l xs : List A) (s n : ℕ) → length xs ≡ n → Stands d l s xs → slice l s n ≡ xs
+  stands-slice l [] s n p h = rw (← p)
+  stands-slice l (x ∷ xs) s n p h =
+      rw (← p, drop-cons l s d (h .0)) (λ i. h .1 i ∷ stands-slice l xs (suc s) (length xs) refl (h .2) i)
 
   behind : (y : A) (l xs : List A) (s : ℕ) → Stands d l s xs → Stands d (y ∷ l) (suc s) xs
   behind y l [] s h = tt
@@ -65,12 +65,12 @@ module _ {A : Type 0} (d : A) where
       subst (λ (m : List A). Stands d m 0 xs) (ap (λ (k : List A). k ++ drop n l) (sym p) ∙ take-append-drop n l) (stands-prefix xs (drop n l))
 
 -- two slices that meet are one slice
-pub part-join : {A : Type 0} (l : List A) (a b c : ℕ) → a ≤ b → b ≤ c → part l a (b - a) ++ part l b (c - b) ≡ part l a (c - a)
-part-join {A} l a b c h k =
+pub slice-join : {A : Type 0} (l : List A) (a b c : ℕ) → a ≤ b → b ≤ c → slice l a (b - a) ++ slice l b (c - b) ≡ slice l a (c - a)
+slice-join {A} l a b c h k =
     let sizes : c - a ≡ (b - a) + (c - b) = omega arith in
     let start : a + (b - a) ≡ b = omega arith in
-    sym (ap (part l a) sizes ∙ take-add (b - a) (c - b) (drop a l) ∙ ap (λ (x : List A). part l a (b - a) ++ take (c - b) x) (drop-drop (b - a) a l ∙ ap (λ (n : ℕ). drop n l) start))
+    sym (ap (slice l a) sizes ∙ take-add (b - a) (c - b) (drop a l) ∙ ap (λ (x : List A). slice l a (b - a) ++ take (c - b) x) (drop-drop (b - a) a l ∙ ap (λ (n : ℕ). drop n l) start))
 
 -- a slice within the list has the length it was given
-pub part-length : {A : Type 0} (l : List A) (s n : ℕ) → s + n ≤ length l → length (part l s n) ≡ n
-part-length l s n w = length-take n (drop s l) ∙ omega (arith, length-drop s l)
+pub slice-length : {A : Type 0} (l : List A) (s n : ℕ) → s + n ≤ length l → length (slice l s n) ≡ n
+slice-length l s n w = length-take n (drop s l) ∙ omega (arith, length-drop s l)

@@ -10,7 +10,7 @@ use lib.Dec.{leb, ltb, eqb}
 use lib.ListN.{length, drop, length-take, length-drop}
 use lib.Seq.{getD-take, getD-drop}
 use lib.Ieee.{Float}
-use Rattle.spec_tables.specs.Tables.{part}
+use Rattle.spec_tables.specs.Tables.{slice}
 use Rattle.spec_lists.specs.Limits.{deepest}
 use Rattle.spec_numbers.proofs.Tests.{both-passed}
 use Rattle.spec_shapes.specs.Boxes.{Box}
@@ -23,12 +23,12 @@ use Rattle.spec_tree.proofs.Found.{Found, Says, found}
 
 -- ---- a slice of the order list
 -- a range that is not empty gives a slice that is not, so its box has a first triangle to start from
-pub part-some : (l : List ℕ) (a b : ℕ) → a < b → b ≤ length l → 0 < length (part l a (b - a))
-part-some l a b h k = omega (arith, length-take (b - a) (drop a l), length-drop a l)
+pub slice-some : (l : List ℕ) (a b : ℕ) → a < b → b ≤ length l → 0 < length (slice l a (b - a))
+slice-some l a b h k = omega (arith, length-take (b - a) (drop a l), length-drop a l)
 
 -- a slice keeps every entry below n, so reading its triangles stays within the list
-pub part-entries : (n : ℕ) (l : List ℕ) (a k : ℕ) → EntriesBelow n l → EntriesBelow n (part l a k)
-part-entries n l a k e i h =
+pub slice-entries : (n : ℕ) (l : List ℕ) (a k : ℕ) → EntriesBelow n l → EntriesBelow n (slice l a k)
+slice-entries n l a k e i h =
     let inside : i < k = omega (arith, length-take k (drop a l)) in
     let within : a + i < length l = omega (arith, length-take k (drop a l), length-drop a l) in
     rw (getD-take k (drop a l) i 0 inside, getD-drop a l i 0) (e (a + i) within)
@@ -47,7 +47,7 @@ module _ (boxAt : ℕ → Box) (order links : List ℕ) (boxes : List Float) whe
     leaf-misses h = rw (ne-eqb (rightAt links node) last h, and-false (ltb (leftAt links node) last))
 
     -- a leaf with a right range is decided by its box
-    pub leaf-fits : entry < last → rightAt links node ≡ last → leafFinding boxAt order links boxes node last ≡ boxed boxes node node entry (joined boxAt (part order entry (last - entry)))
+    pub leaf-fits : entry < last → rightAt links node ≡ last → leafFinding boxAt order links boxes node last ≡ boxed boxes node node entry (joined boxAt (slice order entry (last - entry)))
     unfolding leafFinding
     leaf-fits h q = rw (← p, lt-ltb entry last h, eq-eqb (rightAt links node) last q)
 

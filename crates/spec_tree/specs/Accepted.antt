@@ -7,7 +7,7 @@ use Prim.Native.Nat.{ℕ, zero, suc, _+_, _-_, _*_, _≤_}
 use lib.Dec.{leb, ltb, eqb}
 use lib.ListN.{length, take}
 use lib.Ieee.{Float}
-use Rattle.spec_tables.specs.Tables.{part}
+use Rattle.spec_tables.specs.Tables.{slice}
 use Rattle.spec_numbers.specs.Same.{same}
 use Rattle.spec_lists.specs.Limits.{deepest}
 use Rattle.spec_shapes.specs.Points.{Point}
@@ -53,7 +53,7 @@ module _ (boxAt : ℕ → Box) (order links : List ℕ) (boxes : List Float) whe
   unfoldable pub leafFinding : ℕ → ℕ → Finding
   leafFinding node last =
       let entry = leftAt links node in
-      cond (ltb entry last && eqb (rightAt links node) last) (boxed boxes node node entry (joined boxAt (part order entry (last - entry)))) wrong
+      cond (ltb entry last && eqb (rightAt links node) last) (boxed boxes node node entry (joined boxAt (slice order entry (last - entry)))) wrong
 
   -- a branch: its right subtree ends just before it, its left subtree just before the right one
   abbrev pub leftTried : Bool → (ℕ → ℕ → Finding) → ℕ → ℕ → Box → Finding

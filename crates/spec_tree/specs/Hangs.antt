@@ -12,8 +12,8 @@ use Rattle.spec_tree.specs.Trees.{Tree, leaf, branch, joined, boxOver, k
 use Rattle.spec_tree.specs.Order.{EntriesBelow}
 
 -- the slice of the order list that a leaf's range names
-abbrev pub leafPart : List ℕ → List ℕ → ℕ → List ℕ
-leafPart order links node = Tables.part order (leftAt links node) (rightAt links node - leftAt links node)
+abbrev pub leafSlice : List ℕ → List ℕ → ℕ → List ℕ
+leafSlice order links node = Tables.slice order (leftAt links node) (rightAt links node - leftAt links node)
 
 -- the node's three links and six box numbers are there
 pub record There (links : List ℕ) (boxes : List Float) (node : ℕ) : Type 0 where
@@ -21,12 +21,12 @@ pub record There (links : List ℕ) (boxes : List Float) (node : ℕ) : Type 0 w
   pub boxes-there : 6 * node + 6 ≤ length boxes
 
 -- the node is a leaf of these triangles, under this box
-pub record LeafAt (order links : List ℕ) (boxes : List Float) (part : List ℕ) (box : Box) (node : ℕ) : Type 0 where
+pub record LeafAt (order links : List ℕ) (boxes : List Float) (slice : List ℕ) (box : Box) (node : ℕ) : Type 0 where
   pub there : There links boxes node
   pub kind-is : kindAt links node ≡ 1
   pub nonempty : leftAt links node < rightAt links node
   pub within : rightAt links node ≤ length order
-  pub part-is : leafPart order links node ≡ part
+  pub slice-is : leafSlice order links node ≡ slice
   pub box-is : nodeBox boxes node ≡ box
 
 -- the node is a branch, its children stand before it, so that a walk ends, and this hangs at them
@@ -41,7 +41,7 @@ pub record BranchAt (links : List ℕ) (boxes : List Float) (box : Box) (Left Ri
 
 -- the tree hangs at the node: the lists, read from the node down, give this tree and its boxes
 abbrev pub Hangs : (ℕ → Box) → List ℕ → List ℕ → List Float → Tree → ℕ → Type 0
-Hangs boxAt order links boxes (leaf part) = LeafAt order links boxes part (joined boxAt part)
+Hangs boxAt order links boxes (leaf slice) = LeafAt order links boxes slice (joined boxAt slice)
 Hangs boxAt order links boxes (branch l r) =
     BranchAt links boxes (boxOver boxAt (branch l r)) (Hangs boxAt order links boxes l) (Hangs boxAt order links boxes r)
 

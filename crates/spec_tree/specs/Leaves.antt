@@ -15,7 +15,7 @@ use Rattle.spec_tree.specs.Refusals.{checkRefusal}
 -- ---- of a tree
 -- each leaf's triangle numbers, left to right
 unfoldable pub leaves : Tree → List (List ℕ)
-leaves (leaf part) = part ∷ []
+leaves (leaf slice) = slice ∷ []
 leaves (branch l r) = leaves l ++ leaves r
 
 -- a leaf as the lists have it: its node, where its triangles begin in the order list and where they end, the end not included, and its box
@@ -27,21 +27,21 @@ pub record Leaf : Type 0 where
 
 -- the leaves of a tree whose listing begins with this node, and its triangles in the order list with this entry
 unfoldable pub leavesFrom : (ℕ → Box) → ℕ → ℕ → Tree → List Leaf
-leavesFrom boxAt node entry (leaf part) = record { node = node; first = entry; last = entry + length part; box = joined boxAt part } ∷ []
+leavesFrom boxAt node entry (leaf slice) = record { node = node; first = entry; last = entry + length slice; box = joined boxAt slice } ∷ []
 leavesFrom boxAt node entry (branch l r) = leavesFrom boxAt node entry l ++ leavesFrom boxAt (node + nodeCount l) (entry + length (numbers l)) r
 
 -- the slice of the order list that a leaf has
-abbrev pub partOf : List ℕ → Leaf → List ℕ
-partOf order l = Tables.part order (l .first) (l .last - l .first)
+abbrev pub sliceOf : List ℕ → Leaf → List ℕ
+sliceOf order l = Tables.slice order (l .first) (l .last - l .first)
 
 abbrev pub oneIf : Bool → ℕ
 oneIf true = 1
 oneIf false = 0
 
 -- how many of the slices hold a number: of a tree each triangle is in exactly one
-unfoldable pub partsWith : ℕ → List (List ℕ) → ℕ
-partsWith k [] = 0
-partsWith k (part ∷ parts) = oneIf (occurs k part) + partsWith k parts
+unfoldable pub slicesWith : ℕ → List (List ℕ) → ℕ
+slicesWith k [] = 0
+slicesWith k (slice ∷ slices) = oneIf (occurs k slice) + slicesWith k slices
 
 -- ---- read off the lists
 abbrev pub withLeaf : Bool → ℕ → List ℕ → List ℕ
@@ -94,7 +94,7 @@ leafAnswer triangles order links boxes nodes k = soughtIf (checkRefusal triangle
 pub data EntryFound : Type 0 where
   noEntry : EntryFound
   triangle : ℕ → EntryFound
-  notAsked : (number place : ℕ) → EntryFound
+  entryRefused : (number place : ℕ) → EntryFound
 
 abbrev pub entryIf : Bool → ℕ → EntryFound
 entryIf true t = triangle t
@@ -102,12 +102,12 @@ entryIf false t = noEntry
 
 -- what stands at a place of a leaf's slice
 unfoldable pub entryAt : List ℕ → ℕ → EntryFound
-entryAt part i = entryIf (ltb i (length part)) (getD part i 0)
+entryAt slice i = entryIf (ltb i (length slice)) (getD slice i 0)
 
 abbrev pub entryIn : List ℕ → LeafFound → ℕ → EntryFound
 entryIn order nothing i = noEntry
-entryIn order (found l) i = entryAt (partOf order l) i
-entryIn order (notSought number place) i = notAsked number place
+entryIn order (found l) i = entryAt (sliceOf order l) i
+entryIn order (notSought number place) i = entryRefused number place
 
 unfoldable pub entryAnswer : (triangles : List Float) (order links : List ℕ) (boxes : List Float) (nodes k i : ℕ) → EntryFound
 entryAnswer triangles order links boxes nodes k i = entryIn order (leafAnswer triangles order links boxes nodes k) i

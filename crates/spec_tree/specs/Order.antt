@@ -8,12 +8,12 @@ use lib.Dec.{ltb, eqb}
 use lib.ListN.{length, getD}
 
 -- the range 0, 1, .. n - 1
-unfoldable pub upTo : ℕ → List ℕ
-upTo zero = []
-upTo (suc n) = upTo n ++ (n ∷ [])
+unfoldable pub range : ℕ → List ℕ
+range zero = []
+range (suc n) = range n ++ (n ∷ [])
 
 abbrev pub Permutes : ℕ → List ℕ → Type 0
-Permutes n order = List·Permᴰ order (upTo n)
+Permutes n order = List·Permᴰ order (range n)
 
 -- each entry is below n: reading its triangle stays within the list
 abbrev pub EntriesBelow : ℕ → List ℕ → Type 0

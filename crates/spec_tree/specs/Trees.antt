@@ -13,21 +13,21 @@ pub data Tree : Type 0 where
 
 -- the triangle numbers of the leaves, left to right
 unfoldable pub numbers : Tree → List ℕ
-numbers (leaf part) = part
+numbers (leaf slice) = slice
 numbers (branch l r) = numbers l ++ numbers r
 
 unfoldable pub nodeCount : Tree → ℕ
-nodeCount (leaf part) = 1
+nodeCount (leaf slice) = 1
 nodeCount (branch l r) = nodeCount l + nodeCount r + 1
 
 -- the levels from the root down; a lone leaf has one
 unfoldable pub levels : Tree → ℕ
-levels (leaf part) = 1
+levels (leaf slice) = 1
 levels (branch l r) = max (levels l) (levels r) + 1
 
 -- no leaf is empty
 abbrev pub Filled : Tree → Type 0
-Filled (leaf part) = 0 < length part
+Filled (leaf slice) = 0 < length slice
 Filled (branch l r) = Filled l × Filled r
 
 -- ---- boxes, over the box of each triangle
@@ -42,19 +42,19 @@ joined boxAt [] = boxAt 0
 joined boxAt (k ∷ ks) = joinedTo boxAt (boxAt k) ks
 
 unfoldable pub boxOver : (ℕ → Box) → Tree → Box
-boxOver boxAt (leaf part) = joined boxAt part
+boxOver boxAt (leaf slice) = joined boxAt slice
 boxOver boxAt (branch l r) = union (boxOver boxAt l) (boxOver boxAt r)
 
 -- ---- the listing: the left subtree, the right subtree, then the node itself
 -- where the root stands in a listing that begins with this node
 unfoldable pub rootFrom : ℕ → Tree → ℕ
-rootFrom node (leaf part) = node
+rootFrom node (leaf slice) = node
 rootFrom node (branch l r) = node + nodeCount l + nodeCount r
 
 -- Three numbers a node: 1, the order entry at which its triangles begin, and the one before which they end; or 2, and its two children.
 -- The listing begins with this node, and its triangles in the order list with this entry.
 unfoldable pub linksFrom : ℕ → ℕ → Tree → List ℕ
-linksFrom node entry (leaf part) = 1 ∷ entry ∷ (entry + length part) ∷ []
+linksFrom node entry (leaf slice) = 1 ∷ entry ∷ (entry + length slice) ∷ []
 linksFrom node entry (branch l r) =
     linksFrom node entry l
     ++ linksFrom (node + nodeCount l) (entry + length (numbers l)) r
@@ -65,7 +65,7 @@ abbrev pub sixOf : Box → List Float
 sixOf b = b .min .x ∷ b .min .y ∷ b .min .z ∷ b .max .x ∷ b .max .y ∷ b .max .z ∷ []
 
 unfoldable pub boxesOf : (ℕ → Box) → Tree → List Float
-boxesOf boxAt (leaf part) = sixOf (joined boxAt part)
+boxesOf boxAt (leaf slice) = sixOf (joined boxAt slice)
 boxesOf boxAt (branch l r) = boxesOf boxAt l ++ boxesOf boxAt r ++ sixOf (boxOver boxAt (branch l r))
 
 -- ---- a node, read out of the lists

@@ -19,13 +19,13 @@ use shapes::box3::Box3;
 use shapes::vec3::Axis;
 
 // Cuts before the first entry whose box lies in a bucket later than k.
-fn first_later(bounds: &[f32], part: &[u32], axis: Axis, within: Span, k: usize) -> Split
-    requires { ⌜ Splits.AllInTable (now bounds) (now part) ⌝ }
-    ensures { λ r. ⌜ Values.asSplit r ≡ Area.firstLater (Area.bucketBetween binary32 (Shapes.asAxis axis) (within .lo) (within .hi)) k (Splits.boxesIn (now (bounds .entry)) (now (part .entry))) 0 ⌝ }
+fn first_later(bounds: &[f32], slice: &[u32], axis: Axis, within: Span, k: usize) -> Split
+    requires { ⌜ Splits.AllInTable (now bounds) (now slice) ⌝ }
+    ensures { λ r. ⌜ Values.asSplit r ≡ Area.firstLater (Area.bucketBetween binary32 (Shapes.asAxis axis) (within .lo) (within .hi)) k (Splits.boxesIn (now (bounds .entry)) (now (slice .entry))) 0 ⌝ }
 {
     let mut i = 0;
-    while i < part.len() {
-        if k < bucket_of(bounds, part[i], axis, within) {
+    while i < slice.len() {
+        if k < bucket_of(bounds, slice[i], axis, within) {
             return Split::At(i);
         }
         i += 1;
@@ -34,26 +34,26 @@ fn first_later(bounds: &[f32], part: &[u32], axis: Axis, within: Span, k: usize)
 }
 
 // Cuts at the first smallest cost, if that is below the cost of a leaf, which is the count of the slice. Where a cost is a NaN it cuts nowhere.
-fn cut_by(bounds: &[f32], part: &[u32], axis: Axis, within: Span, best: Cheapest) -> Split
-    requires { ⌜ length (now part) < 2 ^ 28 ⌝ }
-    requires { ⌜ Splits.AllInTable (now bounds) (now part) ⌝ }
-    ensures { λ r. ⌜ Values.asSplit r ≡ Area.cutBy binary32 (Area.bucketBetween binary32 (Shapes.asAxis axis) (within .lo) (within .hi)) (Values.asCheapest best) (Splits.boxesIn (now (bounds .entry)) (now (part .entry))) ⌝ }
+fn cut_by(bounds: &[f32], slice: &[u32], axis: Axis, within: Span, best: Cheapest) -> Split
+    requires { ⌜ length (now slice) < 2 ^ 28 ⌝ }
+    requires { ⌜ Splits.AllInTable (now bounds) (now slice) ⌝ }
+    ensures { λ r. ⌜ Values.asSplit r ≡ Area.cutBy binary32 (Area.bucketBetween binary32 (Shapes.asAxis axis) (within .lo) (within .hi)) (Values.asCheapest best) (Splits.boxesIn (now (bounds .entry)) (now (slice .entry))) ⌝ }
 {
-    let leaf_cost = std::num::nearest_u32_to_f32(part.len() as u32);
+    let leaf_cost = std::num::nearest_u32_to_f32(slice.len() as u32);
     if best.are_numbers & (best.cost < leaf_cost) {
-        return first_later(bounds, part, axis, within, best.index);
+        return first_later(bounds, slice, axis, within, best.index);
     }
     Split::Nowhere
 }
 
 // Cuts where the rule says, or nowhere.
-pub fn area_split(bounds: &[f32], part: &[u32], axis: Axis, parent: Box3) -> Split
-    requires { ⌜ length (now part) < 2 ^ 28 ⌝ }
-    requires { ⌜ Splits.Boxed binary32 (now bounds) (now part) ⌝ }
-    ensures { λ r. ⌜ Values.asSplit r ≡ Area.areaSplit binary32 (Shapes.asAxis axis) (Shapes.asBox parent) (Splits.boxesIn (now (bounds .entry)) (now (part .entry))) ⌝ }
+pub fn area_split(bounds: &[f32], slice: &[u32], axis: Axis, parent: Box3) -> Split
+    requires { ⌜ length (now slice) < 2 ^ 28 ⌝ }
+    requires { ⌜ Splits.Boxed binary32 (now bounds) (now slice) ⌝ }
+    ensures { λ r. ⌜ Values.asSplit r ≡ Area.areaSplit binary32 (Shapes.asAxis axis) (Shapes.asBox parent) (Splits.boxesIn (now (bounds .entry)) (now (slice .entry))) ⌝ }
 {
-    let within = centre_span(bounds, part, axis);
-    let buckets = fill(bounds, part, axis, within);
+    let within = centre_span(bounds, slice, axis);
+    let buckets = fill(bounds, slice, axis, within);
     let best = cheapest_of(costs_of(buckets, parent));
-    cut_by(bounds, part, axis, within, best)
+    cut_by(bounds, slice, axis, within, best)
 }

@@ -43,16 +43,16 @@ pub fn bucket_of(bounds: &[f32], t: u32, axis: Axis, within: Span) -> usize
 }
 
 // The lowest and the highest centre of the slice's boxes on the axis. The rule needs one axis only.
-pub fn centre_span(bounds: &[f32], part: &[u32], axis: Axis) -> Span
-    requires { ⌜ Splits.AllInTable (now bounds) (now part) ⌝ }
-    ensures { λ r. ⌜ Area.EndsOf (Shapes.asAxis axis) (Area.centreBounds binary32 (Splits.boxesIn (now (bounds .entry)) (now (part .entry)))) (r .lo) (r .hi) ⌝ }
+pub fn centre_span(bounds: &[f32], slice: &[u32], axis: Axis) -> Span
+    requires { ⌜ Splits.AllInTable (now bounds) (now slice) ⌝ }
+    ensures { λ r. ⌜ Area.EndsOf (Shapes.asAxis axis) (Area.centreBounds binary32 (Splits.boxesIn (now (bounds .entry)) (now (slice .entry)))) (r .lo) (r .hi) ⌝ }
 {
     let none = Box3::empty();
     let mut lo = none.min.x;
     let mut hi = none.max.x;
     let mut i = 0;
-    while i < part.len() {
-        let centre = centre_on(bounds, part[i], axis);
+    while i < slice.len() {
+        let centre = centre_on(bounds, slice[i], axis);
         lo = floats::min2(lo, centre);
         hi = floats::max2(hi, centre);
         i += 1;
@@ -61,15 +61,15 @@ pub fn centre_span(bounds: &[f32], part: &[u32], axis: Axis) -> Span
 }
 
 // The slice's boxes in their buckets.
-pub fn fill(bounds: &[f32], part: &[u32], axis: Axis, within: Span) -> Buckets
-    requires { ⌜ length (now part) < 2 ^ 28 ⌝ }
-    requires { ⌜ Splits.AllInTable (now bounds) (now part) ⌝ }
-    ensures { λ r. ⌜ Costs.asBuckets r ≡ Area.filled binary32 (Area.bucketBetween binary32 (Shapes.asAxis axis) (within .lo) (within .hi)) (Splits.boxesIn (now (bounds .entry)) (now (part .entry))) ⌝ }
+pub fn fill(bounds: &[f32], slice: &[u32], axis: Axis, within: Span) -> Buckets
+    requires { ⌜ length (now slice) < 2 ^ 28 ⌝ }
+    requires { ⌜ Splits.AllInTable (now bounds) (now slice) ⌝ }
+    ensures { λ r. ⌜ Costs.asBuckets r ≡ Area.filled binary32 (Area.bucketBetween binary32 (Shapes.asAxis axis) (within .lo) (within .hi)) (Splits.boxesIn (now (bounds .entry)) (now (slice .entry))) ⌝ }
 {
     let mut buckets = Buckets::empty();
     let mut i = 0;
-    while i < part.len() {
-        let t = part[i];
+    while i < slice.len() {
+        let t = slice[i];
         let k = bucket_of(bounds, t, axis, within);
         let old = buckets.each[k];
         let new = old.with_box(box_at(bounds, t));

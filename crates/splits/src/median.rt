@@ -30,13 +30,13 @@ fn plane_between(bounds: &[f32], axis: Axis, above: u32, below: u32) -> Plane3
 }
 
 // Whether the plane cuts or touches every box of the slice.
-fn all_meet(bounds: &[f32], part: &[u32], plane: Plane3) -> bool
-    requires { ⌜ Splits.AllInTable (now bounds) (now part) ⌝ }
-    ensures { λ r. ⌜ r ≡ Median.allMeet binary32 (Shapes.asPlane plane) (Splits.boxesIn (now (bounds .entry)) (now (part .entry))) ⌝ }
+fn all_meet(bounds: &[f32], slice: &[u32], plane: Plane3) -> bool
+    requires { ⌜ Splits.AllInTable (now bounds) (now slice) ⌝ }
+    ensures { λ r. ⌜ r ≡ Median.allMeet binary32 (Shapes.asPlane plane) (Splits.boxesIn (now (bounds .entry)) (now (slice .entry))) ⌝ }
 {
     let mut i = 0;
-    while i < part.len() {
-        if !plane.intersects_box3(box_at(bounds, part[i])) {
+    while i < slice.len() {
+        if !plane.intersects_box3(box_at(bounds, slice[i])) {
             return false;
         }
         i += 1;
@@ -45,52 +45,52 @@ fn all_meet(bounds: &[f32], part: &[u32], plane: Plane3) -> bool
 }
 
 // Whether the plane between the two neighbours of the cut cuts or touches every box of the slice.
-fn all_meet_at(bounds: &[f32], part: &[u32], axis: Axis, cut: usize) -> bool
+fn all_meet_at(bounds: &[f32], slice: &[u32], axis: Axis, cut: usize) -> bool
     requires { ⌜ 0 < cut ⌝ }
-    requires { ⌜ cut < length (now part) ⌝ }
-    requires { ⌜ Splits.AllInTable (now bounds) (now part) ⌝ }
-    ensures { λ r. ⌜ r ≡ Median.allMeetAt binary32 (Shapes.asAxis axis) (Splits.boxesIn (now (bounds .entry)) (now (part .entry))) cut ⌝ }
+    requires { ⌜ cut < length (now slice) ⌝ }
+    requires { ⌜ Splits.AllInTable (now bounds) (now slice) ⌝ }
+    ensures { λ r. ⌜ r ≡ Median.allMeetAt binary32 (Shapes.asAxis axis) (Splits.boxesIn (now (bounds .entry)) (now (slice .entry))) cut ⌝ }
 {
     all_meet(
         bounds,
-        part,
-        plane_between(bounds, axis, part[cut], part[cut - 1]),
+        slice,
+        plane_between(bounds, axis, slice[cut], slice[cut - 1]),
     )
 }
 
 // Whether the volume of the slice's box over the parent's exceeds 0.8.
-fn is_large(bounds: &[f32], part: &[u32], parent: Box3) -> bool
-    requires { ⌜ 0 < length (now part) ⌝ }
-    requires { ⌜ Splits.AllInTable (now bounds) (now part) ⌝ }
-    ensures { λ r. ⌜ r ≡ Median.isLarge binary32 (Shapes.asBox parent) (Splits.boxesIn (now (bounds .entry)) (now (part .entry))) ⌝ }
+fn is_large(bounds: &[f32], slice: &[u32], parent: Box3) -> bool
+    requires { ⌜ 0 < length (now slice) ⌝ }
+    requires { ⌜ Splits.AllInTable (now bounds) (now slice) ⌝ }
+    ensures { λ r. ⌜ r ≡ Median.isLarge binary32 (Shapes.asBox parent) (Splits.boxesIn (now (bounds .entry)) (now (slice .entry))) ⌝ }
 {
-    union_of(bounds, part).volume() / parent.volume() > 0.8
+    union_of(bounds, slice).volume() / parent.volume() > 0.8
 }
 
 // Whether both children of the cut are large. The box of the right one is computed only where the left one is large.
-fn are_both_large(bounds: &[f32], part: &[u32], cut: usize, parent: Box3) -> bool
+fn are_both_large(bounds: &[f32], slice: &[u32], cut: usize, parent: Box3) -> bool
     requires { ⌜ 0 < cut ⌝ }
-    requires { ⌜ cut < length (now part) ⌝ }
-    requires { ⌜ Splits.AllInTable (now bounds) (now part) ⌝ }
-    ensures { λ r. ⌜ r ≡ Median.areBothLarge binary32 (Shapes.asBox parent) (Splits.boxesIn (now (bounds .entry)) (now (part .entry))) cut ⌝ }
+    requires { ⌜ cut < length (now slice) ⌝ }
+    requires { ⌜ Splits.AllInTable (now bounds) (now slice) ⌝ }
+    ensures { λ r. ⌜ r ≡ Median.areBothLarge binary32 (Shapes.asBox parent) (Splits.boxesIn (now (bounds .entry)) (now (slice .entry))) cut ⌝ }
 {
-    if is_large(bounds, &part[..cut], parent) {
-        return is_large(bounds, &part[cut..], parent);
+    if is_large(bounds, &slice[..cut], parent) {
+        return is_large(bounds, &slice[cut..], parent);
     }
     false
 }
 
 // Cuts in the middle. Where the plane there cuts or touches every box, or both children are large, it cuts nowhere.
-pub fn median_split(bounds: &[f32], part: &[u32], axis: Axis, parent: Box3) -> Split
-    requires { ⌜ 2 ≤ length (now part) ⌝ }
-    requires { ⌜ Splits.Boxed binary32 (now bounds) (now part) ⌝ }
-    ensures { λ r. ⌜ Cuts.asSplit r ≡ Median.medianSplit binary32 (Shapes.asAxis axis) (Shapes.asBox parent) (Splits.boxesIn (now (bounds .entry)) (now (part .entry))) ⌝ }
+pub fn median_split(bounds: &[f32], slice: &[u32], axis: Axis, parent: Box3) -> Split
+    requires { ⌜ 2 ≤ length (now slice) ⌝ }
+    requires { ⌜ Splits.Boxed binary32 (now bounds) (now slice) ⌝ }
+    ensures { λ r. ⌜ Cuts.asSplit r ≡ Median.medianSplit binary32 (Shapes.asAxis axis) (Shapes.asBox parent) (Splits.boxesIn (now (bounds .entry)) (now (slice .entry))) ⌝ }
 {
-    let cut = part.len() / 2;
-    if all_meet_at(bounds, part, axis, cut) {
+    let cut = slice.len() / 2;
+    if all_meet_at(bounds, slice, axis, cut) {
         return Split::Nowhere;
     }
-    if are_both_large(bounds, part, cut, parent) {
+    if are_both_large(bounds, slice, cut, parent) {
         return Split::Nowhere;
     }
     Split::At(cut)

@@ -58,15 +58,15 @@ pub fn centre_on(bounds: &[f32], t: u32, axis: Axis) -> f32
 }
 
 // The smallest box around the boxes of the slice's triangles, joined from the left.
-pub fn union_of(bounds: &[f32], part: &[u32]) -> Box3
-    requires { ⌜ 0 < length (now part) ⌝ }
-    requires { ⌜ Splits.AllInTable (now bounds) (now part) ⌝ }
-    ensures { λ r. ⌜ Shapes.asBox r ≡ Splits.unionOf binary32 (Splits.boxesIn (now (bounds .entry)) (now (part .entry))) ⌝ }
+pub fn union_of(bounds: &[f32], slice: &[u32]) -> Box3
+    requires { ⌜ 0 < length (now slice) ⌝ }
+    requires { ⌜ Splits.AllInTable (now bounds) (now slice) ⌝ }
+    ensures { λ r. ⌜ Shapes.asBox r ≡ Splits.unionOf binary32 (Splits.boxesIn (now (bounds .entry)) (now (slice .entry))) ⌝ }
 {
-    let mut joined = box_at(bounds, part[0]);
+    let mut joined = box_at(bounds, slice[0]);
     let mut i = 1;
-    while i < part.len() {
-        joined = joined.union_box(box_at(bounds, part[i]));
+    while i < slice.len() {
+        joined = joined.union_box(box_at(bounds, slice[i]));
         i += 1;
     }
     joined

@@ -4,7 +4,7 @@ use mathlib.Core.List.{List, [], _∷_}
 use Prim.Native.Nat.{ℕ, _+_, _*_}
 use lib.Dec.{ltb}
 use lib.Ieee.{Float, binary32, ofBits}
-use Rattle.spec_tables.specs.Tables.{many}
+use Rattle.spec_tables.specs.Tables.{concatMap}
 use Rattle.test_words.specs.Words as Stored
 use Rattle.spec_shapes.specs.Points.{Point}
 
@@ -31,4 +31,4 @@ meshWords s at = place (place 2 9 (sizeAt s at)) 4 (sizeAt s (place at 1 1))
 
 -- the 720 numbers from `at` on: no mesh has more
 unfoldable pub numbersFrom : List ℕ → ℕ → List Float
-numbersFrom s at = many (λ i. numberAt s (place at 1 i) ∷ []) 720
+numbersFrom s at = concatMap (λ i. numberAt s (place at 1 i) ∷ []) 720

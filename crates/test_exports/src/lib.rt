@@ -11,7 +11,7 @@ ghost use Rattle.tree.specs.Values as Found;
 ghost use Rattle.spec_angles.specs.Windings as Windings;
 ghost use Rattle.spec_search.specs.Sure as Sure;
 ghost use Rattle.spec_search.specs.Calls as Calls;
-ghost use Rattle.test_exports.specs.Told as Told;
+ghost use Rattle.test_exports.specs.Answered as Answered;
 use build::calls::Built;
 use lists::reading::point_at;
 use lists::reading::triangle_at;
@@ -20,12 +20,12 @@ use lists::verdict::Verdict;
 use shapes::vec3::Vec3;
 use tree::calls::DepthFound;
 use tree::check::is_accepted;
-use walks::answer::Asked;
+use walks::answer::Probe;
 use walks::sure::search;
 
 // 1 where the verdict is a pass, else 0.
 fn one_passed(verdict: Verdict) -> u32
-    ensures { λ r. ⌜ r ≡ Told.onePassed (Lists.asVerdict verdict) ⌝ }
+    ensures { λ r. ⌜ r ≡ Answered.onePassed (Lists.asVerdict verdict) ⌝ }
 {
     match verdict {
         Verdict::Passed => 1,
@@ -35,7 +35,7 @@ fn one_passed(verdict: Verdict) -> u32
 
 // The depth that is read off the lists, 0 where they are refused.
 fn depth_read(found: DepthFound) -> usize
-    ensures { λ r. ⌜ r ≡ Told.depthRead (Found.asDepthFound found) ⌝ }
+    ensures { λ r. ⌜ r ≡ Answered.depthRead (Found.asDepthFound found) ⌝ }
 {
     match found {
         DepthFound::Depth(levels) => levels,
@@ -44,8 +44,8 @@ fn depth_read(found: DepthFound) -> usize
 }
 
 // The nodes of a build, 0 for a refusal.
-fn nodes_told(built: Built) -> usize
-    ensures { λ r. ⌜ r ≡ Told.nodesTold (Builds.asBuilt built) ⌝ }
+fn nodes_answered(built: Built) -> usize
+    ensures { λ r. ⌜ r ≡ Answered.nodesAnswered (Builds.asBuilt built) ⌝ }
 {
     match built {
         Built::Tree { nodes, depth: _ } => nodes,
@@ -54,8 +54,8 @@ fn nodes_told(built: Built) -> usize
 }
 
 // The depth of a build, 0 for a refusal.
-fn depth_told(built: Built) -> usize
-    ensures { λ r. ⌜ r ≡ Told.depthTold (Builds.asBuilt built) ⌝ }
+fn depth_answered(built: Built) -> usize
+    ensures { λ r. ⌜ r ≡ Answered.depthAnswered (Builds.asBuilt built) ⌝ }
 {
     match built {
         Built::Tree { nodes: _, depth } => depth,
@@ -74,7 +74,7 @@ pub extern "C" fn timing_build(
     links: &mut [u32],
     boxes: &mut [f32],
 ) -> usize
-    ensures { λ r. ⌜ Told.BuildTold Told.nodesTold binary32 (now (triangles .entry)) (record { strategy = strategy; leafMinimum = «leaf_minimum»; maximumDepth = «maximum_depth» }) (now (order .entry)) (now (links .entry)) (now (boxes .entry)) r (now (order .exit)) (now (links .exit)) (now (boxes .exit)) ⌝ }
+    ensures { λ r. ⌜ Answered.BuildAnswered Answered.nodesAnswered binary32 (now (triangles .entry)) (record { strategy = strategy; leafMinimum = «leaf_minimum»; maximumDepth = «maximum_depth» }) (now (order .entry)) (now (links .entry)) (now (boxes .entry)) r (now (order .exit)) (now (links .exit)) (now (boxes .exit)) ⌝ }
 {
     let built = build::calls::build(
         triangles,
@@ -85,7 +85,7 @@ pub extern "C" fn timing_build(
         links,
         boxes,
     );
-    nodes_told(built)
+    nodes_answered(built)
 }
 
 // Builds a tree and answers its depth, 0 for a refusal.
@@ -99,7 +99,7 @@ pub extern "C" fn timing_depth(
     links: &mut [u32],
     boxes: &mut [f32],
 ) -> usize
-    ensures { λ r. ⌜ Told.BuildTold Told.depthTold binary32 (now (triangles .entry)) (record { strategy = strategy; leafMinimum = «leaf_minimum»; maximumDepth = «maximum_depth» }) (now (order .entry)) (now (links .entry)) (now (boxes .entry)) r (now (order .exit)) (now (links .exit)) (now (boxes .exit)) ⌝ }
+    ensures { λ r. ⌜ Answered.BuildAnswered Answered.depthAnswered binary32 (now (triangles .entry)) (record { strategy = strategy; leafMinimum = «leaf_minimum»; maximumDepth = «maximum_depth» }) (now (order .entry)) (now (links .entry)) (now (boxes .entry)) r (now (order .exit)) (now (links .exit)) (now (boxes .exit)) ⌝ }
 {
     let built = build::calls::build(
         triangles,
@@ -110,7 +110,7 @@ pub extern "C" fn timing_depth(
         links,
         boxes,
     );
-    depth_told(built)
+    depth_answered(built)
 }
 
 // Writes the sure query's answers. 1 where the query was answered, else 0.
@@ -125,7 +125,7 @@ pub extern "C" fn timing_sure(
     distance: f32,
     answers: &mut [u32],
 ) -> u32
-    ensures passed { λ r. ⌜ r ≡ Told.onePassed (Calls.queryRefusal (now (triangles .entry)) (now (order .entry)) (now (links .entry)) (now (boxes .entry)) nodes (now (points .entry)) distance (length (now (answers .entry)))) ⌝ }
+    ensures passed { λ r. ⌜ r ≡ Answered.onePassed (Calls.queryRefusal (now (triangles .entry)) (now (order .entry)) (now (links .entry)) (now (boxes .entry)) nodes (now (points .entry)) distance (length (now (answers .entry)))) ⌝ }
     ensures answers { λ _. ⌜ now (answers .exit) ≡ Calls.afterQuery binary32 (Calls.sureAnswer binary32 (now (triangles .entry)) distance) (now (points .entry)) (Calls.queryRefusal (now (triangles .entry)) (now (order .entry)) (now (links .entry)) (now (boxes .entry)) nodes (now (points .entry)) distance (length (now (answers .entry)))) (now (answers .entry)) ⌝ }
 {
     let verdict = queries::calls::sure_query(
@@ -153,7 +153,7 @@ pub extern "C" fn timing_source(
     distance: f32,
     answers: &mut [u32],
 ) -> u32
-    ensures passed { λ r. ⌜ r ≡ Told.onePassed (Calls.queryRefusal (now (triangles .entry)) (now (order .entry)) (now (links .entry)) (now (boxes .entry)) nodes (now (points .entry)) distance (length (now (answers .entry)))) ⌝ }
+    ensures passed { λ r. ⌜ r ≡ Answered.onePassed (Calls.queryRefusal (now (triangles .entry)) (now (order .entry)) (now (links .entry)) (now (boxes .entry)) nodes (now (points .entry)) distance (length (now (answers .entry)))) ⌝ }
     ensures answers { λ _. ⌜ now (answers .exit) ≡ Calls.afterQuery binary32 (Calls.sourceAnswer binary32 (now (triangles .entry)) (now (order .entry)) (now (links .entry)) (now (boxes .entry)) nodes distance) (now (points .entry)) (Calls.queryRefusal (now (triangles .entry)) (now (order .entry)) (now (links .entry)) (now (boxes .entry)) nodes (now (points .entry)) distance (length (now (answers .entry)))) (now (answers .entry)) ⌝ }
 {
     let verdict = queries::calls::source_query(
@@ -178,7 +178,7 @@ pub extern "C" fn timing_check(
     boxes: &[f32],
     nodes: usize,
 ) -> u32
-    ensures { λ r. ⌜ r ≡ Told.onePassed (Trees.checkRefusal (now (triangles .entry)) (now (order .entry)) (now (links .entry)) (now (boxes .entry)) nodes) ⌝ }
+    ensures { λ r. ⌜ r ≡ Answered.onePassed (Trees.checkRefusal (now (triangles .entry)) (now (order .entry)) (now (links .entry)) (now (boxes .entry)) nodes) ⌝ }
 {
     let verdict = tree::calls::check(triangles, order, links, boxes, nodes);
     one_passed(verdict)
@@ -193,7 +193,7 @@ pub extern "C" fn timing_depth_read(
     boxes: &[f32],
     nodes: usize,
 ) -> usize
-    ensures { λ r. ⌜ r ≡ Told.depthRead (Depth.depthAnswer (now (triangles .entry)) (now (order .entry)) (now (links .entry)) (now (boxes .entry)) nodes) ⌝ }
+    ensures { λ r. ⌜ r ≡ Answered.depthRead (Depth.depthAnswer (now (triangles .entry)) (now (order .entry)) (now (links .entry)) (now (boxes .entry)) nodes) ⌝ }
 {
     let found = tree::calls::depth(triangles, order, links, boxes, nodes);
     depth_read(found)
@@ -212,11 +212,11 @@ fn measured_at(
     requires { ⌜ Calls.Searchable (now triangles) (now order) (now links) (now boxes) nodes ⌝ }
     ensures { λ r. ⌜ r ≡ Sure.sureWalk binary32 (now (triangles .entry)) (now (order .entry)) (now (links .entry)) (now (boxes .entry)) nodes (Shapes.asPoint p) (Sure.limitOf binary32 distance) .measured ⌝ }
 {
-    let asked = Asked {
+    let probe = Probe {
         point: p,
         limit: distance * distance,
     };
-    let sought = search(triangles, order, links, boxes, nodes, asked);
+    let sought = search(triangles, order, links, boxes, nodes, probe);
     sought.measured
 }
 
@@ -231,7 +231,7 @@ pub extern "C" fn timing_measured(
     points: &[f32],
     distance: f32,
 ) -> usize
-    ensures { λ r. ⌜ r ≡ Told.measuredFirst binary32 (now (triangles .entry)) (now (order .entry)) (now (links .entry)) (now (boxes .entry)) nodes (now (points .entry)) distance ⌝ }
+    ensures { λ r. ⌜ r ≡ Answered.measuredFirst binary32 (now (triangles .entry)) (now (order .entry)) (now (links .entry)) (now (boxes .entry)) nodes (now (points .entry)) distance ⌝ }
 {
     let verdict = triangles_refusal(triangles);
     if verdict.refuses() {
@@ -249,7 +249,7 @@ pub extern "C" fn timing_measured(
 // Writes the winding numbers. 1 where they were written, else 0.
 #[no_mangle]
 pub extern "C" fn timing_winding(triangles: &[f32], points: &[f32], windings: &mut [f32]) -> u32
-    ensures passed { λ r. ⌜ r ≡ Told.onePassed (Windings.windingRefusal (now (triangles .entry)) (now (points .entry)) (length (now (windings .entry)))) ⌝ }
+    ensures passed { λ r. ⌜ r ≡ Answered.onePassed (Windings.windingRefusal (now (triangles .entry)) (now (points .entry)) (length (now (windings .entry)))) ⌝ }
     ensures windings { λ _. ⌜ now (windings .exit) ≡ Windings.afterWinding binary32 (now (triangles .entry)) (now (points .entry)) (now (windings .entry)) ⌝ }
 {
     let verdict = angles::winding::winding(triangles, points, windings);
@@ -259,7 +259,7 @@ pub extern "C" fn timing_winding(triangles: &[f32], points: &[f32], windings: &m
 // The solid angle of one triangle from one point, a NaN where there are more or fewer.
 #[no_mangle]
 pub extern "C" fn timing_solid(triangle: &[f32], point: &[f32]) -> f32
-    ensures { λ r. ⌜ r ≡ Told.angleOfOne binary32 (now (triangle .entry)) (now (point .entry)) ⌝ }
+    ensures { λ r. ⌜ r ≡ Answered.angleOfOne binary32 (now (triangle .entry)) (now (point .entry)) ⌝ }
 {
     if triangle.len() != 9 {
         return 0.0 / 0.0;

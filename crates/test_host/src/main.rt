@@ -4,10 +4,10 @@
 ghost use Prim.Native.Nat.{_+_, _≤_};
 ghost use lib.ListN.{length};
 
-fn put_told(told: u64) {
+fn put_status(status: u64) {
     let mut line = [b'\n'; 17];
-    let next = printing::numbers::put_hex(&mut line, 0, (told / 4294967296) as u32);
-    printing::numbers::put_hex(&mut line, next, (told % 4294967296) as u32);
+    let next = printing::numbers::put_hex(&mut line, 0, (status / 4294967296) as u32);
+    printing::numbers::put_hex(&mut line, next, (status % 4294967296) as u32);
     io::write_all(1, &line);
 }
 
@@ -19,14 +19,14 @@ fn put_lent(
     image: &mut [u8],
     triangles: &[u8],
 ) {
-    let told = host_build::from_bytes::build_image(
+    let status = host_build::from_bytes::build_image(
         strategy,
         leaf_minimum,
         maximum_depth,
         triangles,
         image,
     );
-    put_told(told);
+    put_status(status);
     io::write_all(1, image);
     io::write_all(1, b"\n");
 }

@@ -5,7 +5,7 @@ use Prim.Native.Nat.{ℕ, _+_, _*_}
 use lib.Dec.{ltb, leb}
 use lib.ListN.{length}
 use lib.Ieee.{Float, binary32, ofBits}
-use Rattle.spec_tables.specs.Tables.{many}
+use Rattle.spec_tables.specs.Tables.{concatMap}
 use Rattle.spec_records.specs.Little.{littleAt}
 
 unfoldable pub wordAt : List ℕ → ℕ → ℕ
@@ -17,7 +17,7 @@ more n by = cond (ltb n 1000000000) (cond (ltb by 1000000000) (n + by) n) n
 
 -- n words from a place on
 unfoldable pub numbersFrom : List ℕ → ℕ → ℕ → List ℕ
-numbersFrom s from n = many (λ i. wordAt s (more from (4 * i)) ∷ []) n
+numbersFrom s from n = concatMap (λ i. wordAt s (more from (4 * i)) ∷ []) n
 
 unfoldable pub floatsFrom : List ℕ → ℕ → ℕ → List Float
-floatsFrom s from n = many (λ i. ofBits binary32 (wordAt s (more from (4 * i))) ∷ []) n
+floatsFrom s from n = concatMap (λ i. ofBits binary32 (wordAt s (more from (4 * i))) ∷ []) n

@@ -1,3 +1,3 @@
-pub mod Parts
+pub mod Slices
 pub mod Unique
 pub mod Needs

@@ -16,7 +16,7 @@ use Rattle.tree.specs.declared.leaves.LeavesCounted.the-variants as Coun
 abbrev backEntry : Leaves.EntryFound → EntryFound
 backEntry Leaves.noEntry = Entry.Nothing
 backEntry (Leaves.triangle t) = Entry.Triangle t
-backEntry (Leaves.notAsked number place) = Entry.Refused number place
+backEntry (Leaves.entryRefused number place) = Entry.Refused number place
 
 entry-is : (a : EntryFound) → backEntry (asEntryFound a) ≡ a
 entry-is Entry.Nothing = refl

@@ -17,7 +17,7 @@ use Rattle.tree.specs.declared.leaves.LeavesCounted.the-variants as Coun
 abbrev pub asEntryFound : EntryFound → Leaves.EntryFound
 asEntryFound Entry.Nothing = Leaves.noEntry
 asEntryFound (Entry.Triangle t) = Leaves.triangle t
-asEntryFound (Entry.Refused number place) = Leaves.notAsked number place
+asEntryFound (Entry.Refused number place) = Leaves.entryRefused number place
 
 abbrev pub asFinding : Finding → Accepted.Finding
 asFinding Wrong = Accepted.wrong

@@ -11,15 +11,15 @@ use lists::reading::box_at;
 use shapes::box3::Box3;
 
 // The box of the first triangle joined with those of the others, from the left, as the definition joins them.
-pub fn joined(triangles: &[f32], part: &[u32]) -> Box3
-    requires some { ⌜ 0 < length (now part) ⌝ }
-    requires numbered { ⌜ Order.EntriesBelow (Reading.triangleCount (now triangles)) (now part) ⌝ }
-    ensures { λ r. ⌜ Shapes.asBox r ≡ Trees.joined (Reading.boxAt (now (triangles .entry))) (now (part .entry)) ⌝ }
+pub fn joined(triangles: &[f32], slice: &[u32]) -> Box3
+    requires some { ⌜ 0 < length (now slice) ⌝ }
+    requires numbered { ⌜ Order.EntriesBelow (Reading.triangleCount (now triangles)) (now slice) ⌝ }
+    ensures { λ r. ⌜ Shapes.asBox r ≡ Trees.joined (Reading.boxAt (now (triangles .entry))) (now (slice .entry)) ⌝ }
 {
-    let mut over = box_at(triangles, wide(part[0]));
+    let mut over = box_at(triangles, wide(slice[0]));
     let mut i = 1;
-    while i < part.len() {
-        over = over.union_box(box_at(triangles, wide(part[i])));
+    while i < slice.len() {
+        over = over.union_box(box_at(triangles, wide(slice[i])));
         i += 1;
     }
     over

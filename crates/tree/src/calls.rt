@@ -21,7 +21,7 @@ pub fn tree_refusal(
     boxes: &[f32],
     nodes: usize,
 ) -> Verdict
-    requires { ⌜ Reading.triangleCount (now triangles) ≤ Limits.mostTriangles ⌝ }
+    requires { ⌜ Reading.triangleCount (now triangles) ≤ Limits.maxTriangles ⌝ }
     ensures { λ r. ⌜ Verdicts.asVerdict r ≡ Refusals.treeRefusal (now (triangles .entry)) (now (order .entry)) (now (links .entry)) (now (boxes .entry)) nodes ⌝ }
 {
     refused_if(!is_accepted(triangles, order, links, boxes, nodes), 7, 0)

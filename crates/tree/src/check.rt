@@ -9,7 +9,7 @@ ghost use Rattle.spec_lists.specs.Reading as Reading;
 ghost use Rattle.spec_tree.specs.Accepted as Accepted;
 ghost use Rattle.spec_tree.specs.Trees as Trees;
 ghost use Rattle.tree.specs.Values as Values;
-ghost use Rattle.tree.specs.Needs as Asked;
+ghost use Rattle.tree.specs.Needs as Needs;
 use crate::boxes::joined;
 use crate::nodes::is_left_before;
 use crate::nodes::is_right_before;
@@ -85,7 +85,7 @@ fn check_leaf(
     node: usize,
     last: usize,
 ) -> Finding
-    requires { ⌜ Asked.Subtree (now triangles) (now order) (now links) (now boxes) node last ⌝ }
+    requires { ⌜ Needs.Subtree (now triangles) (now order) (now links) (now boxes) node last ⌝ }
     ensures { λ r. ⌜ Values.asFinding r ≡ Accepted.leafFinding (Reading.boxAt (now (triangles .entry))) (now (order .entry)) (now (links .entry)) (now (boxes .entry)) node last ⌝ }
 {
     let entry = left_at(links, node);
@@ -109,7 +109,7 @@ fn check_node(
     node: usize,
     last: usize,
 ) -> Finding
-    requires { ⌜ Asked.Subtree (now triangles) (now order) (now links) (now boxes) node last ⌝ }
+    requires { ⌜ Needs.Subtree (now triangles) (now order) (now links) (now boxes) node last ⌝ }
     ensures { λ r. ⌜ Values.asFinding r ≡ Accepted.finding (Reading.boxAt (now (triangles .entry))) (now (order .entry)) (now (links .entry)) (now (boxes .entry)) levels node last ⌝ }
 {
     if levels == 0 {
@@ -162,7 +162,7 @@ fn check_left(
     entry: usize,
     right: Box3,
 ) -> Finding
-    requires { ⌜ Asked.LeftSubtree (now triangles) (now order) (now links) (now boxes) node first entry ⌝ }
+    requires { ⌜ Needs.LeftSubtree (now triangles) (now order) (now links) (now boxes) node first entry ⌝ }
     ensures { λ r. ⌜ Values.asFinding r ≡ Accepted.leftTried (Reading.boxAt (now (triangles .entry))) (now (order .entry)) (now (links .entry)) (now (boxes .entry)) (eqb (Trees.leftAt (now (links .entry)) node + 1) first) (Accepted.finding (Reading.boxAt (now (triangles .entry))) (now (order .entry)) (now (links .entry)) (now (boxes .entry)) levels) node entry (Shapes.asBox right) ⌝ }
 {
     if !is_left_before(links, node, first) {
@@ -211,7 +211,7 @@ pub fn is_accepted(
     boxes: &[f32],
     nodes: usize,
 ) -> bool
-    requires { ⌜ Reading.triangleCount (now triangles) ≤ Limits.mostTriangles ⌝ }
+    requires { ⌜ Reading.triangleCount (now triangles) ≤ Limits.maxTriangles ⌝ }
     ensures { λ r. ⌜ r ≡ Accepted.accepted (Reading.boxAt (now (triangles .entry))) (Reading.triangleCount (now (triangles .entry))) (now (order .entry)) (now (links .entry)) (now (boxes .entry)) nodes ⌝ }
 {
     let n = triangle_count(triangles);

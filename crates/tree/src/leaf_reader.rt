@@ -9,7 +9,7 @@ ghost use Rattle.spec_tree.specs.Leaves as Leaves;
 ghost use Rattle.tree.specs.Values as Values;
 
 pub struct Leaf<'a> {
-    pub part: &'a [u32],
+    pub slice: &'a [u32],
 }
 
 // A triangle of a leaf, none where there is none at that place, or a refusal.
@@ -27,8 +27,8 @@ fn lesser(a: usize, b: usize) -> usize
 }
 
 // The order list from `first` up to `last`, the end not included, as far as the list goes.
-pub fn part_of(order: &[u32], first: usize, last: usize) -> &[u32]
-    ensures { λ r. ⌜ now r ≡ Tables.part (now (order .entry)) first (last - first) ⌝ }
+pub fn slice_of(order: &[u32], first: usize, last: usize) -> &[u32]
+    ensures { λ r. ⌜ now r ≡ Tables.slice (now (order .entry)) first (last - first) ⌝ }
 {
     let end = lesser(last, order.len());
     let start = lesser(first, end);
@@ -36,11 +36,11 @@ pub fn part_of(order: &[u32], first: usize, last: usize) -> &[u32]
 }
 
 // The triangle at a place of a leaf's slice.
-pub fn entry_at(part: &[u32], i: usize) -> EntryFound
-    ensures { λ r. ⌜ Values.asEntryFound r ≡ Leaves.entryAt (now (part .entry)) i ⌝ }
+pub fn entry_at(slice: &[u32], i: usize) -> EntryFound
+    ensures { λ r. ⌜ Values.asEntryFound r ≡ Leaves.entryAt (now (slice .entry)) i ⌝ }
 {
-    if i < part.len() {
-        return EntryFound::Triangle(part[i]);
+    if i < slice.len() {
+        return EntryFound::Triangle(slice[i]);
     }
     EntryFound::Nothing
 }
@@ -48,31 +48,31 @@ pub fn entry_at(part: &[u32], i: usize) -> EntryFound
 impl<'a> Leaf<'a> {
     // The reader of the leaf with the entries from `first` up to `last`, the end not included.
     pub fn of(order: &'a [u32], first: usize, last: usize) -> Leaf<'a>
-        ensures { λ r. ⌜ now (r .part) ≡ Tables.part (now (order .entry)) first (last - first) ⌝ }
+        ensures { λ r. ⌜ now (r .slice) ≡ Tables.slice (now (order .entry)) first (last - first) ⌝ }
     {
         Leaf {
-            part: part_of(order, first, last),
+            slice: slice_of(order, first, last),
         }
     }
 
     // How many triangles the leaf has.
     pub fn len(self) -> usize
-        ensures { λ r. ⌜ r ≡ length (now (self .entry .part)) ⌝ }
+        ensures { λ r. ⌜ r ≡ length (now (self .entry .slice)) ⌝ }
     {
-        self.part.len()
+        self.slice.len()
     }
 
     // The i-th triangle of the leaf, counted from 0.
     pub fn entry(self, i: usize) -> EntryFound
-        ensures { λ r. ⌜ Values.asEntryFound r ≡ Leaves.entryAt (now (self .entry .part)) i ⌝ }
+        ensures { λ r. ⌜ Values.asEntryFound r ≡ Leaves.entryAt (now (self .entry .slice)) i ⌝ }
     {
-        entry_at(self.part, i)
+        entry_at(self.slice, i)
     }
 }
 
 // The i-th triangle of the leaf with these entries, by way of its reader.
 pub fn entry_of(order: &[u32], first: usize, last: usize, i: usize) -> EntryFound
-    ensures { λ r. ⌜ Values.asEntryFound r ≡ Leaves.entryAt (Tables.part (now (order .entry)) first (last - first)) i ⌝ }
+    ensures { λ r. ⌜ Values.asEntryFound r ≡ Leaves.entryAt (Tables.slice (now (order .entry)) first (last - first)) i ⌝ }
 {
     Leaf::of(order, first, last).entry(i)
 }

@@ -58,13 +58,13 @@ pub fn leaf_from(links: &[u32], boxes: &[f32], nodes: usize, from: usize, k: usi
     ensures { λ r. ⌜ Values.asLeafFound r ≡ Leaves.leafFrom (now (links .entry)) (now (boxes .entry)) nodes from k ⌝ }
 {
     let mut node = from;
-    let mut left = k;
+    let mut remaining = k;
     while node < nodes {
         if kind_at(links, node) == 1 {
-            if left == 0 {
+            if remaining == 0 {
                 return leaf_at(links, boxes, node);
             }
-            left -= 1;
+            remaining -= 1;
         }
         node += 1;
     }

@@ -30,12 +30,12 @@ fn marks_all(n: usize, order: &[u32], seen: &mut [bool]) -> bool
 
 // Whether the list has n entries, each below n and none of them twice.
 pub fn is_permutation(n: usize, order: &[u32]) -> bool
-    requires { ⌜ n ≤ Limits.mostTriangles ⌝ }
+    requires { ⌜ n ≤ Limits.maxTriangles ⌝ }
     ensures { λ r. ⌜ r ≡ Order.permutes n (now (order .entry)) ⌝ }
 {
     if order.len() != n {
         return false;
     }
-    let mut seen = [false; limits::MOST_TRIANGLES];
+    let mut seen = [false; limits::MAX_TRIANGLES];
     marks_all(n, order, &mut seen)
 }

@@ -2,7 +2,7 @@
 use shapes::vec3::Vec3;
 
 // The probe: a point, and the square of the search distance as its limit.
-pub struct Asked {
+pub struct Probe {
     pub point: Vec3,
     pub limit: f32,
 }

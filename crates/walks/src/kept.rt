@@ -44,8 +44,8 @@ fn is_nearer(hit: Hit, best: &[f32; 4], number: u32) -> bool
 }
 
 // Whether a box at this squared distance is skipped: the distance does not count, or is above the best so far.
-pub fn is_passed(limit: f32, squared: f32, best: &[f32; 4], number: u32) -> bool
-    ensures { λ r. ⌜ r ≡ Sure.isPassed limit squared (Kept.kept (Values.hitOf (now (best .entry)) number)) ⌝ }
+pub fn is_skipped(limit: f32, squared: f32, best: &[f32; 4], number: u32) -> bool
+    ensures { λ r. ⌜ r ≡ Sure.isSkipped limit squared (Kept.kept (Values.hitOf (now (best .entry)) number)) ⌝ }
 {
     !does_count(limit, squared) | (best[3] < squared)
 }
@@ -61,8 +61,8 @@ pub fn offer(limit: f32, hit: Hit, best: &mut [f32; 4], number: &mut u32)
 }
 
 // Keeps the hit where it is strictly smaller. The source query uses it.
-pub fn meet(hit: Hit, best: &mut [f32; 4], number: &mut u32)
-    ensures { λ _. ⌜ Kept.kept (Values.hitOf (now (best .exit)) (now (number .exit))) ≡ Source.strictly (Values.asHit hit) (Kept.kept (Values.hitOf (now (best .entry)) (now (number .entry)))) ⌝ }
+pub fn keep_smaller(hit: Hit, best: &mut [f32; 4], number: &mut u32)
+    ensures { λ _. ⌜ Kept.kept (Values.hitOf (now (best .exit)) (now (number .exit))) ≡ Source.keepSmaller (Values.asHit hit) (Kept.kept (Values.hitOf (now (best .entry)) (now (number .entry)))) ⌝ }
 {
     if hit.squared < best[3] {
         keep(hit, best, number);

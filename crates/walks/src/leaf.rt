@@ -12,7 +12,7 @@ ghost use Rattle.spec_search.specs.Walk as Walk;
 ghost use Rattle.spec_search.specs.Kept as Kept;
 ghost use Rattle.walks.specs.Values as Values;
 use crate::answer::Hit;
-use crate::kept::meet;
+use crate::kept::keep_smaller;
 use crate::kept::offer;
 use crate::kept::point_of;
 use lists::reading::triangle_at;
@@ -34,46 +34,46 @@ fn hit_at(point: Vec3, p: Vec3, t: u32) -> Hit
 fn measure(
     triangles: &[f32],
     t: u32,
-    asked: &[f32; 4],
+    probe: &[f32; 4],
     sure: bool,
     best: &mut [f32; 4],
     number: &mut u32,
 )
     requires { ⌜ 9 * t + 9 ≤ length (now triangles) ⌝ }
-    ensures { λ _. ⌜ Kept.kept (Values.hitOf (now (best .exit)) (now (number .exit))) ≡ Kept.tookBy sure binary32 (now (triangles .entry)) (Values.pointOf (now (asked .entry))) (Values.fourthOf (now (asked .entry))) t (Kept.kept (Values.hitOf (now (best .entry)) (now (number .entry)))) ⌝ }
+    ensures { λ _. ⌜ Kept.kept (Values.hitOf (now (best .exit)) (now (number .exit))) ≡ Kept.tookBy sure binary32 (now (triangles .entry)) (Values.pointOf (now (probe .entry))) (Values.fourthOf (now (probe .entry))) t (Kept.kept (Values.hitOf (now (best .entry)) (now (number .entry)))) ⌝ }
 {
-    let p = point_of(asked);
+    let p = point_of(probe);
     let triangle = triangle_at(triangles, wide(t));
     let computed = triangle.closest_point(p);
     if sure {
         offer(
-            asked[3],
+            probe[3],
             hit_at(triangle.held(computed), p, t),
             best,
             number,
         );
         return;
     }
-    meet(hit_at(computed, p, t), best, number);
+    keep_smaller(hit_at(computed, p, t), best, number);
 }
 
 // Measures each triangle of a leaf's slice of the order list, and answers how many were measured in all.
-fn measure_part(
+fn measure_slice(
     triangles: &[f32],
-    part: &[u32],
-    asked: &[f32; 4],
+    slice: &[u32],
+    probe: &[f32; 4],
     sure: bool,
     measured: usize,
     best: &mut [f32; 4],
     number: &mut u32,
 ) -> usize
-    requires { ⌜ Order.EntriesBelow (Reading.triangleCount (now triangles)) (now part) ⌝ }
-    requires { ⌜ measured + length (now part) < 2 ^ 64 ⌝ }
-    ensures { λ r. ⌜ Values.soughtOf (now (best .exit)) (now (number .exit)) r ≡ Walk.tookAll (Kept.tookBy sure binary32 (now (triangles .entry)) (Values.pointOf (now (asked .entry))) (Values.fourthOf (now (asked .entry)))) (now (part .entry)) (Values.soughtOf (now (best .entry)) (now (number .entry)) measured) ⌝ }
+    requires { ⌜ Order.EntriesBelow (Reading.triangleCount (now triangles)) (now slice) ⌝ }
+    requires { ⌜ measured + length (now slice) < 2 ^ 64 ⌝ }
+    ensures { λ r. ⌜ Values.soughtOf (now (best .exit)) (now (number .exit)) r ≡ Walk.tookAll (Kept.tookBy sure binary32 (now (triangles .entry)) (Values.pointOf (now (probe .entry))) (Values.fourthOf (now (probe .entry)))) (now (slice .entry)) (Values.soughtOf (now (best .entry)) (now (number .entry)) measured) ⌝ }
 {
     let mut i = 0;
-    while i < part.len() {
-        measure(triangles, part[i], asked, sure, best, number);
+    while i < slice.len() {
+        measure(triangles, slice[i], probe, sure, best, number);
         i += 1;
     }
     measured + i
@@ -85,7 +85,7 @@ pub fn measure_leaf(
     order: &[u32],
     first: usize,
     last: usize,
-    asked: &[f32; 4],
+    probe: &[f32; 4],
     sure: bool,
     measured: usize,
     best: &mut [f32; 4],
@@ -94,12 +94,12 @@ pub fn measure_leaf(
     requires { ⌜ Order.EntriesBelow (Reading.triangleCount (now triangles)) (now order) ⌝ }
     requires { ⌜ (first ≤ last) × (last ≤ length (now order)) ⌝ }
     requires { ⌜ measured + (last - first) < 2 ^ 64 ⌝ }
-    ensures { λ r. ⌜ Values.soughtOf (now (best .exit)) (now (number .exit)) r ≡ Walk.tookAll (Kept.tookBy sure binary32 (now (triangles .entry)) (Values.pointOf (now (asked .entry))) (Values.fourthOf (now (asked .entry)))) (Tables.part (now (order .entry)) first (last - first)) (Values.soughtOf (now (best .entry)) (now (number .entry)) measured) ⌝ }
+    ensures { λ r. ⌜ Values.soughtOf (now (best .exit)) (now (number .exit)) r ≡ Walk.tookAll (Kept.tookBy sure binary32 (now (triangles .entry)) (Values.pointOf (now (probe .entry))) (Values.fourthOf (now (probe .entry)))) (Tables.slice (now (order .entry)) first (last - first)) (Values.soughtOf (now (best .entry)) (now (number .entry)) measured) ⌝ }
 {
-    measure_part(
+    measure_slice(
         triangles,
         &order[first..last],
-        asked,
+        probe,
         sure,
         measured,
         best,

@@ -10,7 +10,7 @@ ghost use Rattle.spec_search.specs.Source as Source;
 ghost use Rattle.spec_search.specs.Safe as Safe;
 ghost use Rattle.spec_search.specs.Calls as Calls;
 ghost use Rattle.walks.specs.Values as Values;
-use crate::answer::Asked;
+use crate::answer::Probe;
 use crate::answer::Sought;
 use crate::kept::answer_of;
 use crate::kept::point_of;
@@ -20,13 +20,13 @@ use lists::limits;
 use tree::nodes::node_box;
 
 // Whether a child is entered: its box holds the point, or is nearer than the limit.
-fn does_enter(boxes: &[f32], node: usize, asked: &[f32; 4]) -> bool
+fn does_enter(boxes: &[f32], node: usize, probe: &[f32; 4]) -> bool
     requires { ⌜ 6 * node + 6 ≤ length (now boxes) ⌝ }
-    ensures { λ r. ⌜ r ≡ Source.enters binary32 (now (boxes .entry)) (Values.pointOf (now (asked .entry))) (Values.fourthOf (now (asked .entry))) node ⌝ }
+    ensures { λ r. ⌜ r ≡ Source.enters binary32 (now (boxes .entry)) (Values.pointOf (now (probe .entry))) (Values.fourthOf (now (probe .entry))) node ⌝ }
 {
     let over = node_box(boxes, node);
-    let p = point_of(asked);
-    over.contains_point(p) | (over.squared_distance(p) < asked[3])
+    let p = point_of(probe);
+    over.contains_point(p) | (over.squared_distance(p) < probe[3])
 }
 
 // Looks at a node, whatever its box. `depth` levels of branches remain to open. Answers how many triangles were measured in all.
@@ -35,7 +35,7 @@ pub fn look(
     order: &[u32],
     links: &[u32],
     boxes: &[f32],
-    asked: &[f32; 4],
+    probe: &[f32; 4],
     depth: usize,
     node: usize,
     measured: usize,
@@ -43,7 +43,7 @@ pub fn look(
     number: &mut u32,
 ) -> usize
     requires { ⌜ Safe.NodeSafe (now triangles) (now order) (now links) (now boxes) depth node measured ⌝ }
-    ensures { λ r. ⌜ Values.soughtOf (now (best .exit)) (now (number .exit)) r ≡ Walk.rootWalk (Source.sourceSearch binary32 (now (triangles .entry)) (now (boxes .entry)) (Values.pointOf (now (asked .entry))) (Values.fourthOf (now (asked .entry)))) (now (order .entry)) (now (links .entry)) depth node (Values.soughtOf (now (best .entry)) (now (number .entry)) measured) ⌝ }
+    ensures { λ r. ⌜ Values.soughtOf (now (best .exit)) (now (number .exit)) r ≡ Walk.rootWalk (Source.sourceSearch binary32 (now (triangles .entry)) (now (boxes .entry)) (Values.pointOf (now (probe .entry))) (Values.fourthOf (now (probe .entry)))) (now (order .entry)) (now (links .entry)) depth node (Values.soughtOf (now (best .entry)) (now (number .entry)) measured) ⌝ }
 {
     let here = links_of(links, node);
     if here.kind == 1 {
@@ -52,7 +52,7 @@ pub fn look(
             order,
             here.left,
             here.right,
-            asked,
+            probe,
             false,
             measured,
             best,
@@ -65,7 +65,7 @@ pub fn look(
         order,
         links,
         boxes,
-        asked,
+        probe,
         below,
         here.right,
         measured,
@@ -77,7 +77,7 @@ pub fn look(
         order,
         links,
         boxes,
-        asked,
+        probe,
         below,
         here.left,
         then,
@@ -92,7 +92,7 @@ pub fn look_if_entered(
     order: &[u32],
     links: &[u32],
     boxes: &[f32],
-    asked: &[f32; 4],
+    probe: &[f32; 4],
     depth: usize,
     node: usize,
     measured: usize,
@@ -100,15 +100,15 @@ pub fn look_if_entered(
     number: &mut u32,
 ) -> usize
     requires { ⌜ Safe.NodeSafe (now triangles) (now order) (now links) (now boxes) depth node measured ⌝ }
-    ensures { λ r. ⌜ Values.soughtOf (now (best .exit)) (now (number .exit)) r ≡ Walk.nodeWalk (Source.sourceSearch binary32 (now (triangles .entry)) (now (boxes .entry)) (Values.pointOf (now (asked .entry))) (Values.fourthOf (now (asked .entry)))) (now (order .entry)) (now (links .entry)) depth node (Values.soughtOf (now (best .entry)) (now (number .entry)) measured) ⌝ }
+    ensures { λ r. ⌜ Values.soughtOf (now (best .exit)) (now (number .exit)) r ≡ Walk.nodeWalk (Source.sourceSearch binary32 (now (triangles .entry)) (now (boxes .entry)) (Values.pointOf (now (probe .entry))) (Values.fourthOf (now (probe .entry)))) (now (order .entry)) (now (links .entry)) depth node (Values.soughtOf (now (best .entry)) (now (number .entry)) measured) ⌝ }
 {
-    if does_enter(boxes, node, asked) {
+    if does_enter(boxes, node, probe) {
         return look(
             triangles,
             order,
             links,
             boxes,
-            asked,
+            probe,
             depth,
             node,
             measured,
@@ -126,12 +126,12 @@ pub fn search(
     links: &[u32],
     boxes: &[f32],
     nodes: usize,
-    asked: Asked,
+    probe: Probe,
 ) -> Sought
     requires { ⌜ Calls.Searchable (now triangles) (now order) (now links) (now boxes) nodes ⌝ }
-    ensures { λ r. ⌜ Values.asSought r ≡ Source.sourceWalk binary32 (now (triangles .entry)) (now (order .entry)) (now (links .entry)) (now (boxes .entry)) nodes (Shapes.asPoint (asked .point)) (asked .limit) ⌝ }
+    ensures { λ r. ⌜ Values.asSought r ≡ Source.sourceWalk binary32 (now (triangles .entry)) (now (order .entry)) (now (links .entry)) (now (boxes .entry)) nodes (Shapes.asPoint (probe .point)) (probe .limit) ⌝ }
 {
-    let four = [asked.point.x, asked.point.y, asked.point.z, asked.limit];
+    let four = [probe.point.x, probe.point.y, probe.point.z, probe.limit];
     let mut best = [0.0, 0.0, 0.0, 1.0 / 0.0];
     let mut number: u32 = 0;
     let measured = look(

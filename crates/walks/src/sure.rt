@@ -11,10 +11,10 @@ ghost use Rattle.spec_search.specs.Sure as Sure;
 ghost use Rattle.spec_search.specs.Safe as Safe;
 ghost use Rattle.spec_search.specs.Calls as Calls;
 ghost use Rattle.walks.specs.Values as Values;
-use crate::answer::Asked;
+use crate::answer::Probe;
 use crate::answer::Sought;
 use crate::kept::answer_of;
-use crate::kept::is_passed;
+use crate::kept::is_skipped;
 use crate::kept::point_of;
 use crate::leaf::measure_leaf;
 use crate::links::links_of;
@@ -22,11 +22,11 @@ use lists::limits;
 use tree::nodes::node_box;
 
 // The squared distance from the point to a node's box.
-fn node_squared(boxes: &[f32], node: usize, asked: &[f32; 4]) -> f32
+fn node_squared(boxes: &[f32], node: usize, probe: &[f32; 4]) -> f32
     requires { ⌜ 6 * node + 6 ≤ length (now boxes) ⌝ }
-    ensures { λ r. ⌜ r ≡ Sure.nodeSquared binary32 (now (boxes .entry)) (Values.pointOf (now (asked .entry))) node ⌝ }
+    ensures { λ r. ⌜ r ≡ Sure.nodeSquared binary32 (now (boxes .entry)) (Values.pointOf (now (probe .entry))) node ⌝ }
 {
-    node_box(boxes, node).held_squared(point_of(asked))
+    node_box(boxes, node).held_squared(point_of(probe))
 }
 
 // Looks at a node whose box is at this squared distance. `depth` levels of branches remain to open. Answers how many triangles were measured in all.
@@ -35,7 +35,7 @@ pub fn node_walk(
     order: &&[u32],
     links: &&[u32],
     boxes: &&[f32],
-    asked: &[f32; 4],
+    probe: &[f32; 4],
     depth: usize,
     node: usize,
     squared: f32,
@@ -44,10 +44,10 @@ pub fn node_walk(
     number: &mut u32,
 ) -> usize
     requires { ⌜ Safe.NodeSafe (now (now triangles)) (now (now order)) (now (now links)) (now (now boxes)) depth node measured ⌝ }
-    requires { ⌜ squared ≡ Sure.nodeSquared binary32 (now (now boxes)) (Values.pointOf (now asked)) node ⌝ }
-    ensures { λ r. ⌜ Values.soughtOf (now (best .exit)) (now (number .exit)) r ≡ Walk.nodeWalk (Sure.sureSearch binary32 (now (now (triangles .entry))) (now (now (boxes .entry))) (Values.pointOf (now (asked .entry))) (Values.fourthOf (now (asked .entry)))) (now (now (order .entry))) (now (now (links .entry))) depth node (Values.soughtOf (now (best .entry)) (now (number .entry)) measured) ⌝ }
+    requires { ⌜ squared ≡ Sure.nodeSquared binary32 (now (now boxes)) (Values.pointOf (now probe)) node ⌝ }
+    ensures { λ r. ⌜ Values.soughtOf (now (best .exit)) (now (number .exit)) r ≡ Walk.nodeWalk (Sure.sureSearch binary32 (now (now (triangles .entry))) (now (now (boxes .entry))) (Values.pointOf (now (probe .entry))) (Values.fourthOf (now (probe .entry)))) (now (now (order .entry))) (now (now (links .entry))) depth node (Values.soughtOf (now (best .entry)) (now (number .entry)) measured) ⌝ }
 {
-    if is_passed(asked[3], squared, best, *number) {
+    if is_skipped(probe[3], squared, best, *number) {
         return measured;
     }
     let here = links_of(*links, node);
@@ -57,7 +57,7 @@ pub fn node_walk(
             *order,
             here.left,
             here.right,
-            asked,
+            probe,
             true,
             measured,
             best,
@@ -69,7 +69,7 @@ pub fn node_walk(
         order,
         links,
         boxes,
-        asked,
+        probe,
         depth - 1,
         here.left,
         here.right,
@@ -87,7 +87,7 @@ pub fn pair_walk(
     order: &&[u32],
     links: &&[u32],
     boxes: &&[f32],
-    asked: &[f32; 4],
+    probe: &[f32; 4],
     depth: usize,
     left: usize,
     right: usize,
@@ -96,18 +96,18 @@ pub fn pair_walk(
     number: &mut u32,
 ) -> usize
     requires { ⌜ Safe.PairSafe (now (now triangles)) (now (now order)) (now (now links)) (now (now boxes)) depth left right measured ⌝ }
-    ensures { λ r. ⌜ Values.soughtOf (now (best .exit)) (now (number .exit)) r ≡ Walk.pairWalk (Sure.sureSearch binary32 (now (now (triangles .entry))) (now (now (boxes .entry))) (Values.pointOf (now (asked .entry))) (Values.fourthOf (now (asked .entry)))) (now (now (order .entry))) (now (now (links .entry))) depth left right (Values.soughtOf (now (best .entry)) (now (number .entry)) measured) ⌝ }
+    ensures { λ r. ⌜ Values.soughtOf (now (best .exit)) (now (number .exit)) r ≡ Walk.pairWalk (Sure.sureSearch binary32 (now (now (triangles .entry))) (now (now (boxes .entry))) (Values.pointOf (now (probe .entry))) (Values.fourthOf (now (probe .entry)))) (now (now (order .entry))) (now (now (links .entry))) depth left right (Values.soughtOf (now (best .entry)) (now (number .entry)) measured) ⌝ }
 {
-    let to_left = node_squared(*boxes, left, asked);
-    let to_right = node_squared(*boxes, right, asked);
+    let to_left = node_squared(*boxes, left, probe);
+    let to_right = node_squared(*boxes, right, probe);
     if to_right < to_left {
-        if is_passed(asked[3], to_left, best, *number) {
+        if is_skipped(probe[3], to_left, best, *number) {
             return node_walk(
                 triangles,
                 order,
                 links,
                 boxes,
-                asked,
+                probe,
                 depth,
                 right,
                 to_right,
@@ -121,7 +121,7 @@ pub fn pair_walk(
             order,
             links,
             boxes,
-            asked,
+            probe,
             depth,
             right,
             to_right,
@@ -134,7 +134,7 @@ pub fn pair_walk(
             order,
             links,
             boxes,
-            asked,
+            probe,
             depth,
             left,
             to_left,
@@ -143,13 +143,13 @@ pub fn pair_walk(
             number,
         );
     }
-    if is_passed(asked[3], to_right, best, *number) {
+    if is_skipped(probe[3], to_right, best, *number) {
         return node_walk(
             triangles,
             order,
             links,
             boxes,
-            asked,
+            probe,
             depth,
             left,
             to_left,
@@ -163,7 +163,7 @@ pub fn pair_walk(
         order,
         links,
         boxes,
-        asked,
+        probe,
         depth,
         left,
         to_left,
@@ -176,7 +176,7 @@ pub fn pair_walk(
         order,
         links,
         boxes,
-        asked,
+        probe,
         depth,
         right,
         to_right,
@@ -193,13 +193,13 @@ pub fn search(
     links: &[u32],
     boxes: &[f32],
     nodes: usize,
-    asked: Asked,
+    probe: Probe,
 ) -> Sought
     requires { ⌜ Calls.Searchable (now triangles) (now order) (now links) (now boxes) nodes ⌝ }
-    ensures { λ r. ⌜ Values.asSought r ≡ Sure.sureWalk binary32 (now (triangles .entry)) (now (order .entry)) (now (links .entry)) (now (boxes .entry)) nodes (Shapes.asPoint (asked .point)) (asked .limit) ⌝ }
+    ensures { λ r. ⌜ Values.asSought r ≡ Sure.sureWalk binary32 (now (triangles .entry)) (now (order .entry)) (now (links .entry)) (now (boxes .entry)) nodes (Shapes.asPoint (probe .point)) (probe .limit) ⌝ }
 {
     let root = nodes - 1;
-    let four = [asked.point.x, asked.point.y, asked.point.z, asked.limit];
+    let four = [probe.point.x, probe.point.y, probe.point.z, probe.limit];
     let squared = node_squared(boxes, root, &four);
     let mut best = [0.0, 0.0, 0.0, 1.0 / 0.0];
     let mut number: u32 = 0;

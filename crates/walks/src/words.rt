@@ -13,7 +13,7 @@ use floats::bits_of;
 // Writes six words from index `at` on.
 fn put_six(out: &mut [u32], at: usize, a: u32, b: u32, c: u32, d: u32, e: u32, f: u32)
     requires { ⌜ at + 6 ≤ length (now out) ⌝ }
-    ensures { λ _. ⌜ now (out .exit) ≡ Tables.over at (a ∷ b ∷ c ∷ d ∷ e ∷ f ∷ []) (now (out .entry)) ⌝ }
+    ensures { λ _. ⌜ now (out .exit) ≡ Tables.overwrite at (a ∷ b ∷ c ∷ d ∷ e ∷ f ∷ []) (now (out .entry)) ⌝ }
 {
     out[at] = a;
     out[at + 1] = b;
@@ -26,7 +26,7 @@ fn put_six(out: &mut [u32], at: usize, a: u32, b: u32, c: u32, d: u32, e: u32, f
 // Writes 1, the triangle, and the bits of x, y, z and the squared distance from index `at` on, or six zeros for nothing.
 pub fn put_answer(out: &mut [u32], at: usize, answer: Answer)
     requires { ⌜ at + 6 ≤ length (now out) ⌝ }
-    ensures { λ _. ⌜ now (out .exit) ≡ Tables.over at (Answers.sixWords binary32 (Values.asAnswer answer)) (now (out .entry)) ⌝ }
+    ensures { λ _. ⌜ now (out .exit) ≡ Tables.overwrite at (Answers.sixWords binary32 (Values.asAnswer answer)) (now (out .entry)) ⌝ }
 {
     match answer {
         Answer::Nothing => put_six(out, at, 0, 0, 0, 0, 0, 0),

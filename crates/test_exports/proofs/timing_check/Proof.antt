@@ -1,6 +1,6 @@
 -- `test_exports::timing_check` meets its contract: the number says whether the check passed.
 use mathlib.Core.Path.{ap, _∙_}
-use Rattle.test_exports.specs.Told.{onePassed}
+use Rattle.test_exports.specs.Answered.{onePassed}
 use borrow.Author.Needs.{needs}
 use Rattle.test_exports.proofs.timing_check.Statement.{statement}
 use Rattle.test_exports.proofs.timing_check.Tie as tie

@@ -1,6 +1,6 @@
 -- `test_exports::timing_depth_read` meets its contract: the number is the depth that the call answers.
 use mathlib.Core.Path.{ap, _∙_}
-use Rattle.test_exports.specs.Told.{depthRead}
+use Rattle.test_exports.specs.Answered.{depthRead}
 use borrow.Author.Needs.{needs}
 use Rattle.test_exports.proofs.timing_depth_read.Statement.{statement}
 use Rattle.test_exports.proofs.timing_depth_read.Tie as tie

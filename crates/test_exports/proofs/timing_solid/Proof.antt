@@ -3,7 +3,7 @@ use mathlib.Core.Path.{_∙_}
 use lib.Ieee.{ofBits, div}
 use borrow.Author.Needs.{needs}
 use borrow.Author.Tests.{eq-eqb, ne-eqb}
-use Rattle.test_exports.specs.Told.{angleOfOne}
+use Rattle.test_exports.specs.Answered.{angleOfOne}
 use Rattle.test_exports.proofs.Branches.{when, unless}
 use Rattle.test_exports.proofs.timing_solid.Statement.{statement}
 use Rattle.test_exports.proofs.timing_solid.Tie as tie

@@ -7,7 +7,7 @@ use borrow.Author.Needs.{needs}
 use Rattle.spec_numbers.specs.Values.{zero}
 use Rattle.spec_numbers.proofs.Tests.{passed}
 use Rattle.spec_angles.specs.Angle.{askable, angleOrNan}
-use Rattle.spec_angles.proofs.Asked.{asked}
+use Rattle.spec_angles.proofs.Needs.{askable-is}
 use Rattle.angles.proofs.arc_tangent.angle_by.Statement.{statement}
 use Rattle.angles.proofs.arc_tangent.angle_by.Tie as tie
 
@@ -28,7 +28,7 @@ arc-tangent-requires c κs =
     let start = c .before .before .before in
     let n = start .args .n in
     let d = start .args .d in
-    (start .pre, asked n d (passed (tested n d _ _ true (c .before .before .is-finite .ensures) (c .before .is-finite2 .ensures) (c .if1 .taken))))
+    (start .pre, askable-is n d (passed (tested n d _ _ true (c .before .before .is-finite .ensures) (c .before .is-finite2 .ensures) (c .if1 .taken))))
 
 returns : tie.Need-returns
 unfolding ofBits angleOrNan

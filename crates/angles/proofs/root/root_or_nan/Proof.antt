@@ -7,7 +7,7 @@ use borrow.Author.Needs.{needs}
 use Rattle.spec_numbers.specs.Values.{zero}
 use Rattle.spec_numbers.proofs.Tests.{passed}
 use Rattle.spec_angles.specs.Root.{rootable, rootOrNan}
-use Rattle.spec_angles.proofs.Asked.{rootable-is}
+use Rattle.spec_angles.proofs.Needs.{rootable-is}
 use Rattle.angles.proofs.root.root_or_nan.Statement.{statement}
 use Rattle.angles.proofs.root.root_or_nan.Tie as tie
 

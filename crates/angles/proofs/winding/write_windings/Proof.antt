@@ -5,12 +5,12 @@ use native.Mathlib.Omega.{arith}
 use lib.Ieee.{binary32}
 use borrow.Author.Needs.{needs}
 use Rattle.spec_lists.proofs.Reading.{point-inside}
-use Rattle.spec_angles.proofs.Windings.{Wound, fill-start, fill-more, fill-end}
+use Rattle.spec_angles.proofs.Windings.{WindingsPut, fill-start, fill-more, fill-end}
 use Rattle.angles.proofs.winding.write_windings.Statement.{statement}
 use Rattle.angles.proofs.winding.write_windings.Tie as tie
 
 abbrev Inv-loop : tie.InvT-loop
-Inv-loop triangles points out₀ count table k₀ out k = Wound binary32 triangles points out₀ count out k
+Inv-loop triangles points out₀ count table k₀ out k = WindingsPut binary32 triangles points out₀ count out k
 
 abbrev μ-loop : tie.MeasureT-loop
 μ-loop triangles points out₀ count table k₀ out k = count - k

@@ -2,7 +2,7 @@
 use mathlib.Core.Path.{sym}
 use native.Mathlib.Omega.{arith}
 use lib.Ieee.{binary32}
-use Rattle.spec_build.proofs.Building.{bounds-asks, order-asks, centres-asks, count-within, front-long, grow-asks, root-few, build-gives}
+use Rattle.spec_build.proofs.Building.{bounds-needs, order-needs, centres-needs, count-within, front-long, grow-needs, root-few, build-gives}
 use borrow.Author.Needs.{needs}
 use Rattle.build.proofs.calls.build_with.Statement.{statement}
 use Rattle.build.proofs.calls.build_with.Tie as tie
@@ -15,7 +15,7 @@ put-bounds-requires c κs =
     let known4 = c .before .before .before .before in
     let known = known4 .before .before .before .before in
     let start = known .before in
-    bounds-asks binary32 _ _ _ _ _ _ _ _ (start .pre) (λ i k. known .shared-slice-known .given i) _ (c .before .triangle-count .ensures)
+    bounds-needs binary32 _ _ _ _ _ _ _ _ (start .pre) (λ i k. known .shared-slice-known .given i) _ (c .before .triangle-count .ensures)
 
 put-centres-requires : tie.Need-put-centres-requires
 put-centres-requires c κs =
@@ -24,7 +24,7 @@ put-centres-requires c κs =
     let known4 = after-triangle-count .before .before .before in
     let known = known4 .before .before .before .before in
     let start = known .before in
-    centres-asks binary32 _ _ _ _ _ _ _ _ (start .pre) (λ i k. known .shared-slice-known .given i) _ (after-triangle-count .triangle-count .ensures) _ (after-put-bounds .put-bounds .ensures)
+    centres-needs binary32 _ _ _ _ _ _ _ _ (start .pre) (λ i k. known .shared-slice-known .given i) _ (after-triangle-count .triangle-count .ensures) _ (after-put-bounds .put-bounds .ensures)
 
 put-order-requires : tie.Need-put-order-requires
 put-order-requires c κs =
@@ -34,7 +34,7 @@ put-order-requires c κs =
     let known4 = after-triangle-count .before .before .before in
     let known = known4 .before .before .before .before in
     let start = known .before in
-    order-asks binary32 _ _ _ _ _ _ _ _ (start .pre) (λ i k. known .shared-slice-known .given i) _ (after-triangle-count .triangle-count .ensures)
+    order-needs binary32 _ _ _ _ _ _ _ _ (start .pre) (λ i k. known .shared-slice-known .given i) _ (after-triangle-count .triangle-count .ensures)
 
 levels-below-requires : tie.Need-levels-below-requires
 levels-below-requires c κs = search needs
@@ -77,7 +77,7 @@ grow-requires c κs =
     let known4 = after-triangle-count .before .before .before in
     let known = known4 .before .before .before .before in
     let start = known .before in
-    grow-asks binary32 _ _ _ _ _ _ _ _ (start .pre) (λ i k. known .shared-slice-known .given i) _ (after-triangle-count .triangle-count .ensures) _ (after-put-bounds .put-bounds .ensures) _ (after-put-centres .put-centres .ensures) _ (after-put-order .put-order .ensures) _ (after-levels-below .levels-below .ensures)
+    grow-needs binary32 _ _ _ _ _ _ _ _ (start .pre) (λ i k. known .shared-slice-known .given i) _ (after-triangle-count .triangle-count .ensures) _ (after-put-bounds .put-bounds .ensures) _ (after-put-centres .put-centres .ensures) _ (after-put-order .put-order .ensures) _ (after-levels-below .levels-below .ensures)
 
 add-t24 : tie.Need-add-t24
 add-t24 c =

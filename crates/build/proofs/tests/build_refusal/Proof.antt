@@ -5,7 +5,7 @@ use native.Mathlib.Omega.{arith}
 use Rattle.spec_lists.specs.Refusals.{roomRefusal}
 use Rattle.spec_lists.proofs.Verdicts.{ends, or-test, row-stops, row-goes-on, row-passed}
 use Rattle.spec_lists.proofs.Passed.{triangles-passed}
-use Rattle.spec_build.specs.Build.{mostNodes, buildRefusal}
+use Rattle.spec_build.specs.Build.{maxNodes, buildRefusal}
 use borrow.Author.Needs.{needs}
 use Rattle.build.proofs.tests.build_refusal.Statement.{statement}
 use Rattle.build.proofs.tests.build_refusal.Tie as tie
@@ -32,16 +32,16 @@ returns c =
 triangle-count-requires : tie.Need-triangle-count-requires
 triangle-count-requires c κs = search needs
 
-mul-most-nodes : tie.Need-mul-most-nodes
-mul-most-nodes c =
+mul-max-nodes : tie.Need-mul-max-nodes
+mul-max-nodes c =
     let counted = c in
     let tested = counted .before in
     let early = tested .before .before in
     let good = triangles-passed _ (row-passed _ _ _ (or-test _ _ _ _ _ (ends _ _ (early .before .before .triangles-refusal .ensures)) (early .before .settings-refusal .ensures) (early .or .ensures)) (tested .before .refuses .ensures) (tested .if1 .left) .0) in
     omega (arith, good .few, counted .triangle-count .ensures)
 
-sub-most-nodes : tie.Need-sub-most-nodes
-sub-most-nodes c =
+sub-max-nodes : tie.Need-sub-max-nodes
+sub-max-nodes c =
     let counted = c in
     let tested = counted .before in
     let early = tested .before .before in
@@ -91,9 +91,9 @@ returns-2 c =
     (tested .before .refuses .ensures) (tested .if1 .left)
     (or-test _ _ _ _ _ (or-test _ _ _ _ _
     (ends _ _ (first .room-refusal .ensures ∙ ap (roomRefusal (a .order)) (counted .triangle-count .ensures)))
-    (c .before .before .before .room-refusal2 .ensures ∙ ap (λ (n : ℕ). roomRefusal (a .links) (3 * mostNodes n)) (counted .triangle-count .ensures))
+    (c .before .before .before .room-refusal2 .ensures ∙ ap (λ (n : ℕ). roomRefusal (a .links) (3 * maxNodes n)) (counted .triangle-count .ensures))
     (c .before .before .or2 .ensures))
-    (c .before .room-refusal3 .ensures ∙ ap (λ (n : ℕ). roomRefusal (a .boxes) (6 * mostNodes n)) (counted .triangle-count .ensures))
+    (c .before .room-refusal3 .ensures ∙ ap (λ (n : ℕ). roomRefusal (a .boxes) (6 * maxNodes n)) (counted .triangle-count .ensures))
     (c .or3 .ensures))
 
 pub build-refusal-spec : {M : Type 1} → statement M
@@ -106,8 +106,8 @@ build-refusal-spec =
     refuses-requires
     returns
     triangle-count-requires
-    mul-most-nodes
-    sub-most-nodes
+    mul-max-nodes
+    sub-max-nodes
     room-refusal-requires
     mul-room-refusal
     room-refusal-requires-2

@@ -33,8 +33,8 @@ put-refused-requires-2 c κs = search needs
 enum-known-count : tie.Need-enum-known-count
 enum-known-count c = search needs
 
-print-laid-requires : tie.Need-print-laid-requires
-print-laid-requires c κs =
+print-sized-requires : tie.Need-print-sized-requires
+print-sized-requires c κs =
     let at-count = c .before .before in
     let after-gauge-layout = at-count .before .before in
     let chosen = after-gauge-layout .before in
@@ -57,11 +57,11 @@ same-length-3 c = search needs
 
 returns-3 : tie.Need-returns-3
 returns-3 c =
-    let after-print-laid = c .before .before in
-    let at-count = after-print-laid .before .before .before in
+    let after-print-sized = c .before .before in
+    let at-count = after-print-sized .before .before .before in
     let after-gauge-layout = at-count .before .before in
     let chosen = after-gauge-layout .before in
-    put-same (right-printed _ (chosen .if1 .left) _ _ (sym (after-gauge-layout .gauge-layout .ensures) ∙ ap gaugeLaid (at-count .count .given .1))) (after-print-laid .print-laid .ensures)
+    put-same (right-printed _ (chosen .if1 .left) _ _ (sym (after-gauge-layout .gauge-layout .ensures) ∙ ap gaugeLaid (at-count .count .given .1))) (after-print-sized .print-sized .ensures)
 
 pub print-spec : {M : Type 1} → statement M
 print-spec =
@@ -74,7 +74,7 @@ print-spec =
     enum-known-at
     put-refused-requires-2
     enum-known-count
-    print-laid-requires
+    print-sized-requires
     same-length-2
     returns-2
     same-length-3

@@ -5,7 +5,7 @@ use native.Mathlib.Omega.{arith}
 use lib.Seq.{length-take-le}
 use Rattle.spec_tables.proofs.Tables.{put-same, put-then, put-long}
 use Rattle.lists.specs.Values.{asSettings}
-use Rattle.spec_gauge.specs.Printed.{Asked}
+use Rattle.spec_gauge.specs.Printed.{Request}
 use Rattle.spec_gauge.proofs.Printed.{all-passed}
 use Rattle.spec_gauge.proofs.Runs.{is-built, tree-line, query-passes}
 use borrow.Author.Needs.{needs}
@@ -37,8 +37,8 @@ returns c =
     let at-order = after-build .before .before .before in
     let start = at-order .before .before .before .before in
     let a = start .args in
-    let asked : Asked = record { settings = asSettings (a .settings); triangles = now (a .triangles); points = now (a .points); distance = a .distance } in
-    absurd (is-built asked (all-passed asked (start .pre .0)) _ _ _ (start .pre .1 .triangles-few) refl refl refl _ _ _ _ _ (rw (c .enum-told .given .1) at (after-build .build .ensures)))
+    let request : Request = record { settings = asSettings (a .settings); triangles = now (a .triangles); points = now (a .points); distance = a .distance } in
+    absurd (is-built request (all-passed request (start .pre .0)) _ _ _ (start .pre .1 .triangles-few) refl refl refl _ _ _ _ _ (rw (c .enum-told .given .1) at (after-build .build .ensures)))
 
 triangle-count-requires : tie.Need-triangle-count-requires
 triangle-count-requires c κs = search needs
@@ -76,8 +76,8 @@ put-answers-requires c κs =
     let at-order = after-build .before .before .before in
     let start = at-order .before .before .before .before in
     let a = start .args in
-    let asked : Asked = record { settings = asSettings (a .settings); triangles = now (a .triangles); points = now (a .points); distance = a .distance } in (
-      query-passes asked (all-passed asked (start .pre .0)) _ _ _ (start .pre .1 .triangles-few) refl refl refl _ _ _ _ _ (rw (at-nodes .nodes .given .1) at (after-build .build .ensures)) _ (after-triangle-count .triangle-count .ensures) (start .pre .1 .points-few),
+    let request : Request = record { settings = asSettings (a .settings); triangles = now (a .triangles); points = now (a .points); distance = a .distance } in (
+      query-passes request (all-passed request (start .pre .0)) _ _ _ (start .pre .1 .triangles-few) refl refl refl _ _ _ _ _ (rw (at-nodes .nodes .given .1) at (after-build .build .ensures)) _ (after-triangle-count .triangle-count .ensures) (start .pre .1 .points-few),
       omega (arith, after-put-counts .put-counts .ensures .1, put-long (after-put-counts .put-counts .ensures .0), start .pre .1 .room, start .pre .1 .points-few),
     )
 
@@ -96,9 +96,9 @@ returns-2 c =
     let at-order = after-build .before .before .before in
     let start = at-order .before .before .before .before in
     let a = start .args in
-    let asked : Asked = record { settings = asSettings (a .settings); triangles = now (a .triangles); points = now (a .points); distance = a .distance } in
+    let request : Request = record { settings = asSettings (a .settings); triangles = now (a .triangles); points = now (a .points); distance = a .distance } in
     put-then
-    (put-same (tree-line asked (all-passed asked (start .pre .0)) _ _ _ (start .pre .1 .triangles-few) refl refl refl _ _ _ _ _ (rw (at-nodes .nodes .given .1) at (after-build .build .ensures)) _ (after-triangle-count .triangle-count .ensures)) (after-put-counts .put-counts .ensures .0))
+    (put-same (tree-line request (all-passed request (start .pre .0)) _ _ _ (start .pre .1 .triangles-few) refl refl refl _ _ _ _ _ (rw (at-nodes .nodes .given .1) at (after-build .build .ensures)) _ (after-triangle-count .triangle-count .ensures)) (after-put-counts .put-counts .ensures .0))
     (after-put-answers .put-answers .ensures)
 
 pub put-run-spec : {M : Type 1} → statement M

@@ -4,7 +4,7 @@ use native.Mathlib.Omega.{arith}
 use borrow.Author.Needs.{needs}
 use lib.Ieee.{binary32}
 use Rattle.splits.specs.Values.{asSplit}
-use Rattle.spec_build.proofs.Growing.{leaf-asks, limit-gives, some-left, try-asks, uncut-asks, uncut-gives, cut-within, cut-ends, left-long, left-asks, cut-within-now, left-root-few, right-asks, branch-asks, order-long, branch-gives}
+use Rattle.spec_build.proofs.Growing.{leaf-needs, limit-gives, some-remaining, try-needs, uncut-needs, uncut-gives, cut-within, cut-ends, left-long, left-needs, cut-within-now, left-root-few, right-needs, branch-needs, order-long, branch-gives}
 use Prim.Native.Nat.{ℕ, _<_}
 use borrow.Fn.Kinds.{In}
 use borrow.Fn.PlainCycle.{Measures, is, falls, and}
@@ -13,7 +13,7 @@ use Rattle.grow.proofs.grow.grow.Kinds as grow-kinds
 use Rattle.grow.proofs.grow.+grow.Lts-grow as grow-lts
 use Rattle.grow.proofs.nodes.put_branch.Reads as put-branch-reads
 use Rattle.grow.proofs.nodes.put_leaf.Reads as put-leaf-reads
-use Rattle.grow.proofs.tries.try_part.Reads as try-part-reads
+use Rattle.grow.proofs.tries.try_slice.Reads as try-slice-reads
 use Rattle.grow.proofs.grow.+grow.{statement}
 use Rattle.grow.proofs.grow.+grow.Tie.{close}
 
@@ -27,14 +27,14 @@ abbrev grow-below : ℕ → In 6 grow-kinds.ps
 grow-below t = and 6 grow-kinds.ps (falls 6 grow-kinds.ps _<_ μ-grow t) grow.Pre
 
 abbrev calls : ℕ → grow-lts.Claims
-calls t = (put-leaf-reads.Asked, put-leaf-reads.Learnt, try-part-reads.Asked, try-part-reads.Learnt, grow-below t, grow.Post, put-branch-reads.Asked, put-branch-reads.Learnt)
+calls t = (put-leaf-reads.Asked, put-leaf-reads.Learnt, try-slice-reads.Asked, try-slice-reads.Learnt, grow-below t, grow.Post, put-branch-reads.Asked, put-branch-reads.Learnt)
 
 grow-put-leaf-requires : (t : ℕ) → grow-lts.Need-put-leaf-requires (calls t) (grow-at t) grow.Post
 grow-put-leaf-requires t c κs =
     let chosen = c .before .before .before in
     let known2 = chosen .before .before .before in
     let start = known2 .before .before .before .before in
-    leaf-asks binary32 _ (start .args .centres .now) (start .args .strategy) _ (start .pre .1)
+    leaf-needs binary32 _ (start .args .centres .now) (start .args .strategy) _ (start .pre .1)
 
 grow-same-length : (t : ℕ) → grow-lts.Need-same-length (calls t) (grow-at t) grow.Post
 grow-same-length t c = search needs
@@ -53,12 +53,12 @@ grow-returns t c =
     let start = known2 .before .before .before .before in
     limit-gives binary32 _ _ _ _ (start .pre .1) _ _ _ _ _ (chosen .if1 .taken) (after-put-leaf .put-leaf .ensures)
 
-grow-try-part-requires : (t : ℕ) → grow-lts.Need-try-part-requires (calls t) (grow-at t) grow.Post
-grow-try-part-requires t c κs =
+grow-try-slice-requires : (t : ℕ) → grow-lts.Need-try-slice-requires (calls t) (grow-at t) grow.Post
+grow-try-slice-requires t c κs =
     let chosen = c .before .before in
     let known2 = chosen .before .before .before in
     let start = known2 .before .before .before .before in
-    try-asks binary32 _ _ (start .args .strategy) _ (start .pre .1) (chosen .if1 .left)
+    try-needs binary32 _ _ (start .args .strategy) _ (start .pre .1) (chosen .if1 .left)
 
 grow-enum-known-cut : (t : ℕ) → grow-lts.Need-enum-known-cut (calls t) (grow-at t) grow.Post
 grow-enum-known-cut t c = search needs
@@ -70,11 +70,11 @@ grow-put-leaf-requires-2 : (t : ℕ) → grow-lts.Need-put-leaf-requires-2 (call
 grow-put-leaf-requires-2 t c κs =
     let at-enum-told = c .before .before .before in
     let at-scratch = at-enum-told .before .before .before in
-    let after-try-part = at-scratch .before .before .before in
-    let chosen = after-try-part .before .before .before in
+    let after-try-slice = at-scratch .before .before .before in
+    let chosen = after-try-slice .before .before .before in
     let known2 = chosen .before .before .before in
     let start = known2 .before .before .before .before in
-    uncut-asks binary32 _ _ (start .args .strategy) _ (start .pre .1) (chosen .if1 .left) _ (asSplit (after-try-part .try-part .result)) (after-try-part .try-part .ensures)
+    uncut-needs binary32 _ _ (start .args .strategy) _ (start .pre .1) (chosen .if1 .left) _ (asSplit (after-try-slice .try-slice .result)) (after-try-slice .try-slice .ensures)
 
 grow-same-length-4 : (t : ℕ) → grow-lts.Need-same-length-4 (calls t) (grow-at t) grow.Post
 grow-same-length-4 t c = search needs
@@ -93,51 +93,51 @@ grow-returns-2 t c =
     let after-put-leaf2 = c .before .before .before .before in
     let at-enum-told = after-put-leaf2 .before .before .before .before in
     let at-scratch = at-enum-told .before .before .before in
-    let after-try-part = at-scratch .before .before .before in
-    let chosen = after-try-part .before .before .before in
+    let after-try-slice = at-scratch .before .before .before in
+    let chosen = after-try-slice .before .before .before in
     let known2 = chosen .before .before .before in
     let start = known2 .before .before .before .before in
-    uncut-gives binary32 _ _ _ _ (start .pre .1) (chosen .if1 .left) _ (asSplit (after-try-part .try-part .result)) (after-try-part .try-part .ensures) _ _ _ _ _ (ap asSplit (at-enum-told .enum-told .given .1)) (after-put-leaf2 .put-leaf2 .ensures)
+    uncut-gives binary32 _ _ _ _ (start .pre .1) (chosen .if1 .left) _ (asSplit (after-try-slice .try-slice .result)) (after-try-slice .try-slice .ensures) _ _ _ _ _ (ap asSplit (at-enum-told .enum-told .given .1)) (after-put-leaf2 .put-leaf2 .ensures)
 
 grow-sub-grow : (t : ℕ) → grow-lts.Need-sub-grow (calls t) (grow-at t) grow.Post
 grow-sub-grow t c =
     let at-scratch = c .before .before .before .before in
-    let after-try-part = at-scratch .before .before .before in
-    let chosen = after-try-part .before .before .before in
+    let after-try-slice = at-scratch .before .before .before in
+    let chosen = after-try-slice .before .before .before in
     let known2 = chosen .before .before .before in
     let start = known2 .before .before .before .before in
-    some-left binary32 _ _ (start .args .strategy) _ (start .pre .1) (chosen .if1 .left)
+    some-remaining binary32 _ _ (start .args .strategy) _ (start .pre .1) (chosen .if1 .left)
 
 grow-slice-relend-prefix-grow : (t : ℕ) → grow-lts.Need-slice-relend-prefix-grow (calls t) (grow-at t) grow.Post
 grow-slice-relend-prefix-grow t c =
     let at-scratch = c .before .before .before .before in
-    let after-try-part = at-scratch .before .before .before in
-    let chosen = after-try-part .before .before .before in
+    let after-try-slice = at-scratch .before .before .before in
+    let chosen = after-try-slice .before .before .before in
     let known2 = chosen .before .before .before in
     let start = known2 .before .before .before .before in
-    omega (arith, cut-within binary32 _ _ (start .args .strategy) _ (start .pre .1) (chosen .if1 .left) _ (asSplit (after-try-part .try-part .result)) (after-try-part .try-part .ensures) _ (ap asSplit (c .before .cut .given .1)))
+    omega (arith, cut-within binary32 _ _ (start .args .strategy) _ (start .pre .1) (chosen .if1 .left) _ (asSplit (after-try-slice .try-slice .result)) (after-try-slice .try-slice .ensures) _ (ap asSplit (c .before .cut .given .1)))
 
 grow-slice-aggregate-grow : (t : ℕ) → grow-lts.Need-slice-aggregate-grow (calls t) (grow-at t) grow.Post
 grow-slice-aggregate-grow t c =
     let at-cut = c .before .before in
     let at-scratch = at-cut .before .before .before in
-    let after-try-part = at-scratch .before .before .before in
-    let chosen = after-try-part .before .before .before in
+    let after-try-slice = at-scratch .before .before .before in
+    let chosen = after-try-slice .before .before .before in
     let known2 = chosen .before .before .before in
     let start = known2 .before .before .before .before in
-    sym (left-long binary32 _ _ (start .args .strategy) _ (start .pre .1) (chosen .if1 .left) _ (asSplit (after-try-part .try-part .result)) (after-try-part .try-part .ensures) _ (ap asSplit (at-cut .cut .given .1)))
+    sym (left-long binary32 _ _ (start .args .strategy) _ (start .pre .1) (chosen .if1 .left) _ (asSplit (after-try-slice .try-slice .result)) (after-try-slice .try-slice .ensures) _ (ap asSplit (at-cut .cut .given .1)))
 
 grow-grow-requires : (t : ℕ) → grow-lts.Need-grow-requires (calls t) (grow-at t) grow.Post
 grow-grow-requires t c κs =
     let at-grow-arg2 = c .before .before in
     let at-cut = at-grow-arg2 .before .before .before in
     let at-scratch = at-cut .before .before .before in
-    let after-try-part = at-scratch .before .before .before in
-    let chosen = after-try-part .before .before .before in
+    let after-try-slice = at-scratch .before .before .before in
+    let chosen = after-try-slice .before .before .before in
     let known2 = chosen .before .before .before in
     let start = known2 .before .before .before .before in (
-      omega (arith, start .pre .0, some-left binary32 _ _ (start .args .strategy) _ (start .pre .1) (chosen .if1 .left)),
-      left-asks binary32 _ _ (start .args .strategy) _ (start .pre .1) (chosen .if1 .left) _ (asSplit (after-try-part .try-part .result)) (after-try-part .try-part .ensures) _ (ap asSplit (at-cut .cut .given .1)) _ (after-try-part .try-part .kept .1 .1 .1 .1 .0),
+      omega (arith, start .pre .0, some-remaining binary32 _ _ (start .args .strategy) _ (start .pre .1) (chosen .if1 .left)),
+      left-needs binary32 _ _ (start .args .strategy) _ (start .pre .1) (chosen .if1 .left) _ (asSplit (after-try-slice .try-slice .result)) (after-try-slice .try-slice .ensures) _ (ap asSplit (at-cut .cut .given .1)) _ (after-try-slice .try-slice .kept .1 .1 .1 .1 .0),
     )
 
 grow-sub-grow-2 : (t : ℕ) → grow-lts.Need-sub-grow-2 (calls t) (grow-at t) grow.Post
@@ -146,11 +146,11 @@ grow-sub-grow-2 t c =
     let after-grow = known12 .before .before .before .before in
     let at-grow-arg = after-grow .before .before .before .before in
     let known8 = at-grow-arg .before .before .before .before in
-    let after-try-part = known8 .before .before .before .before in
-    let chosen = after-try-part .before .before .before in
+    let after-try-slice = known8 .before .before .before .before in
+    let chosen = after-try-slice .before .before .before in
     let known2 = chosen .before .before .before in
     let start = known2 .before .before .before .before in
-    some-left binary32 _ _ (start .args .strategy) _ (start .pre .1) (chosen .if1 .left)
+    some-remaining binary32 _ _ (start .args .strategy) _ (start .pre .1) (chosen .if1 .left)
 
 grow-mul-grow : (t : ℕ) → grow-lts.Need-mul-grow (calls t) (grow-at t) grow.Post
 grow-mul-grow t c =
@@ -159,11 +159,11 @@ grow-mul-grow t c =
     let at-grow-arg3 = at-part2 .before .before .before in
     let at-cut = at-grow-arg3 .before .before .before .before in
     let at-scratch = at-cut .before .before .before in
-    let after-try-part = at-scratch .before .before .before in
-    let chosen = after-try-part .before .before .before in
+    let after-try-slice = at-scratch .before .before .before in
+    let chosen = after-try-slice .before .before .before in
     let known2 = chosen .before .before .before in
     let start = known2 .before .before .before .before in
-    omega (arith, cut-ends binary32 _ _ (start .args .strategy) _ (start .pre .1) (chosen .if1 .left) _ (asSplit (after-try-part .try-part .result)) (after-try-part .try-part .ensures) _ (ap asSplit (at-cut .cut .given .1)))
+    omega (arith, cut-ends binary32 _ _ (start .args .strategy) _ (start .pre .1) (chosen .if1 .left) _ (asSplit (after-try-slice .try-slice .result)) (after-try-slice .try-slice .ensures) _ (ap asSplit (at-cut .cut .given .1)))
 
 grow-sub-grow-3 : (t : ℕ) → grow-lts.Need-sub-grow-3 (calls t) (grow-at t) grow.Post
 grow-sub-grow-3 t c =
@@ -172,11 +172,11 @@ grow-sub-grow-3 t c =
     let at-grow-arg2 = after-grow .before .before .before in
     let at-cut = at-grow-arg2 .before .before .before in
     let at-scratch = at-cut .before .before .before in
-    let after-try-part = at-scratch .before .before .before in
-    let chosen = after-try-part .before .before .before in
+    let after-try-slice = at-scratch .before .before .before in
+    let chosen = after-try-slice .before .before .before in
     let known2 = chosen .before .before .before in
     let start = known2 .before .before .before .before in
-    cut-within-now binary32 _ _ (start .args .strategy) _ (start .pre .1) (chosen .if1 .left) _ (asSplit (after-try-part .try-part .result)) (after-try-part .try-part .ensures) _ (ap asSplit (at-cut .cut .given .1)) _ _ _ _ _ _ (after-grow .grow .ensures)
+    cut-within-now binary32 _ _ (start .args .strategy) _ (start .pre .1) (chosen .if1 .left) _ (asSplit (after-try-slice .try-slice .result)) (after-try-slice .try-slice .ensures) _ (ap asSplit (at-cut .cut .given .1)) _ _ _ _ _ _ (after-grow .grow .ensures)
 
 grow-part-grow-start : (t : ℕ) → grow-lts.Need-part-grow-start (calls t) (grow-at t) grow.Post
 grow-part-grow-start t c =
@@ -185,11 +185,11 @@ grow-part-grow-start t c =
     let at-grow-arg2 = after-grow .before .before .before in
     let at-cut = at-grow-arg2 .before .before .before in
     let at-scratch = at-cut .before .before .before in
-    let after-try-part = at-scratch .before .before .before in
-    let chosen = after-try-part .before .before .before in
+    let after-try-slice = at-scratch .before .before .before in
+    let chosen = after-try-slice .before .before .before in
     let known2 = chosen .before .before .before in
     let start = known2 .before .before .before .before in
-    cut-within-now binary32 _ _ (start .args .strategy) _ (start .pre .1) (chosen .if1 .left) _ (asSplit (after-try-part .try-part .result)) (after-try-part .try-part .ensures) _ (ap asSplit (at-cut .cut .given .1)) _ _ _ _ _ _ (after-grow .grow .ensures)
+    cut-within-now binary32 _ _ (start .args .strategy) _ (start .pre .1) (chosen .if1 .left) _ (asSplit (after-try-slice .try-slice .result)) (after-try-slice .try-slice .ensures) _ (ap asSplit (at-cut .cut .given .1)) _ _ _ _ _ _ (after-grow .grow .ensures)
 
 grow-part-grow-end : (t : ℕ) → grow-lts.Need-part-grow-end (calls t) (grow-at t) grow.Post
 grow-part-grow-end t c = search needs
@@ -201,11 +201,11 @@ grow-add-grow t c =
     let at-grow-arg3 = known11 .before .before .before .before in
     let at-cut = at-grow-arg3 .before .before .before .before in
     let at-scratch = at-cut .before .before .before in
-    let after-try-part = at-scratch .before .before .before in
-    let chosen = after-try-part .before .before .before in
+    let after-try-slice = at-scratch .before .before .before in
+    let chosen = after-try-slice .before .before .before in
     let known2 = chosen .before .before .before in
     let start = known2 .before .before .before .before in
-    omega (arith, cut-ends binary32 _ _ (start .args .strategy) _ (start .pre .1) (chosen .if1 .left) _ (asSplit (after-try-part .try-part .result)) (after-try-part .try-part .ensures) _ (ap asSplit (at-cut .cut .given .1)))
+    omega (arith, cut-ends binary32 _ _ (start .args .strategy) _ (start .pre .1) (chosen .if1 .left) _ (asSplit (after-try-slice .try-slice .result)) (after-try-slice .try-slice .ensures) _ (ap asSplit (at-cut .cut .given .1)))
 
 grow-add-grow-2 : (t : ℕ) → grow-lts.Need-add-grow-2 (calls t) (grow-at t) grow.Post
 grow-add-grow-2 t c =
@@ -216,11 +216,11 @@ grow-add-grow-2 t c =
     let at-grow-arg2 = after-grow .before .before .before in
     let at-cut = at-grow-arg2 .before .before .before in
     let at-scratch = at-cut .before .before .before in
-    let after-try-part = at-scratch .before .before .before in
-    let chosen = after-try-part .before .before .before in
+    let after-try-slice = at-scratch .before .before .before in
+    let chosen = after-try-slice .before .before .before in
     let known2 = chosen .before .before .before in
     let start = known2 .before .before .before .before in
-    omega (arith, left-root-few binary32 _ _ (start .args .strategy) _ (start .pre .1) (chosen .if1 .left) _ (asSplit (after-try-part .try-part .result)) (after-try-part .try-part .ensures) _ (ap asSplit (at-cut .cut .given .1)) _ _ _ _ _ _ (after-grow .grow .ensures))
+    omega (arith, left-root-few binary32 _ _ (start .args .strategy) _ (start .pre .1) (chosen .if1 .left) _ (asSplit (after-try-slice .try-slice .result)) (after-try-slice .try-slice .ensures) _ (ap asSplit (at-cut .cut .given .1)) _ _ _ _ _ _ (after-grow .grow .ensures))
 
 grow-grow-requires-2 : (t : ℕ) → grow-lts.Need-grow-requires-2 (calls t) (grow-at t) grow.Post
 grow-grow-requires-2 t c κs =
@@ -231,12 +231,12 @@ grow-grow-requires-2 t c κs =
     let at-grow-arg2 = after-grow .before .before .before in
     let at-cut = at-grow-arg2 .before .before .before in
     let at-scratch = at-cut .before .before .before in
-    let after-try-part = at-scratch .before .before .before in
-    let chosen = after-try-part .before .before .before in
+    let after-try-slice = at-scratch .before .before .before in
+    let chosen = after-try-slice .before .before .before in
     let known2 = chosen .before .before .before in
     let start = known2 .before .before .before .before in (
-      omega (arith, start .pre .0, some-left binary32 _ _ (start .args .strategy) _ (start .pre .1) (chosen .if1 .left)),
-      right-asks binary32 _ _ (start .args .strategy) _ (start .pre .1) (chosen .if1 .left) _ (asSplit (after-try-part .try-part .result)) (after-try-part .try-part .ensures) _ (ap asSplit (at-cut .cut .given .1)) _ _ _ _ _ _ (after-grow .grow .ensures) _ (after-grow .grow .kept .1 .1 .1 .1 .1 .1 .0 ∙ after-try-part .try-part .kept .1 .1 .1 .1 .0),
+      omega (arith, start .pre .0, some-remaining binary32 _ _ (start .args .strategy) _ (start .pre .1) (chosen .if1 .left)),
+      right-needs binary32 _ _ (start .args .strategy) _ (start .pre .1) (chosen .if1 .left) _ (asSplit (after-try-slice .try-slice .result)) (after-try-slice .try-slice .ensures) _ (ap asSplit (at-cut .cut .given .1)) _ _ _ _ _ _ (after-grow .grow .ensures) _ (after-grow .grow .kept .1 .1 .1 .1 .1 .1 .0 ∙ after-try-slice .try-slice .kept .1 .1 .1 .1 .0),
     )
 
 grow-put-branch-requires : (t : ℕ) → grow-lts.Need-put-branch-requires (calls t) (grow-at t) grow.Post
@@ -251,11 +251,11 @@ grow-put-branch-requires t c κs =
     let at-grow-arg2 = after-grow .before .before .before in
     let at-cut = at-grow-arg2 .before .before .before in
     let at-scratch = at-cut .before .before .before in
-    let after-try-part = at-scratch .before .before .before in
-    let chosen = after-try-part .before .before .before in
+    let after-try-slice = at-scratch .before .before .before in
+    let chosen = after-try-slice .before .before .before in
     let known2 = chosen .before .before .before in
     let start = known2 .before .before .before .before in
-    branch-asks binary32 _ _ (start .args .strategy) _ (start .pre .1) (chosen .if1 .left) _ (asSplit (after-try-part .try-part .result)) (after-try-part .try-part .ensures) _ (ap asSplit (at-cut .cut .given .1)) _ _ _ _ _ _ (after-grow .grow .ensures) _ _ _ _ _ _ (after-grow2 .grow2 .ensures)
+    branch-needs binary32 _ _ (start .args .strategy) _ (start .pre .1) (chosen .if1 .left) _ (asSplit (after-try-slice .try-slice .result)) (after-try-slice .try-slice .ensures) _ (ap asSplit (at-cut .cut .given .1)) _ _ _ _ _ _ (after-grow .grow .ensures) _ _ _ _ _ _ (after-grow2 .grow2 .ensures)
 
 grow-same-length-8 : (t : ℕ) → grow-lts.Need-same-length-8 (calls t) (grow-at t) grow.Post
 grow-same-length-8 t c =
@@ -270,11 +270,11 @@ grow-same-length-8 t c =
     let at-grow-arg2 = after-grow .before .before .before in
     let at-cut = at-grow-arg2 .before .before .before in
     let at-scratch = at-cut .before .before .before in
-    let after-try-part = at-scratch .before .before .before in
-    let chosen = after-try-part .before .before .before in
+    let after-try-slice = at-scratch .before .before .before in
+    let chosen = after-try-slice .before .before .before in
     let known2 = chosen .before .before .before in
     let start = known2 .before .before .before .before in
-    order-long binary32 _ _ (start .args .strategy) _ (start .pre .1) (chosen .if1 .left) _ (asSplit (after-try-part .try-part .result)) (after-try-part .try-part .ensures) _ (ap asSplit (at-cut .cut .given .1)) _ _ _ _ _ _ (after-grow .grow .ensures) _ _ _ _ _ _ (after-grow2 .grow2 .ensures)
+    order-long binary32 _ _ (start .args .strategy) _ (start .pre .1) (chosen .if1 .left) _ (asSplit (after-try-slice .try-slice .result)) (after-try-slice .try-slice .ensures) _ (ap asSplit (at-cut .cut .given .1)) _ _ _ _ _ _ (after-grow .grow .ensures) _ _ _ _ _ _ (after-grow2 .grow2 .ensures)
 
 grow-same-length-9 : (t : ℕ) → grow-lts.Need-same-length-9 (calls t) (grow-at t) grow.Post
 grow-same-length-9 t c =
@@ -288,8 +288,8 @@ grow-same-length-9 t c =
     let after-grow = at-scratch2 .before .before .before in
     let at-grow-arg = after-grow .before .before .before .before in
     let known8 = at-grow-arg .before .before .before .before in
-    let after-try-part = known8 .before .before .before .before in
-    after-grow2 .grow2 .kept .1 .1 .1 .1 .1 .1 .0 ∙ after-grow .grow .kept .1 .1 .1 .1 .1 .1 .0 ∙ after-try-part .try-part .kept .1 .1 .1 .1 .0
+    let after-try-slice = known8 .before .before .before .before in
+    after-grow2 .grow2 .kept .1 .1 .1 .1 .1 .1 .0 ∙ after-grow .grow .kept .1 .1 .1 .1 .1 .1 .0 ∙ after-try-slice .try-slice .kept .1 .1 .1 .1 .0
 
 grow-same-length-10 : (t : ℕ) → grow-lts.Need-same-length-10 (calls t) (grow-at t) grow.Post
 grow-same-length-10 t c =
@@ -328,11 +328,11 @@ grow-returns-3 t c =
     let at-grow-arg2 = after-grow .before .before .before in
     let at-cut = at-grow-arg2 .before .before .before in
     let at-scratch = at-cut .before .before .before in
-    let after-try-part = at-scratch .before .before .before in
-    let chosen = after-try-part .before .before .before in
+    let after-try-slice = at-scratch .before .before .before in
+    let chosen = after-try-slice .before .before .before in
     let known2 = chosen .before .before .before in
     let start = known2 .before .before .before .before in
-    branch-gives binary32 _ _ (start .args .strategy) _ (start .pre .1) (chosen .if1 .left) _ (asSplit (after-try-part .try-part .result)) (after-try-part .try-part .ensures) _ (ap asSplit (at-cut .cut .given .1)) _ _ _ _ _ _ (after-grow .grow .ensures) _ _ _ _ _ _ (after-grow2 .grow2 .ensures) _ _ _ _ _ (after-put-branch .put-branch .ensures)
+    branch-gives binary32 _ _ (start .args .strategy) _ (start .pre .1) (chosen .if1 .left) _ (asSplit (after-try-slice .try-slice .result)) (after-try-slice .try-slice .ensures) _ (ap asSplit (at-cut .cut .given .1)) _ _ _ _ _ _ (after-grow .grow .ensures) _ _ _ _ _ _ (after-grow2 .grow2 .ensures) _ _ _ _ _ (after-put-branch .put-branch .ensures)
 
 pub +grow-spec : {M : Type 1} → statement M
 +grow-spec = close μ-grow λ t. grow-lts.spec (calls t)
@@ -343,7 +343,7 @@ pub +grow-spec : {M : Type 1} → statement M
     (grow-same-length-2 t)
     (grow-same-length-3 t)
     (grow-returns t)
-    (grow-try-part-requires t)
+    (grow-try-slice-requires t)
     (grow-enum-known-cut t)
     (grow-enum-told t)
     (grow-put-leaf-requires-2 t)

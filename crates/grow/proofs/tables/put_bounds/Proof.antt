@@ -3,7 +3,7 @@ use borrow.Author.Needs.{needs}
 use mathlib.Core.Path.{refl, _∙_, ap}
 use Prim.Native.Nat.{_-_, _*_}
 use native.Mathlib.Omega.{arith}
-use Rattle.spec_tables.specs.Tables.{over}
+use Rattle.spec_tables.specs.Tables.{overwrite}
 use Rattle.spec_tables.proofs.Runs.{Run, run-start, run-front, run-end}
 use Rattle.spec_lists.specs.Reading.{boxAt}
 use Rattle.spec_shapes.specs.Boxes.{Box}
@@ -40,7 +40,7 @@ loop-again c =
     let turn = tested .before in
     let start = turn .before .before .before in
     run-front (λ k. sixOf (boxAt (start .args .triangles .now) k)) 6 _ _ _ _ _ (λ j. refl) (start .pre .1) (tested .loop-test .taken) (turn .loop .inv)
-    (after-put-box .put-box .ensures ∙ ap (λ (b : Box). over (6 * turn .loop .t) (sixOf b) (turn .loop .bounds)) (after-box-at .box-at .ensures))
+    (after-put-box .put-box .ensures ∙ ap (λ (b : Box). overwrite (6 * turn .loop .t) (sixOf b) (turn .loop .bounds)) (after-box-at .box-at .ensures))
 
 same-length : tie.Need-same-length Inv-loop μ-loop
 same-length c = c .before .loop .inv .long

@@ -3,9 +3,9 @@ use mathlib.Core.Path.{refl, ap, _∙_}
 use mathlib.Core.List.{List, [], _∷_}
 use Prim.Native.Nat.{ℕ, _-_}
 use native.Mathlib.Omega.{arith}
-use Rattle.spec_tables.specs.Tables.{over}
+use Rattle.spec_tables.specs.Tables.{overwrite}
 use Rattle.spec_tables.proofs.Runs.{Run, run-start, run-end}
-use Rattle.spec_build.proofs.Numbering.{up-to-many}
+use Rattle.spec_build.proofs.Numbering.{range-concatMap}
 use Rattle.spec_tables.proofs.Stores.{run-store-front}
 use borrow.Author.Needs.{needs}
 use Rattle.grow.proofs.tables.put_order.Statement.{statement}
@@ -44,7 +44,7 @@ same-length c = c .before .loop .inv .long
 returns : tie.Need-returns Inv-loop μ-loop
 returns c =
     let start = c .before .before in
-    run-end _ 0 _ _ _ _ (c .loop-test .left) (c .before .loop .inv) ∙ ap (λ (l : List ℕ). over 0 l (start .args .order .now)) (up-to-many (start .args .count))
+    run-end _ 0 _ _ _ _ (c .loop-test .left) (c .before .loop .inv) ∙ ap (λ (l : List ℕ). overwrite 0 l (start .args .order .now)) (range-concatMap (start .args .count))
 
 pub put-order-spec : {M : Type 1} → statement M
 put-order-spec =

@@ -3,7 +3,7 @@ use Prim.Native.Nat.{_+_, _-_}
 use native.Mathlib.Omega.{arith}
 use Rattle.shapes.specs.Values.{asAxis}
 use Rattle.spec_splits.proofs.Table.{place-below}
-use Rattle.grow.proofs.Sorting.{sort-asks, sort-gives}
+use Rattle.grow.proofs.Sorting.{sort-needs, sort-gives}
 use borrow.Author.Needs.{needs}
 use Rattle.grow.proofs.tries.sort_on.Statement.{statement}
 use Rattle.grow.proofs.tries.sort_on.Tie as tie
@@ -35,7 +35,7 @@ sort-by-key-requires c κs =
     let after-first-key = c .before .before .before in
     let start = after-first-key .before .before .before .before in
     let first = after-first-key .first-key .result in
-    sort-asks (asAxis (start .args .axis)) (start .args .centres .now) _ _ first (first + 4096 - first) (after-first-key .first-key .ensures) (omega arith) (start .pre)
+    sort-needs (asAxis (start .args .axis)) (start .args .centres .now) _ _ first (first + 4096 - first) (after-first-key .first-key .ensures) (omega arith) (start .pre)
 
 same-length : tie.Need-same-length
 same-length c = search needs

@@ -4,7 +4,7 @@ use lib.Ieee.{binary32}
 use Rattle.splits.specs.Values.{asSplit}
 use Rattle.spec_shapes.specs.Points.{Point, at}
 use Rattle.spec_build.specs.Tries.{axesBySize}
-use Rattle.spec_build.proofs.Trying.{next-asks, stays-cut, tries-next, tries-last, in-turn}
+use Rattle.spec_build.proofs.Trying.{next-needs, stays-cut, tries-next, tries-last, in-turn}
 use borrow.Author.Needs.{needs}
 use Rattle.grow.proofs.tries.try_axes.Statement.{statement}
 use Rattle.grow.proofs.tries.try_axes.Tie as tie
@@ -46,7 +46,7 @@ try-on-requires-2 c κs =
     let after-axes-by-size = after-try-on .before .before .before in
     let known = after-axes-by-size .before .before .before in
     let start = known .before .before .before in
-    next-asks binary32 _ _ (start .pre) _ _ _ _ _ (asSplit (after-try-on .try-on .result)) (after-try-on .try-on .ensures) (after-try-on .try-on .kept .1 .1 .1 .1 .1 .1 .0)
+    next-needs binary32 _ _ (start .pre) _ _ _ _ _ (asSplit (after-try-on .try-on .result)) (after-try-on .try-on .ensures) (after-try-on .try-on .kept .1 .1 .1 .1 .1 .1 .0)
 
 enum-known-twice : tie.Need-enum-known-twice
 enum-known-twice c = search needs
@@ -83,8 +83,8 @@ try-on-requires-3 c κs =
     let after-axes-by-size = after-try-on .before .before .before in
     let known = after-axes-by-size .before .before .before in
     let start = known .before .before .before in
-    next-asks binary32 _ _
-    (next-asks binary32 _ _ (start .pre) _ _ _ _ (after-try-on .try-on .last .1 .1 .1 .1 .1 .1 .0) (asSplit (after-try-on .try-on .result)) (after-try-on .try-on .ensures) (after-try-on .try-on .kept .1 .1 .1 .1 .1 .1 .0))
+    next-needs binary32 _ _
+    (next-needs binary32 _ _ (start .pre) _ _ _ _ (after-try-on .try-on .last .1 .1 .1 .1 .1 .1 .0) (asSplit (after-try-on .try-on .result)) (after-try-on .try-on .ensures) (after-try-on .try-on .kept .1 .1 .1 .1 .1 .1 .0))
     _ _ _ _ _ (asSplit (after-try-on2 .try-on2 .result)) (after-try-on2 .try-on2 .ensures) (after-try-on2 .try-on2 .kept .1 .1 .1 .1 .1 .1 .0)
 
 same-length-5 : tie.Need-same-length-5

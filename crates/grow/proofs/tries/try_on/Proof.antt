@@ -1,7 +1,7 @@
 -- `grow::tries::try_on` meets its contract: the slice is sorted, and the rule is applied to it.
 use lib.Ieee.{binary32}
 use Rattle.shapes.specs.Values.{asAxis, asBox}
-use Rattle.spec_build.proofs.Trying.{try-sort-asks, try-sorted, try-rule-asks, try-gives}
+use Rattle.spec_build.proofs.Trying.{try-sort-needs, try-sorted, try-rule-needs, try-gives}
 use borrow.Author.Needs.{needs}
 use Rattle.grow.proofs.tries.try_on.Statement.{statement}
 use Rattle.grow.proofs.tries.try_on.Tie as tie
@@ -10,7 +10,7 @@ sort-on-requires : tie.Need-sort-on-requires
 sort-on-requires c κs =
     let known = c .before .before .before in
     let start = known .before .before .before in
-    try-sort-asks binary32 _ _ (start .pre) (asAxis (start .args .axis))
+    try-sort-needs binary32 _ _ (start .pre) (asAxis (start .args .axis))
 
 rule-requires : tie.Need-rule-requires
 rule-requires c κs =
@@ -18,7 +18,7 @@ rule-requires c κs =
     let after-sort-on = at-scratch .before .before .before in
     let known2 = after-sort-on .before .before .before in
     let start = known2 .before .before .before .before in
-    try-rule-asks binary32 _ _ (try-sorted binary32 _ _ (start .pre) (start .args .strategy) (asAxis (start .args .axis)) (asBox (start .args .parent)) _ (after-sort-on .sort-on .ensures))
+    try-rule-needs binary32 _ _ (try-sorted binary32 _ _ (start .pre) (start .args .strategy) (asAxis (start .args .axis)) (asBox (start .args .parent)) _ (after-sort-on .sort-on .ensures))
 
 same-length : tie.Need-same-length
 same-length c = search needs

@@ -5,7 +5,7 @@ use lib.ListN.{length}
 use Rattle.spec_image.specs.Image.{Image}
 use Rattle.records.specs.Values.{imageLaid}
 use Rattle.spec_host.specs.PointBytes.{answerBytes, afterBytes}
-use Rattle.spec_host.specs.Requests.{askedRefusal, queryVerdict, answerIn}
+use Rattle.spec_host.specs.Requests.{requestRefusal, queryVerdict, answerIn}
 use Rattle.spec_host.proofs.PointBytes.{as-it-was}
 use Rattle.spec_host.proofs.Requests.{layout-refuses, image-long, contents-are, inner-decides}
 use Rattle.queries.specs.Values.{asQuery}
@@ -22,8 +22,8 @@ enum-known-at c = search needs
 enum-known-count : tie.Need-enum-known-count
 enum-known-count c = search needs
 
-ask-laid-requires : tie.Need-ask-laid-requires
-ask-laid-requires c κs = image-long _ _ _ (sym (c .before .before .before .before .image-layout .ensures) ∙ ap imageLaid (c .before .before .count .given .1))
+ask-sized-requires : tie.Need-ask-sized-requires
+ask-sized-requires c κs = image-long _ _ _ (sym (c .before .before .before .before .image-layout .ensures) ∙ ap imageLaid (c .before .before .count .given .1))
 
 returns : tie.Need-returns
 unfolding queryVerdict
@@ -39,14 +39,14 @@ same-length c = search needs
 returns-2 : tie.Need-returns-2
 unfolding queryVerdict
 returns-2 c =
-    let after-ask-laid = c .before .before in
-    let at-count = after-ask-laid .before .before .before in
+    let after-ask-sized = c .before .before in
+    let at-count = after-ask-sized .before .before .before in
     let after-image-layout = at-count .before .before in
     let start = after-image-layout .before .before .before .before in
     let a = start .args in
     let laid = sym (after-image-layout .image-layout .ensures) ∙ ap imageLaid (at-count .count .given .1) in (
-      inner-decides (a .image .now) _ _ laid (λ x. askedRefusal x (a .points .now) (a .distance) (length (a .answers .now))) _ (after-ask-laid .ask-laid .ensures .0),
-      after-ask-laid .ask-laid .ensures .1 ∙ ap (λ (x : Image). afterBytes (asVerdict (after-ask-laid .ask-laid .result)) (answerBytes (answerIn (asQuery (a .query)) x (a .distance)) (a .points .now)) (a .answers .now)) (sym (contents-are (a .image .now) _ _ laid)),
+      inner-decides (a .image .now) _ _ laid (λ x. requestRefusal x (a .points .now) (a .distance) (length (a .answers .now))) _ (after-ask-sized .ask-sized .ensures .0),
+      after-ask-sized .ask-sized .ensures .1 ∙ ap (λ (x : Image). afterBytes (asVerdict (after-ask-sized .ask-sized .result)) (answerBytes (answerIn (asQuery (a .query)) x (a .distance)) (a .points .now)) (a .answers .now)) (sym (contents-are (a .image .now) _ _ laid)),
     )
 
 pub ask-spec : {M : Type 1} → statement M
@@ -56,7 +56,7 @@ ask-spec =
     image-layout-requires
     enum-known-at
     enum-known-count
-    ask-laid-requires
+    ask-sized-requires
     returns
     same-length
     returns-2)

@@ -4,9 +4,9 @@ use mathlib.Core.Path.{_∙_}
 use mathlib.Core.List.{[]}
 use native.Mathlib.Omega.{arith}
 use Rattle.spec_numbers.specs.Values.{zero}
-use Rattle.spec_host.specs.Told.{told}
+use Rattle.spec_host.specs.Status.{status}
 use Rattle.spec_host.proofs.Requests.{check-asks-nothing}
-use Rattle.spec_host.proofs.RequestsTold.{query-told}
+use Rattle.spec_host.proofs.RequestsStatus.{query-encodable}
 use borrow.Author.Needs.{needs}
 use Rattle.host_ask.proofs.calls.check_image.Statement.{statement}
 use Rattle.host_ask.proofs.calls.check_image.Tie as tie
@@ -23,20 +23,20 @@ ask-requires c κs = search needs
 triangles-held-requires : tie.Need-triangles-held-requires
 triangles-held-requires c κs = search needs
 
-tell-count-requires : tie.Need-tell-count-requires
+encode-count-requires : tie.Need-encode-count-requires
 unfolding ofBits
-tell-count-requires c κs =
+encode-count-requires c κs =
     let after-ask = c .before .before in
     let known = after-ask .before .before .before in
     let start = known .before in
-    rw (after-ask .ask .ensures .0) (query-told (start .args .image .now) [] (record { below = λ i. omega (arith, known .shared-slice-known .given i) }) (omega arith) 1 zero)
+    rw (after-ask .ask .ensures .0) (query-encodable (start .args .image .now) [] (record { below = λ i. omega (arith, known .shared-slice-known .given i) }) (omega arith) 1 zero)
 
 returns : tie.Need-returns
 unfolding ofBits
 returns c =
     let after-ask = c .before .before .before in
     let start = after-ask .before .before .before .before in
-    c .tell-count .ensures ∙ (λ i. told ((after-ask .ask .ensures .0 ∙ check-asks-nothing (start .args .image .now)) i) (c .before .triangles-held .ensures i))
+    c .encode-count .ensures ∙ (λ i. status ((after-ask .ask .ensures .0 ∙ check-asks-nothing (start .args .image .now)) i) (c .before .triangles-held .ensures i))
 
 pub check-image-spec : {M : Type 1} → statement M
 check-image-spec =
@@ -46,5 +46,5 @@ check-image-spec =
     slice-aggregate-ask-2
     ask-requires
     triangles-held-requires
-    tell-count-requires
+    encode-count-requires
     returns)

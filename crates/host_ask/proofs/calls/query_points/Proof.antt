@@ -4,10 +4,10 @@ use Prim.Native.Nat.{_/_}
 use native.Mathlib.Omega.{arith}
 use lib.ListN.{length}
 use Rattle.spec_lists.specs.Refusals.{Verdict}
-use Rattle.spec_host.specs.Told.{told}
+use Rattle.spec_host.specs.Status.{status}
 use Rattle.spec_host.specs.PointBytes.{answerBytes, afterBytes}
 use Rattle.spec_host.specs.Requests.{contents, answerIn}
-use Rattle.spec_host.proofs.RequestsTold.{query-told}
+use Rattle.spec_host.proofs.RequestsStatus.{query-encodable}
 use Rattle.queries.specs.Values.{asQuery}
 use borrow.Author.Needs.{needs}
 use Rattle.host_ask.proofs.calls.query_points.Statement.{statement}
@@ -16,13 +16,13 @@ use Rattle.host_ask.proofs.calls.query_points.Tie as tie
 ask-requires : tie.Need-ask-requires
 ask-requires c κs = search needs
 
-tell-count-requires : tie.Need-tell-count-requires
-tell-count-requires c κs =
+encode-count-requires : tie.Need-encode-count-requires
+encode-count-requires c κs =
     let after-ask = c .before .before in
     let known = after-ask .before .before .before .before in
     let start = known .before in
     let a = start .args in
-    rw (after-ask .ask .ensures .0) (query-told (a .image .now) (a .points .now) (record { below = λ i. omega (arith, known .shared-slice-known .given i) }) (omega arith) (length (a .answers .now)) (a .distance))
+    rw (after-ask .ask .ensures .0) (query-encodable (a .image .now) (a .points .now) (record { below = λ i. omega (arith, known .shared-slice-known .given i) }) (omega arith) (length (a .answers .now)) (a .distance))
 
 same-length : tie.Need-same-length
 same-length c = search needs
@@ -33,9 +33,9 @@ returns c =
     let at-ask-arg = after-ask .before in
     let start = at-ask-arg .before .before .before .before in
     let a = start .args in (
-      c .tell-count .ensures ∙ ap (λ (v : Verdict). told v (length (a .points .now) / 12)) (after-ask .ask .ensures .0),
+      c .encode-count .ensures ∙ ap (λ (v : Verdict). status v (length (a .points .now) / 12)) (after-ask .ask .ensures .0),
       after-ask .ask .ensures .1 ∙ ap (λ (v : Verdict). afterBytes v (answerBytes (answerIn (asQuery (a .query)) (contents (a .image .now)) (a .distance)) (a .points .now)) (a .answers .now)) (after-ask .ask .ensures .0),
     )
 
 pub query-points-spec : {M : Type 1} → statement M
-query-points-spec = tie.close (tie.spec ask-requires tell-count-requires same-length returns)
+query-points-spec = tie.close (tie.spec ask-requires encode-count-requires same-length returns)

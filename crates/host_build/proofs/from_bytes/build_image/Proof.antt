@@ -4,7 +4,7 @@ use native.Mathlib.Omega.{arith}
 use lib.Seq.{length-take-le}
 use Rattle.lists.specs.Values.{asVerdict}
 use Rattle.spec_host.proofs.Build.{put-nothing, put-as, bytes-whole, numbers-read}
-use Rattle.host_bytes.proofs.Length.{length-refused, length-told, length-passed}
+use Rattle.host_bytes.proofs.Length.{length-refused, length-encodable, length-passed}
 use borrow.Author.Needs.{needs}
 use Rattle.host_build.proofs.from_bytes.build_image.Statement.{statement}
 use Rattle.host_build.proofs.from_bytes.build_image.Tie as tie
@@ -15,11 +15,11 @@ length-refusal-requires c κs = search needs
 enum-known-verdict : tie.Need-enum-known-verdict
 enum-known-verdict c = search needs
 
-tell-refusal-requires : tie.Need-tell-refusal-requires
-tell-refusal-requires c κs = length-told _ (sym (c .before .before .before .length-refusal .ensures) ∙ ap asVerdict (c .before .verdict .given .1))
+encode-refusal-requires : tie.Need-encode-refusal-requires
+encode-refusal-requires c κs = length-encodable _ (sym (c .before .before .before .length-refusal .ensures) ∙ ap asVerdict (c .before .verdict .given .1))
 
 returns : tie.Need-returns
-returns c = put-nothing (length-refused _ _ _ (sym (c .before .before .before .before .length-refusal .ensures) ∙ ap asVerdict (c .before .before .verdict .given .1))) (c .tell-refusal .ensures)
+returns c = put-nothing (length-refused _ _ _ (sym (c .before .before .before .before .length-refusal .ensures) ∙ ap asVerdict (c .before .before .verdict .given .1))) (c .encode-refusal .ensures)
 
 enum-told : tie.Need-enum-told
 enum-told c = search needs
@@ -66,7 +66,7 @@ build-image-spec =
     (tie.spec
     length-refusal-requires
     enum-known-verdict
-    tell-refusal-requires
+    encode-refusal-requires
     returns
     enum-told
     slice-aggregate-read-triangles

@@ -12,7 +12,7 @@ use Rattle.lists.specs.declared.settings.Settings.{Settings}
 use Rattle.lists.specs.Values.{asSettings}
 use Rattle.build.specs.declared.calls.Built.{Built}
 use Rattle.build.specs.Values.{asBuilt}
-use Rattle.spec_host.proofs.Build.{put-nothing, put-as, build-refused, build-told, listed-few, listed-puttable, listed-bytes, listed-size, listed-refusal}
+use Rattle.spec_host.proofs.Build.{put-nothing, put-as, build-refused, build-encodable, listed-few, listed-puttable, listed-bytes, listed-size, listed-refusal}
 use borrow.Author.Needs.{needs}
 use Rattle.host_build.proofs.from_bytes.build_list.Statement.{statement}
 use Rattle.host_build.proofs.from_bytes.build_list.Tie as tie
@@ -42,18 +42,18 @@ within e l h = omega arith
 
 -- what the build did with them, by the arm that was taken:
 -- written out once, and over any lists where it is rewritten, since each look at it counts those that are lent
-as-told : (t : List Float) (s : Settings) (order links : List ℕ) (boxes : List Float) {order′ links′ : List ℕ} {boxes′ : List Float} {r told : Built} → r ≡ told
-    → BuildIs binary32 t (asSettings s) order links boxes (asBuilt r) order′ links′ boxes′ → BuildIs binary32 t (asSettings s) order links boxes (asBuilt told) order′ links′ boxes′
-as-told t s order links boxes e b = rw e at b
+as-named : (t : List Float) (s : Settings) (order links : List ℕ) (boxes : List Float) {order′ links′ : List ℕ} {boxes′ : List Float} {r named : Built} → r ≡ named
+    → BuildIs binary32 t (asSettings s) order links boxes (asBuilt r) order′ links′ boxes′ → BuildIs binary32 t (asSettings s) order links boxes (asBuilt named) order′ links′ boxes′
+as-named t s order links boxes e b = rw e at b
 
-built : (c : tie.After-build) {told : Built} → c .build .result ≡ told
+built : (c : tie.After-build) {named : Built} → c .build .result ≡ named
     → let at-order = c .before .before .before in
     let start = at-order .before .before .before in
-    BuildIs binary32 (now (start .args .triangles)) (asSettings (start .args .settings)) lent-order lent-links lent-boxes (asBuilt told) (c .build .last .1 .1 .1 .1 .0) (c .build .last .1 .1 .1 .1 .1 .0) (c .build .last .1 .1 .1 .1 .1 .1 .0)
+    BuildIs binary32 (now (start .args .triangles)) (asSettings (start .args .settings)) lent-order lent-links lent-boxes (asBuilt named) (c .build .last .1 .1 .1 .1 .0) (c .build .last .1 .1 .1 .1 .1 .0) (c .build .last .1 .1 .1 .1 .1 .1 .0)
 built c e =
     let at-order = c .before .before .before in
     let start = at-order .before .before .before in
-    as-told (now (start .args .triangles)) (start .args .settings) lent-order lent-links lent-boxes e (c .build .ensures)
+    as-named (now (start .args .triangles)) (start .args .settings) lent-order lent-links lent-boxes e (c .build .ensures)
 
 slice-aggregate-build : tie.Need-slice-aggregate-build
 slice-aggregate-build c = sym order-long
@@ -70,14 +70,14 @@ build-requires c κs = search needs
 enum-known-built : tie.Need-enum-known-built
 enum-known-built c = search needs
 
-tell-refusal-requires : tie.Need-tell-refusal-requires
-tell-refusal-requires c κs =
+encode-refusal-requires : tie.Need-encode-refusal-requires
+encode-refusal-requires c κs =
     let at-boxes2 = c .before .before .before in
     let after-build = at-boxes2 .before .before .before in
     let at-order = after-build .before .before .before in
     let start = at-order .before .before .before in
     let a = start .args in
-    build-told (now (a .triangles)) (asSettings (a .settings)) lent-order lent-links lent-boxes order-long links-long boxes-long (built after-build (c .before .built .given .1))
+    build-encodable (now (a .triangles)) (asSettings (a .settings)) lent-order lent-links lent-boxes order-long links-long boxes-long (built after-build (c .before .built .given .1))
 
 enum-known-built-2 : tie.Need-enum-known-built-2
 enum-known-built-2 c = search needs
@@ -129,7 +129,7 @@ returns c =
     let at-order = after-build .before .before .before in
     let start = at-order .before .before .before in
     let a = start .args in
-    put-nothing (build-refused (now (a .triangles)) (asSettings (a .settings)) lent-order lent-links lent-boxes order-long links-long boxes-long (built after-build (at-built .built .given .1)) _) (c .tell-refusal .ensures)
+    put-nothing (build-refused (now (a .triangles)) (asSettings (a .settings)) lent-order lent-links lent-boxes order-long links-long boxes-long (built after-build (at-built .built .given .1)) _) (c .encode-refusal .ensures)
 
 same-length : tie.Need-same-length
 same-length c = search needs
@@ -159,7 +159,7 @@ build-list-spec =
     slice-aggregate-build-3
     build-requires
     enum-known-built
-    tell-refusal-requires
+    encode-refusal-requires
     enum-known-built-2
     triangle-count-requires
     array-share-prefix-order

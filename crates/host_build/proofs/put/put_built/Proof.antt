@@ -12,17 +12,17 @@ triangle-count-requires c κs = search needs
 image-size-requires : tie.Need-image-size-requires
 image-size-requires c κs = search needs
 
-tell-refusal-requires : tie.Need-tell-refusal-requires
-tell-refusal-requires c κs = search needs
+encode-refusal-requires : tie.Need-encode-refusal-requires
+encode-refusal-requires c κs = search needs
 
 returns : tie.Need-returns
-returns c = put-nothing (room-short _ _ (omega (arith, c .before .if1 .taken, c .before .before .image-size .ensures, c .before .before .before .triangle-count .ensures))) (c .tell-refusal .ensures)
+returns c = put-nothing (room-short _ _ (omega (arith, c .before .if1 .taken, c .before .before .image-size .ensures, c .before .before .before .triangle-count .ensures))) (c .encode-refusal .ensures)
 
 put-image-requires : tie.Need-put-image-requires
 put-image-requires c κs = search needs
 
-tell-requires : tie.Need-tell-requires
-tell-requires c κs = search needs
+encode-requires : tie.Need-encode-requires
+encode-requires c κs = search needs
 
 same-length : tie.Need-same-length
 same-length c = search needs
@@ -36,7 +36,7 @@ returns-2 c =
     let known3 = after-triangle-count .before .before .before in
     let start = known3 .before .before .before in
     put-all (room-passes _ _ (omega (arith, chosen .if1 .left, after-image-size .image-size .ensures, after-triangle-count .triangle-count .ensures)))
-    (omega (arith, c .tell .ensures, after-put-image .put-image .ensures .1, start .pre .counted)) (after-put-image .put-image .ensures .0)
+    (omega (arith, c .encode .ensures, after-put-image .put-image .ensures .1, start .pre .counted)) (after-put-image .put-image .ensures .0)
 
 pub put-built-spec : {M : Type 1} → statement M
 put-built-spec =
@@ -44,9 +44,9 @@ put-built-spec =
     (tie.spec
     triangle-count-requires
     image-size-requires
-    tell-refusal-requires
+    encode-refusal-requires
     returns
     put-image-requires
-    tell-requires
+    encode-requires
     same-length
     returns-2)

@@ -2,7 +2,7 @@
 use mathlib.Core.Path.{ap, _∙_}
 use Prim.Native.Nat.{ℕ}
 use denote.Ref.{now}
-use Rattle.spec_tables.specs.Tables.{over}
+use Rattle.spec_tables.specs.Tables.{overwrite}
 use Rattle.spec_records.specs.Little.{little}
 use borrow.Author.Needs.{needs}
 use Rattle.host_bytes.proofs.answers.put_winding_bytes.Statement.{statement}
@@ -26,7 +26,7 @@ returns c =
     let after-bits-of = after-put-u32 .before in
     let start = after-bits-of .before .before .before in
     let a = start .args in
-    after-put-u32 .put-u32 .ensures .0 .written ∙ ap (λ (n : ℕ). over (a .at) (little 4 n) (now (a .out))) (after-bits-of .bits-of .ensures)
+    after-put-u32 .put-u32 .ensures .0 .written ∙ ap (λ (n : ℕ). overwrite (a .at) (little 4 n) (now (a .out))) (after-bits-of .bits-of .ensures)
 
 pub put-winding-bytes-spec : {M : Type 1} → statement M
 put-winding-bytes-spec =

@@ -7,7 +7,7 @@ use borrow.Author.Needs.{needs}
 use borrow.Author.Tests.{not-true, not-false}
 use lib.ListN.{drop}
 use Rattle.spec_lists.specs.Refusals.{isCoordinate, firstBad}
-use Rattle.spec_lists.proofs.Coordinates.{bad-here, good-here, none-left}
+use Rattle.spec_lists.proofs.Coordinates.{bad-here, good-here, none-remaining}
 use Rattle.spec_host.specs.Build.{numbersOf}
 use Rattle.spec_host.proofs.Build.{numbers-long}
 use Rattle.host_bytes.proofs.points.first_bad_in.Statement.{statement}
@@ -60,7 +60,7 @@ returns-2 : tie.Need-returns-2 Inv-loop μ-loop
 returns-2 c =
     let loop = c .before .loop in
     let s = c .before .before .before .args .bytes .now in
-    let none = none-left (numbersOf s) (loop .i) (rw (numbers-long s) (c .loop-test .left)) in
+    let none = none-remaining (numbersOf s) (loop .i) (rw (numbers-long s) (c .loop-test .left)) in
     omega (arith, loop .inv)
 
 pub first-bad-in-spec : {M : Type 1} → statement M

@@ -6,7 +6,7 @@ use borrow.Author.Needs.{needs}
 use borrow.Author.Tests.{not-true, not-false}
 use lib.ListN.{length, drop}
 use Rattle.spec_lists.specs.Refusals.{firstBad}
-use Rattle.spec_lists.proofs.Coordinates.{bad-here, good-here, none-left}
+use Rattle.spec_lists.proofs.Coordinates.{bad-here, good-here, none-remaining}
 use Rattle.lists.proofs.coordinates.first_bad.Statement.{statement}
 use Rattle.lists.proofs.coordinates.first_bad.Tie as tie
 
@@ -57,7 +57,7 @@ loop-again c =
 returns-2 : tie.Need-returns-2 Inv-loop μ-loop
 returns-2 c =
     let loop = c .before .loop in
-    let none = none-left (c .before .before .before .args .numbers .now) (loop .i) (c .loop-test .left) in
+    let none = none-remaining (c .before .before .before .args .numbers .now) (loop .i) (c .loop-test .left) in
     omega (arith, loop .inv)
 
 pub first-bad-spec : {M : Type 1} → statement M

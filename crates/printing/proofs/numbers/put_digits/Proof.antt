@@ -10,18 +10,18 @@ use Rattle.printing.proofs.numbers.put_digits.Statement.{statement}
 use Rattle.printing.proofs.numbers.put_digits.Tie as tie
 
 abbrev Inv-loop : tie.InvT-loop
-Inv-loop out₀ at base count n left₀ rest₀ out left rest = Backwards base at count n out₀ out left rest
+Inv-loop out₀ at base count n remaining₀ rest₀ out remaining rest = Backwards base at count n out₀ out remaining rest
 
 abbrev μ-loop : tie.MeasureT-loop
-μ-loop out₀ at base count n left₀ rest₀ out left rest = left
+μ-loop out₀ at base count n remaining₀ rest₀ out remaining rest = remaining
 
 loop-holds : tie.Need-loop-holds Inv-loop μ-loop
 loop-holds c =
     let a = c .before .args in
     back-start (a .base) (a .at) (a .count) (a .n) (now (a .out))
 
-sub-left : tie.Need-sub-left Inv-loop μ-loop
-sub-left c = search needs
+sub-remaining : tie.Need-sub-remaining Inv-loop μ-loop
+sub-remaining c = search needs
 
 rem-digit-of : tie.Need-rem-digit-of Inv-loop μ-loop
 rem-digit-of c = search needs
@@ -48,7 +48,7 @@ loop-again c =
     let turn = c .before .before in
     let start = turn .before .before in
     let a = start .args in
-    back-more (a .base) (a .at) (a .count) (a .n) (now (a .out)) _ (turn .loop .left) (turn .loop .rest) _ (turn .loop .left - 1) (start .pre .0) (omega arith) (c .«digit-of» .ensures) (turn .loop .inv)
+    back-more (a .base) (a .at) (a .count) (a .n) (now (a .out)) _ (turn .loop .remaining) (turn .loop .rest) _ (turn .loop .remaining - 1) (start .pre .0) (omega arith) (c .«digit-of» .ensures) (turn .loop .inv)
 
 add-result : tie.Need-add-result Inv-loop μ-loop
 add-result c = search needs
@@ -60,7 +60,7 @@ returns : tie.Need-returns Inv-loop μ-loop
 returns c =
     let start = c .before .before .before in
     let a = start .args in
-    (back-end (a .base) (a .at) (a .count) (a .n) (now (a .out)) _ (c .before .loop .left) (c .before .loop .rest) (start .pre .0) (c .«loop-test» .left) (c .before .loop .inv), refl)
+    (back-end (a .base) (a .at) (a .count) (a .n) (now (a .out)) _ (c .before .loop .remaining) (c .before .loop .rest) (start .pre .0) (c .«loop-test» .left) (c .before .loop .inv), refl)
 
 pub put-digits-spec : {M : Type 1} → statement M
 put-digits-spec =
@@ -69,7 +69,7 @@ put-digits-spec =
     Inv-loop
     μ-loop
     loop-holds
-    sub-left
+    sub-remaining
     rem-digit-of
     digit-of-requires
     add-out

@@ -22,8 +22,8 @@ costs-of-requires c κs =
     let start = c .before .before .before .before in
     let args = start .args in
     rw (c .fill .ensures) (
-      filled-small binary32 _ (boxesIn (args .bounds .now) (args .part .now)) (rw length-map (start .pre .0)),
-      filled-plain binary32 _ (boxIn (args .bounds .now)) (args .part .now) (start .pre .1 .plain),
+      filled-small binary32 _ (boxesIn (args .bounds .now) (args .slice .now)) (rw length-map (start .pre .0)),
+      filled-plain binary32 _ (boxIn (args .bounds .now)) (args .slice .now) (start .pre .1 .plain),
     )
 
 cheapest-of-requires : tie.Need-cheapest-of-requires

@@ -14,10 +14,10 @@ use Rattle.splits.proofs.median.all_meet.Statement.{statement}
 use Rattle.splits.proofs.median.all_meet.Tie as tie
 
 abbrev Inv-loop : tie.InvT-loop
-Inv-loop bounds part plane i₀ i = allMeet binary32 (asPlane plane) (boxesIn bounds (drop i part)) ≡ allMeet binary32 (asPlane plane) (boxesIn bounds part)
+Inv-loop bounds slice plane i₀ i = allMeet binary32 (asPlane plane) (boxesIn bounds (drop i slice)) ≡ allMeet binary32 (asPlane plane) (boxesIn bounds slice)
 
 abbrev μ-loop : tie.MeasureT-loop
-μ-loop bounds part plane i₀ i = length part - i
+μ-loop bounds slice plane i₀ i = length slice - i
 
 loop-holds : tie.Need-loop-holds Inv-loop μ-loop
 loop-holds c = refl
@@ -46,7 +46,7 @@ returns c =
     let args = start .args in
     let loop = turn .loop in
     let test = sym (c .before .intersects-box3 .ensures ∙ ap (meetsBox binary32 (asPlane (args .plane))) (after-box-at .box-at .ensures)) in
-    meeting-stops binary32 (asPlane (args .plane)) (boxIn (args .bounds .now)) (args .part .now) (loop .i) _ (tested .loop-test .taken) (test ∙ not-true _ (c .if1 .taken)) (loop .inv)
+    meeting-stops binary32 (asPlane (args .plane)) (boxIn (args .bounds .now)) (args .slice .now) (loop .i) _ (tested .loop-test .taken) (test ∙ not-true _ (c .if1 .taken)) (loop .inv)
 
 add-i : tie.Need-add-i Inv-loop μ-loop
 add-i c = search needs
@@ -63,13 +63,13 @@ loop-again c =
     let args = start .args in
     let loop = turn .loop in
     let test = sym (c .before .intersects-box3 .ensures ∙ ap (meetsBox binary32 (asPlane (args .plane))) (after-box-at .box-at .ensures)) in
-    meeting-goes-on binary32 (asPlane (args .plane)) (boxIn (args .bounds .now)) (args .part .now) (loop .i) _ (tested .loop-test .taken) (test ∙ not-false _ (c .if1 .left)) (loop .inv)
+    meeting-goes-on binary32 (asPlane (args .plane)) (boxIn (args .bounds .now)) (args .slice .now) (loop .i) _ (tested .loop-test .taken) (test ∙ not-false _ (c .if1 .left)) (loop .inv)
 
 returns-2 : tie.Need-returns-2 Inv-loop μ-loop
 returns-2 c =
     let args = c .before .before .before .before .args in
     let loop = c .before .loop in
-    meeting-ends binary32 (asPlane (args .plane)) (boxIn (args .bounds .now)) (args .part .now) (loop .i) _ (c .loop-test .left) (loop .inv)
+    meeting-ends binary32 (asPlane (args .plane)) (boxIn (args .bounds .now)) (args .slice .now) (loop .i) _ (c .loop-test .left) (loop .inv)
 
 pub all-meet-spec : {M : Type 1} → statement M
 all-meet-spec =

@@ -45,8 +45,8 @@ returns c =
     rw (
       c .all-meet .ensures,
       c .before .plane-between .ensures,
-      at-map (boxIn (args .bounds .now)) (args .part .now) (args .cut) 0 (empty binary32) (pre .1 .0),
-      at-map (boxIn (args .bounds .now)) (args .part .now) (args .cut - 1) 0 (empty binary32) (omega arith),
+      at-map (boxIn (args .bounds .now)) (args .slice .now) (args .cut) 0 (empty binary32) (pre .1 .0),
+      at-map (boxIn (args .bounds .now)) (args .slice .now) (args .cut - 1) 0 (empty binary32) (omega arith),
     )
 
 pub all-meet-at-spec : {M : Type 1} → statement M

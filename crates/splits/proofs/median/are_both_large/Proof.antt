@@ -18,7 +18,7 @@ is-large-requires c κs =
     let args = start .args in
     let pre = start .pre in
     let inside = pre .1 .0 in
-    (simp length-take (omega arith), in-table-before (args .bounds .now) (args .part .now) (pre .1 .1) (args .cut) (omega arith))
+    (simp length-take (omega arith), in-table-before (args .bounds .now) (args .slice .now) (pre .1 .1) (args .cut) (omega arith))
 
 mul-is-large : tie.Need-mul-is-large
 mul-is-large c = search needs
@@ -38,7 +38,7 @@ is-large-requires-2 c κs =
     let start = after-is-large .before .before .before .before in
     let args = start .args in
     let pre = start .pre in
-    rw (to-the-end (args .cut) (args .part .now)) (simp length-drop (omega arith), in-table-after (args .bounds .now) (args .part .now) (pre .1 .1) (args .cut))
+    rw (to-the-end (args .cut) (args .slice .now)) (simp length-drop (omega arith), in-table-after (args .bounds .now) (args .slice .now) (pre .1 .1) (args .cut))
 
 returns : tie.Need-returns
 unfolding areBothLarge
@@ -48,7 +48,7 @@ returns c =
     let start = after-is-large .before .before .before .before in
     let args = start .args in
     let left = rw (map-take (boxIn (args .bounds .now))) at (sym (after-is-large .is-large .ensures) ∙ chosen .if1 .taken) in
-    rw (c .is-large2 .ensures, to-the-end (args .cut) (args .part .now), map-drop (boxIn (args .bounds .now)), left)
+    rw (c .is-large2 .ensures, to-the-end (args .cut) (args .slice .now), map-drop (boxIn (args .bounds .now)), left)
 
 returns-2 : tie.Need-returns-2
 unfolding areBothLarge

@@ -15,10 +15,10 @@ use Rattle.splits.proofs.table.union_of.Statement.{statement}
 use Rattle.splits.proofs.table.union_of.Tie as tie
 
 abbrev Inv-loop : tie.InvT-loop
-Inv-loop bounds part joined₀ i₀ joined i = foldl union (asBox joined) (boxesIn bounds (drop i part)) ≡ unionOf binary32 (boxesIn bounds part)
+Inv-loop bounds slice joined₀ i₀ joined i = foldl union (asBox joined) (boxesIn bounds (drop i slice)) ≡ unionOf binary32 (boxesIn bounds slice)
 
 abbrev μ-loop : tie.MeasureT-loop
-μ-loop bounds part joined₀ i₀ joined i = length part - i
+μ-loop bounds slice joined₀ i₀ joined i = length slice - i
 
 shared-slice-read-box-at : tie.Need-shared-slice-read-box-at Inv-loop μ-loop
 shared-slice-read-box-at c = search needs
@@ -32,7 +32,7 @@ loop-holds : tie.Need-loop-holds Inv-loop μ-loop
 loop-holds c =
     let start = c .before .before .before .before in
     let args = start .args in
-    ap (λ (b : Box). foldl union b (boxesIn (args .bounds .now) (drop 1 (args .part .now)))) (c .box-at .ensures) ∙ union-from-first binary32 (boxIn (args .bounds .now)) (args .part .now) (start .pre .0)
+    ap (λ (b : Box). foldl union b (boxesIn (args .bounds .now) (drop 1 (args .slice .now)))) (c .box-at .ensures) ∙ union-from-first binary32 (boxIn (args .bounds .now)) (args .slice .now) (start .pre .0)
 
 mul-box-at : tie.Need-mul-box-at Inv-loop μ-loop
 mul-box-at c = search needs
@@ -64,7 +64,7 @@ loop-again c =
     let start = after-box-at .before .before .before .before in
     let args = start .args in
     let loop = turn .loop in
-    fold-on-named union (boxIn (args .bounds .now)) (args .part .now) (loop .i) (asBox (loop .joined)) _ (asBox (c .union-box .result)) (tested .loop-test .taken)
+    fold-on-named union (boxIn (args .bounds .now)) (args .slice .now) (loop .i) (asBox (loop .joined)) _ (asBox (c .union-box .result)) (tested .loop-test .taken)
     (c .union-box .ensures ∙ ap (union (asBox (loop .joined))) (c .before .box-at2 .ensures)) (loop .inv)
 
 returns : tie.Need-returns Inv-loop μ-loop
@@ -73,7 +73,7 @@ returns c =
     let start = after-box-at .before .before .before .before in
     let args = start .args in
     let loop = c .before .loop in
-    fold-ended-named union (boxIn (args .bounds .now)) (args .part .now) (loop .i) (asBox (loop .joined)) _ (c .loop-test .left) (loop .inv)
+    fold-ended-named union (boxIn (args .bounds .now)) (args .slice .now) (loop .i) (asBox (loop .joined)) _ (c .loop-test .left) (loop .inv)
 
 pub union-of-spec : {M : Type 1} → statement M
 union-of-spec =

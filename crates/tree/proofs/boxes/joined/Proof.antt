@@ -14,10 +14,10 @@ use Rattle.tree.proofs.boxes.joined.Statement.{statement}
 use Rattle.tree.proofs.boxes.joined.Tie as tie
 
 abbrev Inv-loop : tie.InvT-loop
-Inv-loop triangles part over₀ i₀ over i = joinedTo (boxAt triangles) (asBox over) (drop i part) ≡ joined (boxAt triangles) part
+Inv-loop triangles slice over₀ i₀ over i = joinedTo (boxAt triangles) (asBox over) (drop i slice) ≡ joined (boxAt triangles) slice
 
 abbrev μ-loop : tie.MeasureT-loop
-μ-loop triangles part over₀ i₀ over i = length part - i
+μ-loop triangles slice over₀ i₀ over i = length slice - i
 
 shared-slice-read-wide : tie.Need-shared-slice-read-wide Inv-loop μ-loop
 shared-slice-read-wide c = search needs

@@ -5,7 +5,7 @@ use mathlib.Core.Path.{sym, ap, _∙_}
 use borrow.Author.Tests.{not-true, not-false}
 use Rattle.spec_tree.proofs.Steps.{node-none, node-leaf, node-neither, node-apart, node-goes-on}
 use Rattle.tree.specs.Values.{asFinding}
-use Rattle.tree.proofs.Needs.{right-asks, left-asks, then-left-asks}
+use Rattle.tree.proofs.Needs.{right-needs, left-needs, then-left-needs}
 use native.Mathlib.Omega.{arith}
 use borrow.Author.Needs.{needs}
 use Prim.Native.Nat.{ℕ, _+_, _*_, _<_}
@@ -73,7 +73,7 @@ check-left-check-node-requires t c κs =
     let after-is-left-before = c .before .before in
     let known3 = after-is-left-before .before .before in
     let start = known3 .before .before .before in
-    (omega (arith, start .pre .0), left-asks _ _ _ _ _ _ _ _ (start .pre .1) (c .left-at .ensures) (sym (after-is-left-before .is-left-before .ensures) ∙ not-false _ (c .before .if1 .left)))
+    (omega (arith, start .pre .0), left-needs _ _ _ _ _ _ _ _ (start .pre .1) (c .left-at .ensures) (sym (after-is-left-before .is-left-before .ensures) ∙ not-false _ (c .before .if1 .left)))
 
 check-left-left-found-requires : (t : ℕ) → check-left-lts.Need-left-found-requires (check-left-calls t) (check-left-at t) check-left.Post
 check-left-left-found-requires t c κs =
@@ -140,7 +140,7 @@ check-node-check-node-requires t c κs =
     let chosen = after-is-right-before .before .before .before .before in
     let known3 = chosen .before .before in
     let start = known3 .before .before .before in
-    (omega (arith, start .pre .0, chosen .if1 .left), right-asks _ _ _ _ _ _ _ (start .pre .1) (c .right-at .ensures) (sym (after-is-right-before .is-right-before .ensures) ∙ not-false _ (c .before .if4 .left)))
+    (omega (arith, start .pre .0, chosen .if1 .left), right-needs _ _ _ _ _ _ _ (start .pre .1) (c .right-at .ensures) (sym (after-is-right-before .is-right-before .ensures) ∙ not-false _ (c .before .if4 .left)))
 
 check-node-enum-told : (t : ℕ) → check-node-lts.Need-enum-told (check-node-calls t) (check-node-at t) check-node.Post
 check-node-enum-told t c = search needs
@@ -165,7 +165,7 @@ check-node-check-left-requires t c κs =
     let known3 = chosen .before .before in
     let start = known3 .before .before .before in (
       omega (arith, start .pre .0, chosen .if1 .left),
-      then-left-asks _ _ _ _ _ _ _ _ _ _ _ _ (start .pre .1) (after-right-at .right-at .ensures) (sym (after-is-right-before .is-right-before .ensures) ∙ not-false _ (chosen4 .if4 .left))
+      then-left-needs _ _ _ _ _ _ _ _ _ _ _ _ (start .pre .1) (after-right-at .right-at .ensures) (sym (after-is-right-before .is-right-before .ensures) ∙ not-false _ (chosen4 .if4 .left))
           (after-check-node .check-node .ensures) (ap asFinding (c .before .right .given .1)),
     )
 

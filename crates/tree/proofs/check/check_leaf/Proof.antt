@@ -1,7 +1,7 @@
 -- `tree::check::check_leaf` meets its contract: its range is the one that the definition requires, and its box what `boxed` finds.
 use mathlib.Core.Path.{sym, _∙_}
 use Prim.Native.Nat.{_-_}
-use Rattle.spec_tree.proofs.Steps.{part-some, part-entries, leaf-late, leaf-misses, leaf-fits}
+use Rattle.spec_tree.proofs.Steps.{slice-some, slice-entries, leaf-late, leaf-misses, leaf-fits}
 use borrow.Author.Needs.{needs}
 use Rattle.tree.proofs.check.check_leaf.Statement.{statement}
 use Rattle.tree.proofs.check.check_leaf.Tie as tie
@@ -38,7 +38,7 @@ joined-requires c κs =
     let start = known3 .before .before .before in
     let entry = after-left-at .left-at .result in
     let size = start .args .last - entry in
-    (part-some _ _ _ (chosen .if1 .left) (start .pre .room .order-there), part-entries _ (start .args .order .now) entry size (start .pre .entries))
+    (slice-some _ _ _ (chosen .if1 .left) (start .pre .room .order-there), slice-entries _ (start .args .order .now) entry size (start .pre .entries))
 
 boxed-requires : tie.Need-boxed-requires
 boxed-requires c κs = search needs

@@ -3,7 +3,7 @@ use mathlib.Core.Path.{sym, _∙_}
 use native.Mathlib.Omega.{arith}
 use borrow.Author.Tests.{not-true, not-false}
 use Rattle.spec_tree.proofs.Steps.{present-gives, accepted-unordered, accepted-absent, accepted-looked}
-use Rattle.tree.proofs.Needs.{root-asks}
+use Rattle.tree.proofs.Needs.{root-needs}
 use borrow.Author.Needs.{needs}
 use Rattle.tree.proofs.check.is_accepted.Statement.{statement}
 use Rattle.tree.proofs.check.is_accepted.Tie as tie
@@ -27,7 +27,7 @@ sub-check-node : tie.Need-sub-check-node
 sub-check-node c = omega (arith, present-gives _ _ _ (sym (c .before .is-present .ensures) ∙ not-false _ (c .if2 .left)))
 
 check-node-requires : tie.Need-check-node-requires
-check-node-requires c κs = root-asks _ _ _ _ _ _ (c .before .before .before .before .triangle-count .ensures) (sym (c .before .before .before .is-permutation .ensures) ∙ not-false _ (c .before .before .if1 .left)) (sym (c .before .is-present .ensures) ∙ not-false _ (c .if2 .left))
+check-node-requires c κs = root-needs _ _ _ _ _ _ (c .before .before .before .before .triangle-count .ensures) (sym (c .before .before .before .is-permutation .ensures) ∙ not-false _ (c .before .before .if1 .left)) (sym (c .before .is-present .ensures) ∙ not-false _ (c .if2 .left))
 
 is-whole-requires : tie.Need-is-whole-requires
 is-whole-requires c κs = search needs

@@ -41,7 +41,7 @@ use denote.Triple.Table.{entered, cited}
 use denote.Triple.Walked.{says, Stays, stay-none, stay-none-slice, walkOf, goes-none, goes-none-slice, Walks, ends-at, walked, walk-meets}
 use denote.Exit.{yes}
 use denote.Triple.Clauses.{ensured, lasts}
-use Rattle.spec_tables.specs.Tables.{part}
+use Rattle.spec_tables.specs.Tables.{slice}
 use Rattle.spec_tree.specs.Leaves.{entryAt}
 use Rattle.spec_tree.specs.Leaves as Leaves
 use Rattle.tree.specs.Values.{asEntryFound}
@@ -85,7 +85,7 @@ module _ {M : Type 1} (𝓤 : URA M) (H : Heap 𝓤) (A : Atoms 𝓤) (W : Given
   v = sliceVal (s .ptr) (length (s .now))
 
   abbrev found : Leaves.EntryFound
-  found = entryAt (part (now s) a (b - a)) n
+  found = entryAt (slice (now s) a (b - a)) n
 
   abbrev at : Vals entry-of.signature (κ, tt)
   at = (v ∷ [], (vint w64 a ∷ [], (vint w64 b ∷ [], (vint w64 n ∷ [], tt))))
@@ -115,8 +115,8 @@ module _ {M : Type 1} (𝓤 : URA M) (H : Heap 𝓤) (A : Atoms 𝓤) (W : Given
       nothing ! $ owned ! usize (Is usize) (uint-makes 𝓤 H A W w64) b _ (refl, b-fits) $ fjoin ! $ owned ! usize (Is usize) (uint-makes 𝓤 H A W w64) a _ (refl, a-fits) $ fjoin ! $ move ! (1 ∷ 0 ∷ []) $ fjoin ! $
       move ! (2 ∷ 0 ∷ []) $ use2 W (raw (Of 𝓤 H A mem run .pre to-of)) (qed W ((‵ (flft κ q) ⊛ ‵ ftrue) ∷ ‵ (owns (ShrSlice (named 0) κ u32 ∷ usize ∷ usize ∷ []) (s, (a, (b, tt))) first-three) ∷ []) ∵ join ! $ frame ! $ done !) $ frame ! $ done !
 
-  of-said : (r : Leaf) → ent 𝓤 (ensured 𝓤 H A of.ended (of.clauses 𝓤 H A mem run) (κ, tt) (s, (a, (b, tt))) tt r) (fact 𝓤 (now (r .part) ≡ part (now s) a (b - a)))
-  of-said r = exE 𝓤 _ (λ ws. snd∗ 𝓤 (sem 𝓤 H A (lasts of.ended (κ, tt) (s, (a, (b, tt))) ws)) (fact 𝓤 (now (r .part) ≡ part (now s) a (b - a))))
+  of-said : (r : Leaf) → ent 𝓤 (ensured 𝓤 H A of.ended (of.clauses 𝓤 H A mem run) (κ, tt) (s, (a, (b, tt))) tt r) (fact 𝓤 (now (r .slice) ≡ slice (now s) a (b - a)))
+  of-said r = exE 𝓤 _ (λ ws. snd∗ 𝓤 (sem 𝓤 H A (lasts of.ended (κ, tt) (s, (a, (b, tt))) ws)) (fact 𝓤 (now (r .slice) ≡ slice (now s) a (b - a))))
 
   -- the call of `entry`, at the struct r with the machine value u
   abbrev to-entry : Leaf → Val → Entry 𝓤 H A mem run .Ghost
@@ -126,8 +126,8 @@ module _ {M : Type 1} (𝓤 : URA M) (H : Heap 𝓤) (A : Atoms 𝓤) (W : Given
   goes-entry r u = qed W (‵ (B (κ, tt) .own r (u ∷ [])) ∷ (‵ (flft κ q) ⊛ ‵ ftrue) ∷ []) ∵
       nothing ! $ owned ! usize (Is usize) (uint-makes 𝓤 H A W w64) n _ (refl, n-fits) $ fjoin ! $ move ! (1 ∷ 0 ∷ []) $ fjoin ! $ move ! (1 ∷ 0 ∷ []) $ join ! $ frame ! $ done !
 
-  entry-said : (r : Leaf) (t : EntryFound) → ent 𝓤 (ensured 𝓤 H A entry.ended (entry.clauses 𝓤 H A mem run) (κ, tt) (r, (n, tt)) tt t) (fact 𝓤 (asEntryFound t ≡ entryAt (now (r .part)) n))
-  entry-said r t = exE 𝓤 _ (λ ws. snd∗ 𝓤 (sem 𝓤 H A (lasts entry.ended (κ, tt) (r, (n, tt)) ws)) (fact 𝓤 (asEntryFound t ≡ entryAt (now (r .part)) n)))
+  entry-said : (r : Leaf) (t : EntryFound) → ent 𝓤 (ensured 𝓤 H A entry.ended (entry.clauses 𝓤 H A mem run) (κ, tt) (r, (n, tt)) tt t) (fact 𝓤 (asEntryFound t ≡ entryAt (now (r .slice)) n))
+  entry-said r t = exE 𝓤 _ (λ ws. snd∗ 𝓤 (sem 𝓤 H A (lasts entry.ended (κ, tt) (r, (n, tt)) ws)) (fact 𝓤 (asEntryFound t ≡ entryAt (now (r .slice)) n)))
 
   exits : (t : EntryFound) (u : Val) → asEntryFound t ≡ found → ent 𝓤 (⋆ 𝓤 H A (‵ (S.the-row .own t (u ∷ [])) ∷ (‵ (flft κ q) ⊛ ‵ ftrue) ∷ ‵ Own ∷ [])) (Post u)
   exits t u e =
@@ -143,14 +143,14 @@ module _ {M : Type 1} (𝓤 : URA M) (H : Heap 𝓤) (A : Atoms 𝓤) (W : Given
         move ! (12 ∷ []) $ use1 W (raw (Of 𝓤 H A mem run .pre to-of) ⊛ ‵ Own) goes-of $ split ! $
         calls-at ! fm (Of 𝓤 H A mem run) known-of to-of (and-then ! (load ! (from ! (stop !)) (look ! 10 refl)) (and-then ! (load ! (from ! (stop !)) (look ! 8 refl)) (and-then ! (load ! (from ! (stop !)) (look ! 6 refl)) (no-more !)))) (λ u.
         use1 W (later (some (λ (r : Leaf). ((‵ (flft κ q) ⊛ ‵ ftrue) ⊛ ‵ (B (κ, tt) .own r (u ∷ []))) ⊛ raw (ensured 𝓤 H A of.ended (of.clauses 𝓤 H A mem run) (κ, tt) (s, (a, (b, tt))) tt r)))) (id⊢ 𝓤 _) $ await ! tt $ pick ! (λ r.
-        split ! $ move ! (1 ∷ []) $ use1 W (raw (fact 𝓤 (now (r .part) ≡ part (now s) a (b - a)))) (of-said r) $ heard ! (now (r .part) ≡ part (now s) a (b - a)) (λ e. split ! $ move ! (1 ∷ []) $
+        split ! $ move ! (1 ∷ []) $ use1 W (raw (fact 𝓤 (now (r .slice) ≡ slice (now s) a (b - a)))) (of-said r) $ heard ! (now (r .slice) ≡ slice (now s) a (b - a)) (λ e. split ! $ move ! (1 ∷ []) $
         -- [what the struct owns; the token; what s owns; room for _5; …; _4; …; _3; …; _2; …; _1; …; room for _0; …]
         peeks ! (B (κ, tt)) (Is (B (κ, tt))) (shows 𝓤 H A (B (κ, tt))) r (u ∷ []) (λ is.
         land ! (from ! (stop !)) (init ! 3 refl (LL.lawful (T.the-type αᵉ) (T′.the-laws αᵉ) 𝓤 H A W .typed r _ is .0)) $
         use2 W (raw (Entry 𝓤 H A mem run .pre (to-entry r u))) (goes-entry r u) $
         calls-at ! fm (Entry 𝓤 H A mem run) known-entry (to-entry r u) (and-then ! (load ! (from ! (stop !)) (look ! 2 refl)) (and-then ! (load ! (from ! (stop !)) (look ! 4 refl)) (no-more !))) (λ u′.
         use1 W (later (some (λ (t : EntryFound). ((‵ (flft κ q) ⊛ ‵ ftrue) ⊛ ‵ (S.the-row .own t (u′ ∷ []))) ⊛ raw (ensured 𝓤 H A entry.ended (entry.clauses 𝓤 H A mem run) (κ, tt) (r, (n, tt)) tt t)))) (id⊢ 𝓤 _) $ await ! tt $ pick ! (λ t.
-        split ! $ move ! (1 ∷ []) $ use1 W (raw (fact 𝓤 (asEntryFound t ≡ entryAt (now (r .part)) n))) (entry-said r t) $ heard ! (asEntryFound t ≡ entryAt (now (r .part)) n) (λ e′. split ! $ move ! (1 ∷ []) $
+        split ! $ move ! (1 ∷ []) $ use1 W (raw (fact 𝓤 (asEntryFound t ≡ entryAt (now (r .slice)) n))) (entry-said r t) $ heard ! (asEntryFound t ≡ entryAt (now (r .slice)) n) (λ e′. split ! $ move ! (1 ∷ []) $
         -- [the result; the token; what s owns; _5; …; _4; …; _3; …; _2; …; _1; …; room for _0; …]
         peeks ! S.the-row (Is S.the-row) (shows 𝓤 H A S.the-row) t (u′ ∷ []) (λ is′.
         land ! (from ! (stop !)) (init ! 13 refl (EL.lawful S.the-type S′.the-laws 𝓤 H A W tt .typed t _ is′ .0)) $

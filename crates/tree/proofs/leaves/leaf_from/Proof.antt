@@ -10,10 +10,10 @@ use Rattle.tree.proofs.leaves.leaf_from.Statement.{statement}
 use Rattle.tree.proofs.leaves.leaf_from.Tie as tie
 
 abbrev Inv-loop : tie.InvT-loop
-Inv-loop links boxes nodes from k node₀ left₀ node left = leafFrom links boxes nodes node left ≡ leafFrom links boxes nodes from k
+Inv-loop links boxes nodes from k node₀ remaining₀ node remaining = leafFrom links boxes nodes node remaining ≡ leafFrom links boxes nodes from k
 
 abbrev μ-loop : tie.MeasureT-loop
-μ-loop links boxes nodes from k node₀ left₀ node left = nodes - node
+μ-loop links boxes nodes from k node₀ remaining₀ node remaining = nodes - node
 
 loop-holds : tie.Need-loop-holds Inv-loop μ-loop
 loop-holds c = refl
@@ -37,8 +37,8 @@ returns c =
     ∙ sym (seek-here _ _ _ _ (tested .loop-test .taken) _ (sym (after-kind-at .kind-at .ensures) ∙ chosen .if1 .taken) (c .before .if2 .taken))
     ∙ turn .loop .inv
 
-sub-left : tie.Need-sub-left Inv-loop μ-loop
-sub-left c = omega (arith, c .if2 .left)
+sub-remaining : tie.Need-sub-remaining Inv-loop μ-loop
+sub-remaining c = omega (arith, c .if2 .left)
 
 add-node : tie.Need-add-node Inv-loop μ-loop
 add-node c = search needs
@@ -68,7 +68,7 @@ leaf-from-spec =
     kind-at-requires
     leaf-at-requires
     returns
-    sub-left
+    sub-remaining
     add-node
     loop-less
     loop-again

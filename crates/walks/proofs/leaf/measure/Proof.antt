@@ -8,7 +8,7 @@ use Rattle.spec_shapes.specs.Triangles.{Triangle, closestPoint, heldFrom, heldP
 use Rattle.spec_lists.specs.Reading.{triangleAt}
 use Rattle.spec_search.specs.Answers.{Hit}
 use Rattle.spec_search.specs.Sure.{hit, offered, tookSure}
-use Rattle.spec_search.specs.Source.{sourceHit, strictly, tookSource}
+use Rattle.spec_search.specs.Source.{sourceHit, keepSmaller, tookSource}
 use Rattle.spec_search.specs.Kept.{kept}
 use Rattle.walks.specs.Values.{asHit, pointOf, fourthOf, hitOf}
 use borrow.Author.Needs.{needs}
@@ -54,20 +54,20 @@ returns c =
     let after-point-of = after-wide .before in
     let start = after-point-of .before .before in
     let a = start .args in
-    let p = pointOf (a .asked .now) in
+    let p = pointOf (a .probe .now) in
     let read = after-triangle-at .triangle-at .ensures ∙ ap (triangleAt (a .triangles .now)) (after-wide .wide .ensures) in
     let point : asPoint (after-held .held .result) ≡ heldPoint binary32 (triangleAt (a .triangles .now) (a .t)) p =
     after-held .held .ensures ∙ ap (heldFrom (asTriangle (after-triangle-at .triangle-at .result))) (after-closest-point .closest-point .ensures ∙ ap (closestPoint binary32 (asTriangle (after-triangle-at .triangle-at .result))) (after-point-of .point-of .ensures))
     ∙ ap (λ (t : Triangle). heldFrom t (closestPoint binary32 t p)) read in
     let is : asHit (after-hit-at .hit-at .result) ≡ hit binary32 (a .triangles .now) p (a .t) =
     after-hit-at .hit-at .ensures ∙ ap (λ (x : Point). seen (asPoint (after-held .held .result)) x (a .t)) (after-point-of .point-of .ensures) ∙ ap (λ (q : Point). seen q p (a .t)) point in
-    rw (chosen .if1 .taken) (c .offer .ensures ∙ ap (λ (h : Hit). offered (fourthOf (a .asked .now)) h (kept (hitOf (a .best .now) (a .number .now)))) is)
+    rw (chosen .if1 .taken) (c .offer .ensures ∙ ap (λ (h : Hit). offered (fourthOf (a .probe .now)) h (kept (hitOf (a .best .now) (a .number .now)))) is)
 
 hit-at-requires-2 : tie.Need-hit-at-requires-2
 hit-at-requires-2 c κs = search needs
 
-meet-requires : tie.Need-meet-requires
-meet-requires c κs = search needs
+keep-smaller-requires : tie.Need-keep-smaller-requires
+keep-smaller-requires c κs = search needs
 
 returns-2 : tie.Need-returns-2
 unfolding tookSource sourceHit
@@ -80,10 +80,10 @@ returns-2 c =
     let after-point-of = after-wide .before in
     let start = after-point-of .before .before in
     let a = start .args in
-    let p = pointOf (a .asked .now) in
+    let p = pointOf (a .probe .now) in
     let is : asHit (after-hit-at2 .hit-at2 .result) ≡ sourceHit binary32 (a .triangles .now) p (a .t) =
     rw (after-hit-at2 .hit-at2 .ensures, after-closest-point .closest-point .ensures, after-triangle-at .triangle-at .ensures, after-wide .wide .ensures, after-point-of .point-of .ensures) in
-    rw (chosen .if1 .left) (c .meet .ensures ∙ ap (λ (h : Hit). strictly h (kept (hitOf (a .best .now) (a .number .now)))) is)
+    rw (chosen .if1 .left) (c .keep-smaller .ensures ∙ ap (λ (h : Hit). keepSmaller h (kept (hitOf (a .best .now) (a .number .now)))) is)
 
 pub measure-spec : {M : Type 1} → statement M
 measure-spec =
@@ -99,5 +99,5 @@ measure-spec =
     offer-requires
     returns
     hit-at-requires-2
-    meet-requires
+    keep-smaller-requires
     returns-2)

@@ -5,8 +5,8 @@ use mathlib.Core.Bool.{not}
 use native.Mathlib.Omega.{arith}
 use lib.Ieee.{binary32}
 use Rattle.spec_search.specs.Source.{sourceSearch}
-use Rattle.spec_search.proofs.Walked.{walk-passed, walk-looked}
-use Rattle.spec_search.proofs.Steps.{hangs-there, leaf-asks, pair-asks, levels-left, root-leaf-answers, root-pair-answers, right-asks, then-left-asks, right-answers}
+use Rattle.spec_search.proofs.Walked.{walk-skipped, walk-looked}
+use Rattle.spec_search.proofs.Steps.{hangs-there, leaf-needs, pair-needs, levels-remaining, root-leaf-answers, root-pair-answers, right-needs, then-left-needs, right-answers}
 use Rattle.walks.specs.Values.{pointOf, fourthOf, soughtOf}
 use Prim.Native.Nat.{ℕ, _+_, _-_, _<_}
 use borrow.Fn.Kinds.{In}
@@ -69,7 +69,7 @@ look-measure-leaf-requires t c κs =
     let known3 = after-links-of .before .before in
     let start = known3 .before .before .before in
     let a = start .args in
-    leaf-asks (a .triangles .now) (a .order .now) (a .links .now) (a .boxes .now) (a .depth) (a .node) (a .measured) _ _ _ (after-links-of .links-of .ensures) (start .pre .1) (chosen .if1 .taken)
+    leaf-needs (a .triangles .now) (a .order .now) (a .links .now) (a .boxes .now) (a .depth) (a .node) (a .measured) _ _ _ (after-links-of .links-of .ensures) (start .pre .1) (chosen .if1 .taken)
 
 look-returns : (t : ℕ) → look-lts.Need-returns (look-calls t) (look-at t) look.Post
 look-returns t c =
@@ -78,7 +78,7 @@ look-returns t c =
     let known3 = after-links-of .before .before in
     let start = known3 .before .before .before in
     let a = start .args in
-    let how = sourceSearch binary32 (a .triangles .now) (a .boxes .now) (pointOf (a .asked .now)) (fourthOf (a .asked .now)) in
+    let how = sourceSearch binary32 (a .triangles .now) (a .boxes .now) (pointOf (a .probe .now)) (fourthOf (a .probe .now)) in
     let s = soughtOf (a .best .now) (a .number .now) (a .measured) in
     root-leaf-answers (a .triangles .now) (a .order .now) (a .links .now) (a .boxes .now) (a .depth) (a .node) (a .measured) _ _ _ (after-links-of .links-of .ensures) (start .pre .1) how s _ (chosen .if1 .taken) (c .measure-leaf .ensures)
 
@@ -88,7 +88,7 @@ look-sub-below t c =
     let known3 = after-links-of .before .before in
     let start = known3 .before .before .before in
     let a = start .args in
-    levels-left (a .triangles .now) (a .order .now) (a .links .now) (a .boxes .now) (a .depth) (a .node) (a .measured) _ _ _ (after-links-of .links-of .ensures) (start .pre .1) (c .if1 .left)
+    levels-remaining (a .triangles .now) (a .order .now) (a .links .now) (a .boxes .now) (a .depth) (a .node) (a .measured) _ _ _ (after-links-of .links-of .ensures) (start .pre .1) (c .if1 .left)
 
 look-look-if-entered-requires : (t : ℕ) → look-lts.Need-look-if-entered-requires (look-calls t) (look-at t) look.Post
 look-look-if-entered-requires t c κs =
@@ -97,8 +97,8 @@ look-look-if-entered-requires t c κs =
     let known3 = after-links-of .before .before in
     let start = known3 .before .before .before in
     let a = start .args in (
-      falls-in (a .depth) t (levels-left (a .triangles .now) (a .order .now) (a .links .now) (a .boxes .now) (a .depth) (a .node) (a .measured) _ _ _ (after-links-of .links-of .ensures) (start .pre .1) (chosen .if1 .left)) (start .pre .0),
-      right-asks (a .triangles .now) (a .order .now) (a .links .now) (a .boxes .now) (a .depth - 1) _ _ (a .measured) (pair-asks (a .triangles .now) (a .order .now) (a .links .now) (a .boxes .now) (a .depth) (a .node) (a .measured) _ _ _ (after-links-of .links-of .ensures) (start .pre .1) (chosen .if1 .left)),
+      falls-in (a .depth) t (levels-remaining (a .triangles .now) (a .order .now) (a .links .now) (a .boxes .now) (a .depth) (a .node) (a .measured) _ _ _ (after-links-of .links-of .ensures) (start .pre .1) (chosen .if1 .left)) (start .pre .0),
+      right-needs (a .triangles .now) (a .order .now) (a .links .now) (a .boxes .now) (a .depth - 1) _ _ (a .measured) (pair-needs (a .triangles .now) (a .order .now) (a .links .now) (a .boxes .now) (a .depth) (a .node) (a .measured) _ _ _ (after-links-of .links-of .ensures) (start .pre .1) (chosen .if1 .left)),
     )
 
 look-look-if-entered-requires-2 : (t : ℕ) → look-lts.Need-look-if-entered-requires-2 (look-calls t) (look-at t) look.Post
@@ -109,10 +109,10 @@ look-look-if-entered-requires-2 t c κs =
     let known3 = after-links-of .before .before in
     let start = known3 .before .before .before in
     let a = start .args in
-    let how = sourceSearch binary32 (a .triangles .now) (a .boxes .now) (pointOf (a .asked .now)) (fourthOf (a .asked .now)) in
+    let how = sourceSearch binary32 (a .triangles .now) (a .boxes .now) (pointOf (a .probe .now)) (fourthOf (a .probe .now)) in
     let s = soughtOf (a .best .now) (a .number .now) (a .measured) in (
-      falls-in (a .depth) t (levels-left (a .triangles .now) (a .order .now) (a .links .now) (a .boxes .now) (a .depth) (a .node) (a .measured) _ _ _ (after-links-of .links-of .ensures) (start .pre .1) (chosen .if1 .left)) (start .pre .0),
-      then-left-asks (a .triangles .now) (a .order .now) (a .links .now) (a .boxes .now) (a .depth - 1) _ _ (a .measured) (pair-asks (a .triangles .now) (a .order .now) (a .links .now) (a .boxes .now) (a .depth) (a .node) (a .measured) _ _ _ (after-links-of .links-of .ensures) (start .pre .1) (chosen .if1 .left)) how s _ refl (after-look-if-entered .look-if-entered .ensures),
+      falls-in (a .depth) t (levels-remaining (a .triangles .now) (a .order .now) (a .links .now) (a .boxes .now) (a .depth) (a .node) (a .measured) _ _ _ (after-links-of .links-of .ensures) (start .pre .1) (chosen .if1 .left)) (start .pre .0),
+      then-left-needs (a .triangles .now) (a .order .now) (a .links .now) (a .boxes .now) (a .depth - 1) _ _ (a .measured) (pair-needs (a .triangles .now) (a .order .now) (a .links .now) (a .boxes .now) (a .depth) (a .node) (a .measured) _ _ _ (after-links-of .links-of .ensures) (start .pre .1) (chosen .if1 .left)) how s _ refl (after-look-if-entered .look-if-entered .ensures),
     )
 
 look-returns-2 : (t : ℕ) → look-lts.Need-returns-2 (look-calls t) (look-at t) look.Post
@@ -123,7 +123,7 @@ look-returns-2 t c =
     let known3 = after-links-of .before .before in
     let start = known3 .before .before .before in
     let a = start .args in
-    let how = sourceSearch binary32 (a .triangles .now) (a .boxes .now) (pointOf (a .asked .now)) (fourthOf (a .asked .now)) in
+    let how = sourceSearch binary32 (a .triangles .now) (a .boxes .now) (pointOf (a .probe .now)) (fourthOf (a .probe .now)) in
     let s = soughtOf (a .best .now) (a .number .now) (a .measured) in
     root-pair-answers (a .triangles .now) (a .order .now) (a .links .now) (a .boxes .now) (a .depth) (a .node) (a .measured) _ _ _ (after-links-of .links-of .ensures) (start .pre .1) how s _ (chosen .if1 .left)
     (right-answers how (a .order .now) (a .links .now) (a .depth - 1) _ _ s _ _ refl (after-look-if-entered .look-if-entered .ensures) (c .look-if-entered2 .ensures))
@@ -148,7 +148,7 @@ look-if-entered-returns t c =
     let known3 = after-does-enter .before .before in
     let start = known3 .before .before .before in
     let a = start .args in
-    let how = sourceSearch binary32 (a .triangles .now) (a .boxes .now) (pointOf (a .asked .now)) (fourthOf (a .asked .now)) in
+    let how = sourceSearch binary32 (a .triangles .now) (a .boxes .now) (pointOf (a .probe .now)) (fourthOf (a .probe .now)) in
     let s = soughtOf (a .best .now) (a .number .now) (a .measured) in
     c .look .ensures ∙ walk-looked how (a .order .now) (a .links .now) (a .depth) (a .node) s (ap not (sym (after-does-enter .does-enter .ensures) ∙ chosen .if1 .taken))
 
@@ -157,9 +157,9 @@ look-if-entered-returns-2 t c =
     let known3 = c .before .before .before in
     let start = known3 .before .before .before in
     let a = start .args in
-    let how = sourceSearch binary32 (a .triangles .now) (a .boxes .now) (pointOf (a .asked .now)) (fourthOf (a .asked .now)) in
+    let how = sourceSearch binary32 (a .triangles .now) (a .boxes .now) (pointOf (a .probe .now)) (fourthOf (a .probe .now)) in
     let s = soughtOf (a .best .now) (a .number .now) (a .measured) in
-    sym (walk-passed how (a .order .now) (a .links .now) (a .depth) (a .node) s (ap not (sym (c .before .does-enter .ensures) ∙ c .if1 .left)))
+    sym (walk-skipped how (a .order .now) (a .links .now) (a .depth) (a .node) s (ap not (sym (c .before .does-enter .ensures) ∙ c .if1 .left)))
 
 pub +look+look-if-entered-spec : {M : Type 1} → statement M
 +look+look-if-entered-spec = close μ-look μ-look-if-entered (λ t. look-lts.spec (look-calls t)

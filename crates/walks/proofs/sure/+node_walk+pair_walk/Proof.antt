@@ -7,8 +7,8 @@ use Prim.Native.Nat.{ℕ, _+_, _-_, _<_}
 use native.Mathlib.Omega.{arith}
 use lib.Ieee.{binary32}
 use Rattle.spec_search.specs.Sure.{sureSearch}
-use Rattle.spec_search.proofs.Walked.{walk-passed}
-use Rattle.spec_search.proofs.Steps.{hangs-there, leaf-asks, pair-asks, levels-left, leaf-answers, pair-answers, left-asks, right-asks, then-left-asks, then-right-asks, right-answers, left-answers, right-alone, left-alone, passed-here, right-first-here, sure-stays}
+use Rattle.spec_search.proofs.Walked.{walk-skipped}
+use Rattle.spec_search.proofs.Steps.{hangs-there, leaf-needs, pair-needs, levels-remaining, leaf-answers, pair-answers, left-needs, right-needs, then-left-needs, then-right-needs, right-answers, left-answers, right-alone, left-alone, skipped-here, right-first-here, sure-stays}
 use borrow.Author.Needs.{needs}
 use borrow.Fn.Kinds.{In}
 use borrow.Fn.PlainCycle.{Measures, is, falls, and}
@@ -18,7 +18,7 @@ use Rattle.walks.proofs.sure.+node_walk+pair_walk.Lts-node_walk as node
 use Rattle.walks.proofs.sure.pair_walk.Reads as pair-walk
 use Rattle.walks.proofs.sure.pair_walk.Kinds as pair-walk-kinds
 use Rattle.walks.proofs.sure.+node_walk+pair_walk.Lts-pair_walk as pair-walk-lts
-use Rattle.walks.proofs.kept.is_passed.Reads as is-passed-reads
+use Rattle.walks.proofs.kept.is_skipped.Reads as is-skipped-reads
 use Rattle.walks.proofs.links.links_of.Reads as links-of-reads
 use Rattle.walks.proofs.leaf.measure_leaf.Reads as measure-leaf-reads
 use Rattle.walks.proofs.sure.node_squared.Reads as node-squared-reads
@@ -54,8 +54,8 @@ falls-out d t e = omega arith
 -- what each member's callees ask and give
 abbrev node-calls : ℕ → node-walk-lts.Claims
 node-calls t = (
-  is-passed-reads.Asked,
-  is-passed-reads.Learnt,
+  is-skipped-reads.Asked,
+  is-skipped-reads.Learnt,
   links-of-reads.Asked,
   links-of-reads.Learnt,
   measure-leaf-reads.Asked,
@@ -68,25 +68,25 @@ abbrev pair-calls : ℕ → pair-walk-lts.Claims
 pair-calls t = (
   node-squared-reads.Asked,
   node-squared-reads.Learnt,
-  is-passed-reads.Asked,
-  is-passed-reads.Learnt,
+  is-skipped-reads.Asked,
+  is-skipped-reads.Learnt,
   node-walk-below t,
   node-walk.Post,
 )
 
 -- ---- a node
-node-walk-element-copy-out-is-passed : (t : ℕ) → node-walk-lts.Need-element-copy-out-is-passed (node-calls t) (node-walk-at t) node-walk.Post
-node-walk-element-copy-out-is-passed t c = search needs
+node-walk-element-copy-out-is-skipped : (t : ℕ) → node-walk-lts.Need-element-copy-out-is-skipped (node-calls t) (node-walk-at t) node-walk.Post
+node-walk-element-copy-out-is-skipped t c = search needs
 
-node-walk-is-passed-requires : (t : ℕ) → node-walk-lts.Need-is-passed-requires (node-calls t) (node-walk-at t) node-walk.Post
-node-walk-is-passed-requires t c κs = search needs
+node-walk-is-skipped-requires : (t : ℕ) → node-walk-lts.Need-is-skipped-requires (node-calls t) (node-walk-at t) node-walk.Post
+node-walk-is-skipped-requires t c κs = search needs
 
 -- skipped
 node-walk-returns : (t : ℕ) → node-walk-lts.Need-returns (node-calls t) (node-walk-at t) node-walk.Post
 node-walk-returns t c =
     let tested = c .before in
     let start = tested .before .before .before .before in
-    sym (walk-passed _ _ _ _ _ _ (passed-here binary32 _ _ _ _ _ _ _ true (start .pre .1 .1) (tested .is-passed .ensures) (c .if1 .taken)))
+    sym (walk-skipped _ _ _ _ _ _ (skipped-here binary32 _ _ _ _ _ _ _ true (start .pre .1 .1) (tested .is-skipped .ensures) (c .if1 .taken)))
 
 node-walk-links-of-requires : (t : ℕ) → node-walk-lts.Need-links-of-requires (node-calls t) (node-walk-at t) node-walk.Post
 node-walk-links-of-requires t c κs =
@@ -100,7 +100,7 @@ node-walk-measure-leaf-requires t c κs =
     let linked = told .before .before in
     let tested = linked .before .before .before in
     let safe = tested .before .before .before .before .pre .1 .0 in
-    leaf-asks _ _ _ _ _ _ _ _ _ _ (linked .links-of .ensures) safe (told .if2 .taken)
+    leaf-needs _ _ _ _ _ _ _ _ _ _ (linked .links-of .ensures) safe (told .if2 .taken)
 
 -- a leaf
 node-walk-returns-2 : (t : ℕ) → node-walk-lts.Need-returns-2 (node-calls t) (node-walk-at t) node-walk.Post
@@ -112,7 +112,7 @@ node-walk-returns-2 t c =
     let tested = looked .before in
     let start = tested .before .before .before .before in
     leaf-answers _ _ _ _ _ _ _ _ _ _ (linked .links-of .ensures) (start .pre .1 .0) _ _ _
-    (passed-here binary32 _ _ _ _ _ _ _ false (start .pre .1 .1) (tested .is-passed .ensures) (looked .if1 .left))
+    (skipped-here binary32 _ _ _ _ _ _ _ false (start .pre .1 .1) (tested .is-skipped .ensures) (looked .if1 .left))
     (told .if2 .taken) (c .measure-leaf .ensures)
 
 node-walk-sub-pair-walk : (t : ℕ) → node-walk-lts.Need-sub-pair-walk (node-calls t) (node-walk-at t) node-walk.Post
@@ -120,7 +120,7 @@ node-walk-sub-pair-walk t c =
     let linked = c .before .before in
     let tested = linked .before .before .before in
     let safe = tested .before .before .before .before .pre .1 .0 in
-    levels-left _ _ _ _ _ _ _ _ _ _ (linked .links-of .ensures) safe (c .if2 .left)
+    levels-remaining _ _ _ _ _ _ _ _ _ _ (linked .links-of .ensures) safe (c .if2 .left)
 
 node-walk-pair-walk-requires : (t : ℕ) → node-walk-lts.Need-pair-walk-requires (node-calls t) (node-walk-at t) node-walk.Post
 node-walk-pair-walk-requires t c κs =
@@ -129,8 +129,8 @@ node-walk-pair-walk-requires t c κs =
     let tested = linked .before .before .before in
     let start = tested .before .before .before .before in
     let safe = start .pre .1 .0 in (
-      falls-in (start .args .depth) t (levels-left _ _ _ _ _ _ _ _ _ _ (linked .links-of .ensures) safe (told .if2 .left)) (start .pre .0),
-      pair-asks _ _ _ _ _ _ _ _ _ _ (linked .links-of .ensures) safe (told .if2 .left),
+      falls-in (start .args .depth) t (levels-remaining _ _ _ _ _ _ _ _ _ _ (linked .links-of .ensures) safe (told .if2 .left)) (start .pre .0),
+      pair-needs _ _ _ _ _ _ _ _ _ _ (linked .links-of .ensures) safe (told .if2 .left),
     )
 
 -- a branch
@@ -142,7 +142,7 @@ node-walk-returns-3 t c =
     let tested = looked .before in
     let start = tested .before .before .before .before in
     pair-answers _ _ _ _ _ _ _ _ _ _ (linked .links-of .ensures) (start .pre .1 .0) _ _ _
-    (passed-here binary32 _ _ _ _ _ _ _ false (start .pre .1 .1) (tested .is-passed .ensures) (looked .if1 .left))
+    (skipped-here binary32 _ _ _ _ _ _ _ false (start .pre .1 .1) (tested .is-skipped .ensures) (looked .if1 .left))
     (told .if2 .left) (c .pair-walk .ensures)
 
 -- ---- a pair
@@ -156,11 +156,11 @@ pair-walk-node-squared-requires-2 t c κs =
     let safe = c .before .before .before .pre .1 in
     hangs-there _ _ _ _ (safe .right-tree) _ (safe .right-hangs) .boxes-there
 
-pair-walk-element-copy-out-is-passed : (t : ℕ) → pair-walk-lts.Need-element-copy-out-is-passed (pair-calls t) (pair-walk-at t) pair-walk.Post
-pair-walk-element-copy-out-is-passed t c = search needs
+pair-walk-element-copy-out-is-skipped : (t : ℕ) → pair-walk-lts.Need-element-copy-out-is-skipped (pair-calls t) (pair-walk-at t) pair-walk.Post
+pair-walk-element-copy-out-is-skipped t c = search needs
 
-pair-walk-is-passed-requires : (t : ℕ) → pair-walk-lts.Need-is-passed-requires (pair-calls t) (pair-walk-at t) pair-walk.Post
-pair-walk-is-passed-requires t c κs = search needs
+pair-walk-is-skipped-requires : (t : ℕ) → pair-walk-lts.Need-is-skipped-requires (pair-calls t) (pair-walk-at t) pair-walk.Post
+pair-walk-is-skipped-requires t c κs = search needs
 
 pair-walk-node-walk-requires : (t : ℕ) → pair-walk-lts.Need-node-walk-requires (pair-calls t) (pair-walk-at t) pair-walk.Post
 pair-walk-node-walk-requires t c κs =
@@ -168,7 +168,7 @@ pair-walk-node-walk-requires t c κs =
     let chosen = tested .before .before .before .before in
     let right = chosen .before in
     let start = right .before .before .before .before in
-    (falls-out (start .args .depth) t (start .pre .0), (right-asks _ _ _ _ _ _ _ _ (start .pre .1), right .node-squared2 .ensures))
+    (falls-out (start .args .depth) t (start .pre .0), (right-needs _ _ _ _ _ _ _ _ (start .pre .1), right .node-squared2 .ensures))
 
 -- the right one alone
 pair-walk-returns : (t : ℕ) → pair-walk-lts.Need-returns (pair-calls t) (pair-walk-at t) pair-walk.Post
@@ -180,7 +180,7 @@ pair-walk-returns t c =
     let left = right .before .before in
     right-alone _ (sure-stays binary32 _ _ _ _) _ _ _ _ _ _ _
     (right-first-here binary32 _ _ _ _ _ _ true (left .node-squared .ensures) (right .node-squared2 .ensures) (chosen .if1 .taken))
-    (passed-here binary32 _ _ _ _ _ _ _ true (left .node-squared .ensures) (tested .is-passed .ensures) (told .if2 .taken))
+    (skipped-here binary32 _ _ _ _ _ _ _ true (left .node-squared .ensures) (tested .is-skipped .ensures) (told .if2 .taken))
     (c .node-walk .ensures)
 
 pair-walk-node-walk-requires-2 : (t : ℕ) → pair-walk-lts.Need-node-walk-requires-2 (pair-calls t) (pair-walk-at t) pair-walk.Post
@@ -189,7 +189,7 @@ pair-walk-node-walk-requires-2 t c κs =
     let chosen = tested .before .before .before .before in
     let right = chosen .before in
     let start = right .before .before .before .before in
-    (falls-out (start .args .depth) t (start .pre .0), (right-asks _ _ _ _ _ _ _ _ (start .pre .1), right .node-squared2 .ensures))
+    (falls-out (start .args .depth) t (start .pre .0), (right-needs _ _ _ _ _ _ _ _ (start .pre .1), right .node-squared2 .ensures))
 
 pair-walk-node-walk-requires-3 : (t : ℕ) → pair-walk-lts.Need-node-walk-requires-3 (pair-calls t) (pair-walk-at t) pair-walk.Post
 pair-walk-node-walk-requires-3 t c κs =
@@ -199,7 +199,7 @@ pair-walk-node-walk-requires-3 t c κs =
     let right = chosen .before in
     let left = right .before .before in
     let start = left .before .before in
-    let safe = then-left-asks _ _ _ _ _ _ _ _ (start .pre .1) _ _ _ refl (first .node-walk2 .ensures) in
+    let safe = then-left-needs _ _ _ _ _ _ _ _ (start .pre .1) _ _ _ refl (first .node-walk2 .ensures) in
     (falls-out (start .args .depth) t (start .pre .0), (safe, left .node-squared .ensures))
 
 -- the right one, then the left one
@@ -214,11 +214,11 @@ pair-walk-returns-2 t c =
     (right-first-here binary32 _ _ _ _ _ _ true (left .node-squared .ensures) (right .node-squared2 .ensures) (chosen .if1 .taken))
     (first .node-walk2 .ensures) (c .node-walk3 .ensures)
 
-pair-walk-element-copy-out-is-passed-2 : (t : ℕ) → pair-walk-lts.Need-element-copy-out-is-passed-2 (pair-calls t) (pair-walk-at t) pair-walk.Post
-pair-walk-element-copy-out-is-passed-2 t c = search needs
+pair-walk-element-copy-out-is-skipped-2 : (t : ℕ) → pair-walk-lts.Need-element-copy-out-is-skipped-2 (pair-calls t) (pair-walk-at t) pair-walk.Post
+pair-walk-element-copy-out-is-skipped-2 t c = search needs
 
-pair-walk-is-passed-requires-2 : (t : ℕ) → pair-walk-lts.Need-is-passed-requires-2 (pair-calls t) (pair-walk-at t) pair-walk.Post
-pair-walk-is-passed-requires-2 t c κs = search needs
+pair-walk-is-skipped-requires-2 : (t : ℕ) → pair-walk-lts.Need-is-skipped-requires-2 (pair-calls t) (pair-walk-at t) pair-walk.Post
+pair-walk-is-skipped-requires-2 t c κs = search needs
 
 pair-walk-node-walk-requires-4 : (t : ℕ) → pair-walk-lts.Need-node-walk-requires-4 (pair-calls t) (pair-walk-at t) pair-walk.Post
 pair-walk-node-walk-requires-4 t c κs =
@@ -227,7 +227,7 @@ pair-walk-node-walk-requires-4 t c κs =
     let right = chosen .before in
     let left = right .before .before in
     let start = left .before .before in
-    (falls-out (start .args .depth) t (start .pre .0), (left-asks _ _ _ _ _ _ _ _ (start .pre .1), left .node-squared .ensures))
+    (falls-out (start .args .depth) t (start .pre .0), (left-needs _ _ _ _ _ _ _ _ (start .pre .1), left .node-squared .ensures))
 
 -- the left one alone
 pair-walk-returns-3 : (t : ℕ) → pair-walk-lts.Need-returns-3 (pair-calls t) (pair-walk-at t) pair-walk.Post
@@ -239,7 +239,7 @@ pair-walk-returns-3 t c =
     let left = right .before .before in
     left-alone _ (sure-stays binary32 _ _ _ _) _ _ _ _ _ _ _
     (right-first-here binary32 _ _ _ _ _ _ false (left .node-squared .ensures) (right .node-squared2 .ensures) (chosen .if1 .left))
-    (passed-here binary32 _ _ _ _ _ _ _ true (right .node-squared2 .ensures) (tested .is-passed2 .ensures) (told .if3 .taken))
+    (skipped-here binary32 _ _ _ _ _ _ _ true (right .node-squared2 .ensures) (tested .is-skipped2 .ensures) (told .if3 .taken))
     (c .node-walk4 .ensures)
 
 pair-walk-node-walk-requires-5 : (t : ℕ) → pair-walk-lts.Need-node-walk-requires-5 (pair-calls t) (pair-walk-at t) pair-walk.Post
@@ -249,7 +249,7 @@ pair-walk-node-walk-requires-5 t c κs =
     let right = chosen .before in
     let left = right .before .before in
     let start = left .before .before in
-    (falls-out (start .args .depth) t (start .pre .0), (left-asks _ _ _ _ _ _ _ _ (start .pre .1), left .node-squared .ensures))
+    (falls-out (start .args .depth) t (start .pre .0), (left-needs _ _ _ _ _ _ _ _ (start .pre .1), left .node-squared .ensures))
 
 pair-walk-node-walk-requires-6 : (t : ℕ) → pair-walk-lts.Need-node-walk-requires-6 (pair-calls t) (pair-walk-at t) pair-walk.Post
 pair-walk-node-walk-requires-6 t c κs =
@@ -258,7 +258,7 @@ pair-walk-node-walk-requires-6 t c κs =
     let chosen = tested .before .before .before .before in
     let right = chosen .before in
     let start = right .before .before .before .before in
-    let safe = then-right-asks _ _ _ _ _ _ _ _ (start .pre .1) _ _ _ refl (first .node-walk5 .ensures) in
+    let safe = then-right-needs _ _ _ _ _ _ _ _ (start .pre .1) _ _ _ refl (first .node-walk5 .ensures) in
     (falls-out (start .args .depth) t (start .pre .0), (safe, right .node-squared2 .ensures))
 
 -- the left one, then the right one
@@ -277,8 +277,8 @@ pub +node-walk+pair-walk-spec : {M : Type 1} → statement M
 +node-walk+pair-walk-spec = close μ-node-walk μ-pair-walk (λ t. node-walk-lts.spec (node-calls t)
     (node-walk-at t)
     node-walk.Post
-    (node-walk-element-copy-out-is-passed t)
-    (node-walk-is-passed-requires t)
+    (node-walk-element-copy-out-is-skipped t)
+    (node-walk-is-skipped-requires t)
     (node-walk-returns t)
     (node-walk-links-of-requires t)
     (node-walk-measure-leaf-requires t)
@@ -292,15 +292,15 @@ pub +node-walk+pair-walk-spec : {M : Type 1} → statement M
     pair-walk.Post
     (pair-walk-node-squared-requires t)
     (pair-walk-node-squared-requires-2 t)
-    (pair-walk-element-copy-out-is-passed t)
-    (pair-walk-is-passed-requires t)
+    (pair-walk-element-copy-out-is-skipped t)
+    (pair-walk-is-skipped-requires t)
     (pair-walk-node-walk-requires t)
     (pair-walk-returns t)
     (pair-walk-node-walk-requires-2 t)
     (pair-walk-node-walk-requires-3 t)
     (pair-walk-returns-2 t)
-    (pair-walk-element-copy-out-is-passed-2 t)
-    (pair-walk-is-passed-requires-2 t)
+    (pair-walk-element-copy-out-is-skipped-2 t)
+    (pair-walk-is-skipped-requires-2 t)
     (pair-walk-node-walk-requires-4 t)
     (pair-walk-returns-3 t)
     (pair-walk-node-walk-requires-5 t)

@@ -14,8 +14,8 @@ sub-root c = root-there _ _ _ _ _ (c .before .before .before .before .pre)
 
 node-squared-requires : tie.Need-node-squared-requires
 node-squared-requires c κs =
-    let asked = c .before in
-    let safe = root-safe _ _ _ _ _ (asked .before .before .before .before .pre) in
+    let probe = c .before in
+    let safe = root-safe _ _ _ _ _ (probe .before .before .before .before .pre) in
     hangs-there _ _ _ _ (safe .tree) _ (safe .hangs) .boxes-there
 
 sub-node-walk : tie.Need-sub-node-walk
@@ -25,8 +25,8 @@ node-walk-requires : tie.Need-node-walk-requires
 node-walk-requires c κs =
     let lent = c .before .before .before .before in
     let away = lent .before .before .before in
-    let asked = away .before .before in
-    let start = asked .before .before .before .before in
+    let probe = away .before .before in
+    let start = probe .before .before .before .before in
     (root-safe _ _ _ _ _ (start .pre), away .node-squared .ensures)
 
 answer-of-requires : tie.Need-answer-of-requires

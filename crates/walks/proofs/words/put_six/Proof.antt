@@ -1,7 +1,7 @@
 -- `walks::words::put_six` meets its contract: the six stores are one write.
 use native.Mathlib.Omega.{arith}
 use lib.ListN.{length-set}
-use Rattle.spec_tables.proofs.Tables.{six-over}
+use Rattle.spec_tables.proofs.Tables.{six-overwrite}
 use borrow.Author.Needs.{needs}
 use Rattle.walks.proofs.words.put_six.Statement.{statement}
 use Rattle.walks.proofs.words.put_six.Tie as tie
@@ -61,7 +61,7 @@ same-length : tie.Need-same-length
 same-length c = search needs
 
 returns : tie.Need-returns
-returns c = six-over _ _ _ _ _ _ _ _ (c .pre)
+returns c = six-overwrite _ _ _ _ _ _ _ _ (c .pre)
 
 pub put-six-spec : {M : Type 1} → statement M
 put-six-spec =

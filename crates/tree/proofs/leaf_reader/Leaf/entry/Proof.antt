@@ -81,10 +81,10 @@ module _ {M : Type 1} (𝓤 : URA M) (H : Heap 𝓤) (A : Atoms 𝓤) (W : Given
 
   -- the machine value of src
   abbrev v : Val
-  v = sliceVal (d .part .ptr) (length (d .part .now))
+  v = sliceVal (d .slice .ptr) (length (d .slice .now))
 
   abbrev found : Leaves.EntryFound
-  found = entryAt (now (d .part)) n
+  found = entryAt (now (d .slice)) n
 
   abbrev at : Vals entry.signature (κ, tt)
   at = (mach ∷ [], (vint w64 n ∷ [], tt))
@@ -103,31 +103,31 @@ module _ {M : Type 1} (𝓤 : URA M) (H : Heap 𝓤) (A : Atoms 𝓤) (W : Given
   L = T′.the-laws (namedLft 1 0 tt (κ, tt))
 
   abbrev vd : Values (D .parts)
-  vd = (d .part, tt)
+  vd = (d .slice, tt)
 
   -- what the callee is passed
   abbrev passed : Vals entry-at.signature (κ, tt)
   passed = (v ∷ [], (vint w64 n ∷ [], tt))
 
   abbrev to : EntryAt 𝓤 H A mem run .Ghost
-  to = (((κ, tt), (q, tt), tt, (d .part, (n, tt)), passed), tt)
+  to = (((κ, tt), (q, tt), tt, (d .slice, (n, tt)), passed), tt)
 
-  asked : ent 𝓤 (onEntry 𝓤 H A entry-at.signature (κ, tt) (q, tt) (d .part, (n, tt)) passed) (EntryAt 𝓤 H A mem run .pre to)
-  asked = qed W ((‵ (flft κ q) ⊛ ‵ ftrue) ∷ ‵ (owns (ShrSlice (named 0) κ u32 ∷ usize ∷ []) (d .part, (n, tt)) passed) ∷ []) ∵ join ! $ frame ! $ done !
+  asked : ent 𝓤 (onEntry 𝓤 H A entry-at.signature (κ, tt) (q, tt) (d .slice, (n, tt)) passed) (EntryAt 𝓤 H A mem run .pre to)
+  asked = qed W ((‵ (flft κ q) ⊛ ‵ ftrue) ∷ ‵ (owns (ShrSlice (named 0) κ u32 ∷ usize ∷ []) (d .slice, (n, tt)) passed) ∷ []) ∵ join ! $ frame ! $ done !
 
   -- what the struct owns gives what the callee asks, and is kept
   apart : ent 𝓤 (onEntry 𝓤 H A entry.signature (κ, tt) (q, tt) (d, (n, tt)) at) (sep 𝓤 (EntryAt 𝓤 H A mem run .pre to) (sem 𝓤 H A Own))
   apart =
       qed W ((‵ (flft κ q) ⊛ ‵ ftrue) ∷ ‵ (owns (B (κ, tt) ∷ usize ∷ []) (d, (n, tt)) at) ∷ []) ∵
       move ! (1 ∷ []) $ fsplit ! $ move ! (1 ∷ []) $ drop ! $ use1 W (‵ Own ⊛ ‵ Own) (LL.copy D (T′.the-copy (namedLft 1 0 tt (κ, tt))) 𝓤 H A W .twice d (mach ∷ [])) $ split ! $
-      use1 W (given (mach ∷ [] ≡ mach ∷ []) (‵ (all-own (D .parts) L vd))) (own-open 𝓤 H A W D L vd mach) $ learn ! (λ _. use1 W (‵ (ownAt (D .parts) L 0 (d .part)) ⊛ ‵ (rest (D .parts) L 0 vd)) (own-out 𝓤 H A W (D .parts) L 0 vd) $ split ! $
+      use1 W (given (mach ∷ [] ≡ mach ∷ []) (‵ (all-own (D .parts) L vd))) (own-open 𝓤 H A W D L vd mach) $ learn ! (λ _. use1 W (‵ (ownAt (D .parts) L 0 (d .slice)) ⊛ ‵ (rest (D .parts) L 0 vd)) (own-out 𝓤 H A W (D .parts) L 0 vd) $ split ! $
       -- [what src owns; what at owns; what the struct owns; the token]
       move ! (1 ∷ []) $ drop ! $ nothing ! $ owned ! usize (Is usize) (uint-makes 𝓤 H A W w64) n _ (refl, ok) $ fjoin ! $ move ! (1 ∷ 0 ∷ []) $ fjoin ! $
       move ! (2 ∷ 0 ∷ []) $ use2 W (raw (EntryAt 𝓤 H A mem run .pre to)) asked $ frame ! $ done !)
 
   -- of the callee's `ensured`, the clause alone: it has no `&mut`, so what is said of last values is dropped
-  said : (r : EntryFound) → ent 𝓤 (ensured 𝓤 H A entry-at.ended (entry-at.clauses 𝓤 H A mem run) (κ, tt) (d .part, (n, tt)) tt r) (fact 𝓤 (asEntryFound r ≡ found))
-  said r = exE 𝓤 _ (λ ws. snd∗ 𝓤 (sem 𝓤 H A (lasts entry-at.ended (κ, tt) (d .part, (n, tt)) ws)) (fact 𝓤 (asEntryFound r ≡ found)))
+  said : (r : EntryFound) → ent 𝓤 (ensured 𝓤 H A entry-at.ended (entry-at.clauses 𝓤 H A mem run) (κ, tt) (d .slice, (n, tt)) tt r) (fact 𝓤 (asEntryFound r ≡ found))
+  said r = exE 𝓤 _ (λ ws. snd∗ 𝓤 (sem 𝓤 H A (lasts entry-at.ended (κ, tt) (d .slice, (n, tt)) ws)) (fact 𝓤 (asEntryFound r ≡ found)))
 
   exits : (r : EntryFound) (u : Val) → asEntryFound r ≡ found → ent 𝓤 (⋆ 𝓤 H A (‵ (S.the-row .own r (u ∷ [])) ∷ (‵ (flft κ q) ⊛ ‵ ftrue) ∷ ‵ Own ∷ [])) (Post u)
   exits r u e =
@@ -143,7 +143,7 @@ module _ {M : Type 1} (𝓤 : URA M) (H : Heap 𝓤) (A : Atoms 𝓤) (W : Given
         assigns ! (of-opd ! (load ! (from ! (fld ! refl (stop !))) (look-in ! 4 (sub ! 0 refl (whole !))))) (from ! (stop !)) (init ! 0 refl (tt, wt .1 .0)) $
         move ! (8 ∷ []) $ use1 W (raw (EntryAt 𝓤 H A mem run .pre to) ⊛ ‵ Own) apart $ split ! $
         calls-at ! fm (EntryAt 𝓤 H A mem run) known to (and-then ! (load ! (from ! (stop !)) (look ! 2 refl)) (and-then ! (load ! (from ! (stop !)) (look ! 4 refl)) (no-more !))) (λ u.
-        use1 W (later (some (λ (r : EntryFound). ((‵ (flft κ q) ⊛ ‵ ftrue) ⊛ ‵ (S.the-row .own r (u ∷ []))) ⊛ raw (ensured 𝓤 H A entry-at.ended (entry-at.clauses 𝓤 H A mem run) (κ, tt) (d .part, (n, tt)) tt r)))) (id⊢ 𝓤 _) $ await ! tt $ pick ! (λ r.
+        use1 W (later (some (λ (r : EntryFound). ((‵ (flft κ q) ⊛ ‵ ftrue) ⊛ ‵ (S.the-row .own r (u ∷ []))) ⊛ raw (ensured 𝓤 H A entry-at.ended (entry-at.clauses 𝓤 H A mem run) (κ, tt) (d .slice, (n, tt)) tt r)))) (id⊢ 𝓤 _) $ await ! tt $ pick ! (λ r.
         split ! $ move ! (1 ∷ []) $ use1 W (raw (fact 𝓤 (asEntryFound r ≡ found))) (said r) $ heard ! (asEntryFound r ≡ found) (λ e. split ! $ move ! (1 ∷ []) $
         -- [the result; the token; what the struct owns; _3; …; _2; …; _1; …; room for _0; …]
         peeks ! S.the-row (Is S.the-row) (shows 𝓤 H A S.the-row) r (u ∷ []) (λ is.

@@ -53,7 +53,7 @@ module _ {M : Type 1} (𝓤 : URA M) (H : Heap 𝓤) (A : Atoms 𝓤) (W : Given
   mach = T′.lowered d
 
   abbrev n : ℕ
-  n = length (now (d .part))
+  n = length (now (d .slice))
 
   abbrev Post : Val → SProp 𝓤
   Post = walkOf 𝓤 H A len.ended stayed (len.clauses 𝓤 H A mem run) .post (((κ, tt), (q, tt), tt, (d, tt), (mach ∷ [], tt)), tt)

@@ -1,6 +1,6 @@
 -- `tree::leaf_reader::Leaf::of` meets its contract: a walk of its MIR, by hand.
--- `part_of` is called, and a `Leaf` is made of the slice that it returns, in the result's local.
--- All that the proof knows of `part_of` is that it meets its contract.
+-- `slice_of` is called, and a `Leaf` is made of the slice that it returns, in the result's local.
+-- All that the proof knows of `slice_of` is that it meets its contract.
 -- A `&[u32]` is Copy, so what order owns is had twice: once for the callee, and once for the exit. What the slice owns is all that the struct owns.
 -- The machine value in the struct is what the call returned, and what it owns says that it is the slice's own.
 use mathlib.Core.Path.{_≡_, refl, sym, subst}
@@ -40,14 +40,14 @@ use denote.Triple.Table.{entered, cited}
 use denote.Triple.Walked.{says, Stays, stay-none, stay-none-slice, walkOf, goes-none, goes-none-slice, Walks, ends-at, walked, walk-meets}
 use denote.Exit.{yes}
 use denote.Triple.Clauses.{ensured, lasts}
-use Rattle.spec_tables.specs.Tables.{part}
+use Rattle.spec_tables.specs.Tables.{slice}
 use Rattle.tree.specs.declared.leaf_reader.Leaf.{Leaf}
 use Rattle.tree.proofs.leaf_reader.Leaf as T
 use Rattle.tree.proofs.leaf_reader.Leaf.Laws as T′
-use Rattle.tree.proofs.leaf_reader.part_of as part-of
-use Rattle.tree.proofs.leaf_reader.part_of.Symbol as part-of-def
-use Rattle.tree.proofs.leaf_reader.part_of.Symbol.{name as #part-of}
-use Rattle.tree.proofs.leaf_reader.part_of.Met as part-of-thm
+use Rattle.tree.proofs.leaf_reader.slice_of as slice-of
+use Rattle.tree.proofs.leaf_reader.slice_of.Symbol as slice-of-def
+use Rattle.tree.proofs.leaf_reader.slice_of.Symbol.{name as #slice-of}
+use Rattle.tree.proofs.leaf_reader.slice_of.Met as slice-of-thm
 use Rattle.tree.proofs.leaf_reader.Leaf.of.Key.{name as #of}
 use Rattle.tree.proofs.leaf_reader.Leaf.of as of
 use Rattle.tree.proofs.leaf_reader.Leaf.of.Statement as stated
@@ -58,8 +58,8 @@ stayed = (stay-none-slice (0 ∷ []) tt (plain (λ _. u32)) yes, (stay-none (λ 
 
 module _ {M : Type 1} (𝓤 : URA M) (H : Heap 𝓤) (A : Atoms 𝓤) (mem : Memory → SProp 𝓤) (run : Routine → Fun 𝓤) where
   -- the contract that the proof cites
-  abbrev PartOf : Contract 𝓤
-  PartOf = tripleOf 𝓤 H A part-of.signature (part-of.spec 𝓤 H A mem run)
+  abbrev SliceOf : Contract 𝓤
+  SliceOf = tripleOf 𝓤 H A slice-of.signature (slice-of.spec 𝓤 H A mem run)
 
 module _ {M : Type 1} (𝓤 : URA M) (H : Heap 𝓤) (A : Atoms 𝓤) (W : Given 𝓤 H A) (mem : Memory → SProp 𝓤) (run : Routine → Fun 𝓤) (κ : Lft) (q : Share) (s : RefT (List ℕ)) (a b : ℕ) (a-fits : a < 2 ^ 64) (b-fits : b < 2 ^ 64) where
   abbrev α : NamedLft
@@ -77,7 +77,7 @@ module _ {M : Type 1} (𝓤 : URA M) (H : Heap 𝓤) (A : Atoms 𝓤) (W : Given
   around w = vstruct (vcons w vnil)
 
   abbrev made : RefT (List ℕ) → Leaf
-  made r = record { part = r }
+  made r = record { slice = r }
 
   abbrev at : Vals of.signature (κ, tt)
   at = (valOf s ∷ [], (vint w64 a ∷ [], (vint w64 b ∷ [], tt)))
@@ -88,32 +88,32 @@ module _ {M : Type 1} (𝓤 : URA M) (H : Heap 𝓤) (A : Atoms 𝓤) (W : Given
   abbrev Own : Fml
   Own = Slice .own s (valOf s ∷ [])
 
-  -- the call of `part_of`: what it is passed, what it asks, and what is known of its result
-  abbrev to : PartOf 𝓤 H A mem run .Ghost
+  -- the call of `slice_of`: what it is passed, what it asks, and what is known of its result
+  abbrev to : SliceOf 𝓤 H A mem run .Ghost
   to = (((κ, tt), (q, tt), tt, (s, (a, (b, tt))), at), tt)
 
-  goes : ent 𝓤 (onEntry 𝓤 H A of.signature (κ, tt) (q, tt) (s, (a, (b, tt))) at) (sep 𝓤 (PartOf 𝓤 H A mem run .pre to) (sem 𝓤 H A Own))
+  goes : ent 𝓤 (onEntry 𝓤 H A of.signature (κ, tt) (q, tt) (s, (a, (b, tt))) at) (sep 𝓤 (SliceOf 𝓤 H A mem run .pre to) (sem 𝓤 H A Own))
   goes =
       qed W ((‵ (flft κ q) ⊛ ‵ ftrue) ∷ ‵ (owns (Slice ∷ usize ∷ usize ∷ []) (s, (a, (b, tt))) at) ∷ []) ∵
       move ! (1 ∷ []) $ fsplit ! $ use1 W (‵ Own ⊛ ‵ Own) (shr-slice-copy 𝓤 H A W (named 0) κ u32 .twice s (valOf s ∷ [])) $ split ! $
-      move ! (0 ∷ 2 ∷ []) $ fjoin ! $ move ! (2 ∷ 0 ∷ []) $ use2 W (raw (PartOf 𝓤 H A mem run .pre to)) (qed W ((‵ (flft κ q) ⊛ ‵ ftrue) ∷ ‵ (owns (Slice ∷ usize ∷ usize ∷ []) (s, (a, (b, tt))) at) ∷ []) ∵ join ! $ frame ! $ done !) $ frame ! $ done !
+      move ! (0 ∷ 2 ∷ []) $ fjoin ! $ move ! (2 ∷ 0 ∷ []) $ use2 W (raw (SliceOf 𝓤 H A mem run .pre to)) (qed W ((‵ (flft κ q) ⊛ ‵ ftrue) ∷ ‵ (owns (Slice ∷ usize ∷ usize ∷ []) (s, (a, (b, tt))) at) ∷ []) ∵ join ! $ frame ! $ done !) $ frame ! $ done !
 
   abbrev Told : RefT (List ℕ) → Type 0
-  Told r = now r ≡ part (now s) a (b - a)
+  Told r = now r ≡ slice (now s) a (b - a)
 
-  said : (r : RefT (List ℕ)) → ent 𝓤 (ensured 𝓤 H A part-of.ended (part-of.clauses 𝓤 H A mem run) (κ, tt) (s, (a, (b, tt))) tt r) (fact 𝓤 (Told r))
-  said r = exE 𝓤 _ (λ ws. snd∗ 𝓤 (sem 𝓤 H A (lasts part-of.ended (κ, tt) (s, (a, (b, tt))) ws)) (fact 𝓤 (Told r)))
+  said : (r : RefT (List ℕ)) → ent 𝓤 (ensured 𝓤 H A slice-of.ended (slice-of.clauses 𝓤 H A mem run) (κ, tt) (s, (a, (b, tt))) tt r) (fact 𝓤 (Told r))
+  said r = exE 𝓤 _ (λ ws. snd∗ 𝓤 (sem 𝓤 H A (lasts slice-of.ended (κ, tt) (s, (a, (b, tt))) ws)) (fact 𝓤 (Told r)))
 
-  -- the struct, of the part's own machine value
+  -- the struct, of the slice's own machine value
   shut : (r : RefT (List ℕ)) → Told r → ent 𝓤 (⋆ 𝓤 H A (‵ (Slice .own r (valOf r ∷ [])) ∷ (‵ (flft κ q) ⊛ ‵ ftrue) ∷ ‵ Own ∷ [])) (Post (around (valOf r)))
   shut r e =
       qed W (‵ (Slice .own r (valOf r ∷ [])) ∷ (‵ (flft κ q) ⊛ ‵ ftrue) ∷ ‵ Own ∷ []) ∵
       suffices ! _ (ends-at 𝓤 H A of.ended stayed (of.clauses 𝓤 H A mem run) W (((κ, tt), (q, tt), tt, (s, (a, (b, tt))), at), tt) (around (valOf r)) (made r) (tt, (tt, (tt, tt))) (tt, (tt, (tt, tt)))) $ says ! e $
       move ! (1 ∷ []) $ frame ! $ nothing ! $ owned ! usize (Is usize) (uint-makes 𝓤 H A W w64) b _ (refl, b-fits) $ fjoin ! $ owned ! usize (Is usize) (uint-makes 𝓤 H A W w64) a _ (refl, a-fits) $ fjoin ! $ move ! (2 ∷ 0 ∷ []) $ fjoin ! $ frame ! $
-      -- [what the part owns]
+      -- [what the slice owns]
       nothing ! $ move ! (1 ∷ 0 ∷ []) $ fjoin ! $ by ! (own-shut 𝓤 H A W (T.the-type α) (T′.the-laws α) (r, tt))
 
-  -- the machine value that the call returned is the part's own
+  -- the machine value that the call returned is the slice's own
   module _ (r : RefT (List ℕ)) (u : Val) (is : Is Slice r (u ∷ [])) where
     same : valOf r ≡ u
     same = let told : u ∷ [] ≡ valOf r ∷ [] = shr-slice-tells (named 0) κ u32 r (u ∷ []) is in cc
@@ -126,16 +126,16 @@ module _ {M : Type 1} (𝓤 : URA M) (H : Heap 𝓤) (A : Atoms 𝓤) (W : Given
         let its : Is Slice r (valOf r ∷ []) = subst (λ (w : Val). Is Slice r (w ∷ [])) (sym same) is in
         subst (λ (w : Val). Holds (hasTy (T′.mir (named 0)) (around w)) × WT (around w)) same (tt, (shr-slice-lawful 𝓤 H A W (named 0) κ u32 .typed r (valOf r ∷ []) its .0 .1, tt))
 
-  module _ (C : Calls 𝓤 H) (Λ : Loops 𝓤 H) (fm : FmC 𝓤 H (W .laws) C) (known : Triple 𝓤 (C #part-of) (PartOf 𝓤 H A mem run)) where
+  module _ (C : Calls 𝓤 H) (Λ : Loops 𝓤 H) (fm : FmC 𝓤 H (W .laws) C) (known : Triple 𝓤 (C #slice-of) (SliceOf 𝓤 H A mem run)) where
     walk : Is Slice s (valOf s ∷ []) → ent 𝓤 (onEntry 𝓤 H A of.signature (κ, tt) (q, tt) (s, (a, (b, tt))) at) (WpFn 𝓤 H C Λ code.function (valOf s ∷ vint w64 a ∷ vint w64 b ∷ []) Post)
     walk p =
         qed W (raw (onEntry 𝓤 H A of.signature (κ, tt) (q, tt) (s, (a, (b, tt))) at) ∷ []) ∵ enter ! C Λ code.function (valOf s ∷ vint w64 a ∷ vint w64 b ∷ []) _ $
         alloc1 ! (λ l₀. alloc1 ! (λ l₁. alloc1 ! (λ l₂. alloc1 ! (λ l₃. alloc1 ! (λ l₄. alloc0 ! $ params1 ! $ pass1 ! (init ! 6 refl (shr-slice-lawful 𝓤 H A W (named 0) κ u32 .typed s (valOf s ∷ []) p .0)) $ pass1 ! (init ! 4 refl (tt, record { fits = a-fits })) $ pass1 ! (init ! 2 refl (tt, record { fits = b-fits })) $ pass0 ! $
-        move ! (10 ∷ []) $ use1 W (raw (PartOf 𝓤 H A mem run .pre to) ⊛ ‵ Own) goes $ split ! $
-        calls-at ! fm (PartOf 𝓤 H A mem run) known to (and-then ! (load ! (from ! (stop !)) (look ! 8 refl)) (and-then ! (load ! (from ! (stop !)) (look ! 6 refl)) (and-then ! (load ! (from ! (stop !)) (look ! 4 refl)) (no-more !)))) (λ u.
-        use1 W (later (some (λ (r : RefT (List ℕ)). ((‵ (flft κ q) ⊛ ‵ ftrue) ⊛ ‵ (Slice .own r (u ∷ []))) ⊛ raw (ensured 𝓤 H A part-of.ended (part-of.clauses 𝓤 H A mem run) (κ, tt) (s, (a, (b, tt))) tt r)))) (id⊢ 𝓤 _) $ await ! tt $ pick ! (λ r.
+        move ! (10 ∷ []) $ use1 W (raw (SliceOf 𝓤 H A mem run .pre to) ⊛ ‵ Own) goes $ split ! $
+        calls-at ! fm (SliceOf 𝓤 H A mem run) known to (and-then ! (load ! (from ! (stop !)) (look ! 8 refl)) (and-then ! (load ! (from ! (stop !)) (look ! 6 refl)) (and-then ! (load ! (from ! (stop !)) (look ! 4 refl)) (no-more !)))) (λ u.
+        use1 W (later (some (λ (r : RefT (List ℕ)). ((‵ (flft κ q) ⊛ ‵ ftrue) ⊛ ‵ (Slice .own r (u ∷ []))) ⊛ raw (ensured 𝓤 H A slice-of.ended (slice-of.clauses 𝓤 H A mem run) (κ, tt) (s, (a, (b, tt))) tt r)))) (id⊢ 𝓤 _) $ await ! tt $ pick ! (λ r.
         split ! $ move ! (1 ∷ []) $ use1 W (raw (fact 𝓤 (Told r))) (said r) $ heard ! (Told r) (λ e. split ! $ move ! (1 ∷ []) $
-        -- [what the part owns; the token; what order owns; room for _4; …; _3; …; _2; …; _1; …; room for _0; …]
+        -- [what the slice owns; the token; what order owns; room for _4; …; _3; …; _2; …; _1; …; room for _0; …]
         peeks ! Slice (Is Slice) (shows 𝓤 H A Slice) r (u ∷ []) (λ is.
         land ! (from ! (stop !)) (init ! 3 refl (shr-slice-lawful 𝓤 H A W erased κ u32 .typed r (u ∷ []) is .0)) $
         assigns ! (agg ! (and-then ! (load ! (from ! (stop !)) (look ! 3 refl)) (no-more !))) (from ! (stop !)) (init ! 11 refl (typed r u is)) $
@@ -143,11 +143,11 @@ module _ {M : Type 1} (𝓤 : URA M) (H : Heap 𝓤) (A : Atoms 𝓤) (W : Given
         move ! (11 ∷ 12 ∷ []) $ free1 ! $ move ! (9 ∷ 10 ∷ []) $ free1 ! $ move ! (7 ∷ 8 ∷ []) $ free1 ! $ move ! (5 ∷ 6 ∷ []) $ free1 ! $ move ! (3 ∷ 4 ∷ []) $ free1 ! $ free0 ! $ by ! (exits r u is e))))))))))
 
 module _ {M : Type 1} (𝓤 : URA M) (H : Heap 𝓤) (A : Atoms 𝓤) (W : Given 𝓤 H A) (mem : Memory → SProp 𝓤) (run : Routine → Fun 𝓤) where
-  of-walks : (C : Calls 𝓤 H) (Λ : Loops 𝓤 H) → FmC 𝓤 H (W .laws) C → Triple 𝓤 (C #part-of) (PartOf 𝓤 H A mem run) → Walks 𝓤 H A of.ended stayed (WpFn 𝓤 H C Λ code.function) (of.clauses 𝓤 H A mem run)
+  of-walks : (C : Calls 𝓤 H) (Λ : Loops 𝓤 H) → FmC 𝓤 H (W .laws) C → Triple 𝓤 (C #slice-of) (SliceOf 𝓤 H A mem run) → Walks 𝓤 H A of.ended stayed (WpFn 𝓤 H C Λ code.function) (of.clauses 𝓤 H A mem run)
   of-walks C Λ fm known = walked 𝓤 H A of.ended stayed (of.clauses 𝓤 H A mem run) (WpFn 𝓤 H C Λ code.function) (λ κs. (slice-vals, (uint-vals w64, (uint-vals w64, tt)))) (λ κs. (shr-slice-tells (named 0) (κs .0) u32, (uint-tells w64, (uint-tells w64, tt))))
       (λ κs qs bounds a g are. via 𝓤 _ (fst∗ 𝓤 _ (emp 𝓤)) (walk 𝓤 H A W mem run (κs .0) (qs .0) (a .0) (a .1 .0) (a .1 .1 .0) (are .1 .0 .1) (are .1 .1 .0 .1) C Λ fm known (are .0)))
 
-of-meets : {M : Type 1} (𝓤 : URA M) (H : Heap 𝓤) (A : Atoms 𝓤) (W : Given 𝓤 H A) (mem : Memory → SProp 𝓤) (run : Routine → Fun 𝓤) (𝓣 : Tables 𝓤 H) → Triple 𝓤 (𝓣 .C #part-of) (PartOf 𝓤 H A mem run)
+of-meets : {M : Type 1} (𝓤 : URA M) (H : Heap 𝓤) (A : Atoms 𝓤) (W : Given 𝓤 H A) (mem : Memory → SProp 𝓤) (run : Routine → Fun 𝓤) (𝓣 : Tables 𝓤 H) → Triple 𝓤 (𝓣 .C #slice-of) (SliceOf 𝓤 H A mem run)
     → Meets 𝓤 H A of.signature (WpFn 𝓤 H (𝓣 .C) (𝓣 .Λ) code.function) (of.spec 𝓤 H A mem run)
 of-meets 𝓤 H A W mem run 𝓣 known =
     walk-meets 𝓤 H A of.ended stayed W (goes-none-slice 𝓤 H A W 1 (0 ∷ []) tt (plain (λ _. u32)) yes, (goes-none 𝓤 H A W 1 (λ _. usize) yes (λ κs x f. refl), (goes-none 𝓤 H A W 1 (λ _. usize) yes (λ κs x f. refl), tt))) (of.clauses 𝓤 H A mem run)
@@ -159,4 +159,4 @@ of-spec 𝓤 H 𝓜 𝓖 𝓡 =
     entered 𝓤 H (tripleOf 𝓤 H (𝓖 .A) of.signature (of.spec 𝓤 H (𝓖 .A) (𝓜 .mem) (𝓡 .run)))
     (tables 𝓤 H 𝓜 𝓡 code.env .C) (tables 𝓤 H 𝓜 𝓡 code.env .Λ) #of code.function (code.unfolded 𝓤 H 𝓜 𝓡)
     (of-meets 𝓤 H (𝓖 .A) (givenOf 𝓤 H 𝓜 𝓖) (𝓜 .mem) (𝓡 .run) (tablesOf 𝓤 H 𝓜 (tables 𝓤 H 𝓜 𝓡 code.env))
-    (cited 𝓤 H (PartOf 𝓤 H (𝓖 .A) (𝓜 .mem) (𝓡 .run)) 𝓜 𝓡 code.env #part-of part-of-def.routine code.calls-tree·leaf-reader·part-of (part-of-thm.met 𝓤 H 𝓜 𝓖 𝓡)))
+    (cited 𝓤 H (SliceOf 𝓤 H (𝓖 .A) (𝓜 .mem) (𝓡 .run)) 𝓜 𝓡 code.env #slice-of slice-of-def.routine code.calls-tree·leaf-reader·slice-of (slice-of-thm.met 𝓤 H 𝓜 𝓖 𝓡)))

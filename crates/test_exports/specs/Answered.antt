@@ -1,0 +1,54 @@
+-- What the timed calls answer in one number.
+use mathlib.Core.Path.{_≡_}
+use mathlib.Core.Bool.{cond}
+use mathlib.Core.List.{List}
+use Prim.Native.Nat.{ℕ}
+use lib.Dec.{leb, eqb}
+use lib.ListN.{length}
+use lib.Ieee.{Float, Format, nan}
+use Rattle.spec_lists.specs.Reading.{boxAt, triangleAt, triangleCount, pointAt}
+use Rattle.spec_lists.specs.Refusals.{Verdict, passes, refused, refuses, trianglesRefusal, Settings}
+use Rattle.spec_tree.specs.Accepted.{accepted}
+use Rattle.spec_tree.specs.Depth.{DepthFound, deep, notDeep}
+use Rattle.spec_build.specs.Build.{Built, made, notMade, BuildIs}
+use Rattle.spec_search.specs.Sure.{limitOf, sureWalk}
+use Rattle.spec_angles.specs.Winding.{solidAngle}
+
+-- 1 where it passed, else 0
+abbrev pub onePassed : Verdict → ℕ
+onePassed passes = 1
+onePassed (refused number place) = 0
+
+-- the depth that is read off the lists, 0 where they are refused
+abbrev pub depthRead : DepthFound → ℕ
+depthRead (deep depth) = depth
+depthRead (notDeep number place) = 0
+
+-- the nodes of a build, 0 for a refusal
+abbrev pub nodesAnswered : Built → ℕ
+nodesAnswered (made nodes depth) = nodes
+nodesAnswered (notMade number place) = 0
+
+-- the depth of a build, 0 for a refusal
+abbrev pub depthAnswered : Built → ℕ
+depthAnswered (made nodes depth) = depth
+depthAnswered (notMade number place) = 0
+
+-- a build, of whose answer the call returns one number
+pub record BuildAnswered (answered : Built → ℕ) (f : Format) (triangles : List Float) (s : Settings) (order links : List ℕ) (boxes : List Float) (r : ℕ) (order′ links′ : List ℕ) (boxes′ : List Float) : Type 0 where
+  pub answer : Built
+  pub built : BuildIs f triangles s order links boxes answer order′ links′ boxes′
+  pub answered-is : r ≡ answered answer
+
+-- how many triangles the sure search measures for the first point; 0 where the lists do not pass or there is no point
+unfoldable pub measuredFirst : Format → (triangles : List Float) (order links : List ℕ) (boxes : List Float) (nodes : ℕ) (points : List Float) (distance : Float) → ℕ
+measuredFirst f triangles order links boxes nodes points distance =
+    cond (refuses (trianglesRefusal triangles)) 0
+    (cond (accepted (boxAt triangles) (triangleCount triangles) order links boxes nodes)
+    (cond (leb 3 (length points)) (sureWalk f triangles order links boxes nodes (pointAt points 0) (limitOf f distance) .measured) 0)
+    0)
+
+-- the solid angle of one triangle from one point, a NaN where there are more or fewer
+unfoldable pub angleOfOne : Format → (triangle point : List Float) → Float
+angleOfOne f triangle point =
+    cond (eqb (length triangle) 9) (cond (eqb (length point) 3) (solidAngle f (triangleAt triangle 0) (pointAt point 0)) nan) nan
