@@ -29,7 +29,7 @@ def entry(k):
 def lines(form, entries):
     if form == "rt":
         return [f"    {e}," for e in entries]
-    return ["    " + " ∷ ".join(str(e) for e in entries[i : i + 16]) + " ∷" for i in range(0, 1025, 16)]
+    return ["    " + " ∷ ".join(str(e) for e in entries[i : i + 8]) + " ∷" for i in range(0, 1025, 8)]
 
 
 FILES = {"rt": "crates/angles/src/arc_tangent.rt", "antt": "crates/spec_angles/specs/Table.antt"}

@@ -45,7 +45,8 @@ fn build_with(
     boxes: &mut [f32],
 ) -> Built
     requires { ⌜ BuildNeeds (now triangles) (Lists.asSettings settings) (now bounds) (now centres) (now scratch) (now order) (now links) (now boxes) ⌝ }
-    ensures { λ r. ⌜ BuildIs binary32 (now (triangles .entry)) (Lists.asSettings settings) (now (order .entry)) (now (links .entry)) (now (boxes .entry)) (Values.asBuilt r) (now (order .exit)) (now (links .exit)) (now (boxes .exit)) ⌝ }
+    ensures { λ r. ⌜ BuildIs binary32 (now (triangles .entry)) (Lists.asSettings settings) (now (order .entry)) (now (links .entry)) (now (boxes .entry))
+        (Values.asBuilt r) (now (order .exit)) (now (links .exit)) (now (boxes .exit)) ⌝ }
 {
     let count = triangle_count(triangles);
     put_bounds(triangles, count, bounds);
@@ -79,7 +80,8 @@ fn build_passed(
     boxes: &mut [f32],
 ) -> Built
     requires { ⌜ buildRefusal (now triangles) (Lists.asSettings settings) (length (now order)) (length (now links)) (length (now boxes)) ≡ passes ⌝ }
-    ensures { λ r. ⌜ BuildIs binary32 (now (triangles .entry)) (Lists.asSettings settings) (now (order .entry)) (now (links .entry)) (now (boxes .entry)) (Values.asBuilt r) (now (order .exit)) (now (links .exit)) (now (boxes .exit)) ⌝ }
+    ensures { λ r. ⌜ BuildIs binary32 (now (triangles .entry)) (Lists.asSettings settings) (now (order .entry)) (now (links .entry)) (now (boxes .entry))
+        (Values.asBuilt r) (now (order .exit)) (now (links .exit)) (now (boxes .exit)) ⌝ }
 {
     let mut bounds = [0.0f32; 6 * MAX_TRIANGLES];
     let mut centres = [0.0f32; 3 * MAX_TRIANGLES];
@@ -107,7 +109,8 @@ pub fn build(
     links: &mut [u32],
     boxes: &mut [f32],
 ) -> Built
-    ensures { λ r. ⌜ BuildIs binary32 (now (triangles .entry)) (record { strategy = strategy; leafMinimum = «leaf_minimum»; maximumDepth = «maximum_depth» }) (now (order .entry)) (now (links .entry)) (now (boxes .entry)) (Values.asBuilt r) (now (order .exit)) (now (links .exit)) (now (boxes .exit)) ⌝ }
+    ensures { λ r. ⌜ BuildIs binary32 (now (triangles .entry)) (record { strategy = strategy; leafMinimum = «leaf_minimum»; maximumDepth = «maximum_depth» })
+        (now (order .entry)) (now (links .entry)) (now (boxes .entry)) (Values.asBuilt r) (now (order .exit)) (now (links .exit)) (now (boxes .exit)) ⌝ }
 {
     let settings = Settings {
         strategy,

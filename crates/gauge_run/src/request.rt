@@ -16,7 +16,8 @@ pub fn request_refusal(
     points: &[f32],
     distance: f32,
 ) -> Verdict
-    ensures { λ r. ⌜ asVerdict r ≡ requestRefusal (record { settings = asSettings settings; triangles = now (triangles .entry); points = now (points .entry); distance = distance }) ⌝ }
+    ensures { λ r. ⌜ asVerdict r
+        ≡ requestRefusal (record { settings = asSettings settings; triangles = now (triangles .entry); points = now (points .entry); distance = distance }) ⌝ }
 {
     triangles_refusal(triangles)
         .or(settings_refusal(settings))

@@ -67,7 +67,8 @@ fn put_run(
 ) -> usize
     requires { ⌜ requestRefusal (record { settings = asSettings settings; triangles = now triangles; points = now points; distance = distance }) ≡ passes ⌝ }
     requires { ⌜ Fits (now triangles) (now points) (now out) ⌝ }
-    ensures { λ r. ⌜ Put 0 (treeLine (now (triangles .entry)) (asSettings settings) ++ answerLines (now (triangles .entry)) (now (points .entry)) distance) (now (out .entry)) (now (out .exit)) r ⌝ }
+    ensures { λ r. ⌜ Put 0 (treeLine (now (triangles .entry)) (asSettings settings) ++ answerLines (now (triangles .entry)) (now (points .entry)) distance)
+        (now (out .entry)) (now (out .exit)) r ⌝ }
 {
     let mut order = [0u32; 909];
     let mut links = [0u32; 5451];
@@ -107,7 +108,9 @@ fn print_request(
     out: &mut [u8],
 ) -> usize
     requires { ⌜ Fits (now triangles) (now points) (now out) ⌝ }
-    ensures { λ r. ⌜ Put 0 (printedRun (record { settings = asSettings settings; triangles = now (triangles .entry); points = now (points .entry); distance = distance })) (now (out .entry)) (now (out .exit)) r ⌝ }
+    ensures { λ r. ⌜ Put 0
+        (printedRun (record { settings = asSettings settings; triangles = now (triangles .entry); points = now (points .entry); distance = distance }))
+        (now (out .entry)) (now (out .exit)) r ⌝ }
 {
     let verdict = request_refusal(triangles, settings, points, distance);
     if let Verdict::Refused { number, place } = verdict {

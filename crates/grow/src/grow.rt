@@ -25,7 +25,8 @@ pub fn grow(
     node: usize,
 ) -> Grown
     requires { ⌜ Growable binary32 (now bounds) (now centres) «leaf_minimum» «levels_remaining» (now slice) (now scratch) entry (now links) (now boxes) node ⌝ }
-    ensures { λ r. ⌜ GrownIs binary32 (now (bounds .entry)) strategy «leaf_minimum» «levels_remaining» (now (slice .entry)) (now (slice .exit)) entry (now (links .entry)) (now (links .exit)) (now (boxes .entry)) (now (boxes .exit)) node (r .root) (r .levels) (Shapes.asBox (r .bounds)) ⌝ }
+    ensures { λ r. ⌜ GrownIs binary32 (now (bounds .entry)) strategy «leaf_minimum» «levels_remaining» (now (slice .entry)) (now (slice .exit)) entry
+        (now (links .entry)) (now (links .exit)) (now (boxes .entry)) (now (boxes .exit)) node (r .root) (r .levels) (Shapes.asBox (r .bounds)) ⌝ }
 {
     if (levels_remaining == 0) | (slice.len() <= leaf_minimum) {
         return put_leaf(bounds, slice, entry, links, boxes, node);

@@ -40,7 +40,8 @@ pub fn put_leaf(
     node: usize,
 ) -> Grown
     requires { ⌜ LeafNeeds (now bounds) (now slice) entry (now links) (now boxes) node ⌝ }
-    ensures { λ r. ⌜ Written (boxIn (now (bounds .entry))) (Trees.leaf (now (slice .entry))) entry node (now (links .entry)) (now (links .exit)) (now (boxes .entry)) (now (boxes .exit)) (r .root) (r .levels) (Shapes.asBox (r .bounds)) ⌝ }
+    ensures { λ r. ⌜ Written (boxIn (now (bounds .entry))) (Trees.leaf (now (slice .entry))) entry node (now (links .entry)) (now (links .exit))
+        (now (boxes .entry)) (now (boxes .exit)) (r .root) (r .levels) (Shapes.asBox (r .bounds)) ⌝ }
 {
     let over = union_of(bounds, slice);
     put_links(links, node, 1, entry as u32, (entry + slice.len()) as u32);
@@ -62,7 +63,8 @@ fn deeper(a: usize, b: usize) -> usize
 // Writes a branch behind its two subtrees.
 pub fn put_branch(left: Grown, right: Grown, links: &mut [u32], boxes: &mut [f32]) -> Grown
     requires { ⌜ BranchNeeds (left .root) (left .levels) (right .root) (right .levels) (now links) (now boxes) ⌝ }
-    ensures { λ r. ⌜ BranchPut (left .root) (left .levels) (Shapes.asBox (left .bounds)) (right .root) (right .levels) (Shapes.asBox (right .bounds)) (now (links .entry)) (now (links .exit)) (now (boxes .entry)) (now (boxes .exit)) (r .root) (r .levels) (Shapes.asBox (r .bounds)) ⌝ }
+    ensures { λ r. ⌜ BranchPut (left .root) (left .levels) (Shapes.asBox (left .bounds)) (right .root) (right .levels) (Shapes.asBox (right .bounds))
+        (now (links .entry)) (now (links .exit)) (now (boxes .entry)) (now (boxes .exit)) (r .root) (r .levels) (Shapes.asBox (r .bounds)) ⌝ }
 {
     let node = right.root + 1;
     let over = left.bounds.union_box(right.bounds);

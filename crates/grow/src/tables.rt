@@ -59,7 +59,8 @@ pub fn first_key(axis: Axis) -> usize
 // Writes the centres of the first `count` boxes on one axis to the front of the list.
 fn put_keys(bounds: &[f32], axis: Axis, count: usize, keys: &mut [f32])
     requires { ⌜ CentresNeeds (now bounds) count (now keys) ⌝ }
-    ensures { λ _. ⌜ now (keys .exit) ≡ overwrite 0 (concatMap (λ t. centreOn binary32 (boxIn (now (bounds .entry))) (Shapes.asAxis axis) t ∷ []) count) (now (keys .entry)) ⌝ }
+    ensures { λ _. ⌜ now (keys .exit)
+        ≡ overwrite 0 (concatMap (λ t. centreOn binary32 (boxIn (now (bounds .entry))) (Shapes.asAxis axis) t ∷ []) count) (now (keys .entry)) ⌝ }
 {
     let mut t = 0;
     while t < count {

@@ -30,7 +30,8 @@ fn sort_on(centres: &[f32], axis: Axis, slice: &mut [u32], scratch: &mut [u32])
 // Where the rule cuts the slice as it stands. Strategy 1 is median, 2 is area.
 fn rule(bounds: &[f32], strategy: usize, axis: Axis, parent: Box3, slice: &[u32]) -> Split
     requires { ⌜ RuleNeeds binary32 (now bounds) (now slice) ⌝ }
-    ensures { λ r. ⌜ Rules.asSplit r ≡ Tries.rule binary32 strategy (Shapes.asAxis axis) (Shapes.asBox parent) (Splits.boxesIn (now (bounds .entry)) (now (slice .entry))) ⌝ }
+    ensures { λ r. ⌜ Rules.asSplit r
+        ≡ Tries.rule binary32 strategy (Shapes.asAxis axis) (Shapes.asBox parent) (Splits.boxesIn (now (bounds .entry)) (now (slice .entry))) ⌝ }
 {
     if strategy == 1 {
         return median_split(bounds, slice, axis, parent);
@@ -49,7 +50,8 @@ fn try_on(
     scratch: &mut [u32],
 ) -> Split
     requires { ⌜ Triable binary32 (now bounds) (now centres) (now slice) (now scratch) ⌝ }
-    ensures { λ r. ⌜ Tries.splitAs (now (slice .exit)) (Rules.asSplit r) ≡ Tries.triedOn binary32 (Splits.boxIn (now (bounds .entry))) strategy (Shapes.asAxis axis) (Shapes.asBox parent) (now (slice .entry)) ⌝ }
+    ensures { λ r. ⌜ Tries.splitAs (now (slice .exit)) (Rules.asSplit r)
+        ≡ Tries.triedOn binary32 (Splits.boxIn (now (bounds .entry))) strategy (Shapes.asAxis axis) (Shapes.asBox parent) (now (slice .entry)) ⌝ }
 {
     sort_on(centres, axis, slice, scratch);
     rule(bounds, strategy, axis, parent, slice)
@@ -65,7 +67,8 @@ fn try_axes(
     scratch: &mut [u32],
 ) -> Split
     requires { ⌜ Triable binary32 (now bounds) (now centres) (now slice) (now scratch) ⌝ }
-    ensures { λ r. ⌜ Tries.splitAs (now (slice .exit)) (Rules.asSplit r) ≡ Tries.triedWithin binary32 (Splits.boxIn (now (bounds .entry))) strategy (Shapes.asBox parent) (now (slice .entry)) ⌝ }
+    ensures { λ r. ⌜ Tries.splitAs (now (slice .exit)) (Rules.asSplit r)
+        ≡ Tries.triedWithin binary32 (Splits.boxIn (now (bounds .entry))) strategy (Shapes.asBox parent) (now (slice .entry)) ⌝ }
 {
     let axes = axes_by_size(parent.sizes());
     let first = axes.first;
@@ -91,7 +94,8 @@ pub fn try_slice(
     scratch: &mut [u32],
 ) -> Split
     requires { ⌜ Triable binary32 (now bounds) (now centres) (now slice) (now scratch) ⌝ }
-    ensures { λ r. ⌜ Tries.splitAs (now (slice .exit)) (Rules.asSplit r) ≡ Tries.tried binary32 (Splits.boxIn (now (bounds .entry))) strategy (now (slice .entry)) ⌝ }
+    ensures { λ r. ⌜ Tries.splitAs (now (slice .exit)) (Rules.asSplit r)
+        ≡ Tries.tried binary32 (Splits.boxIn (now (bounds .entry))) strategy (now (slice .entry)) ⌝ }
 {
     let parent = union_of(bounds, slice);
     try_axes(bounds, centres, strategy, parent, slice, scratch)

@@ -32,7 +32,10 @@ pub extern "C" fn gauge_build(
     triangles: &[u8],
     image: &mut [u8],
 ) -> u64
-    ensures { λ r. ⌜ ImagePut (bytesRefusal (now (triangles .entry)) (record { strategy = strategy; leafMinimum = «leaf_minimum»; maximumDepth = «maximum_depth» }) (length (now (image .entry)))) (builtImage (numbersOf (now (triangles .entry))) (record { strategy = strategy; leafMinimum = «leaf_minimum»; maximumDepth = «maximum_depth» })) (now (image .entry)) r (now (image .exit)) ⌝ }
+    ensures { λ r. ⌜ ImagePut (bytesRefusal (now (triangles .entry))
+        (record { strategy = strategy; leafMinimum = «leaf_minimum»; maximumDepth = «maximum_depth» }) (length (now (image .entry))))
+        (builtImage (numbersOf (now (triangles .entry))) (record { strategy = strategy; leafMinimum = «leaf_minimum»; maximumDepth = «maximum_depth» }))
+        (now (image .entry)) r (now (image .exit)) ⌝ }
 {
     build_image(strategy, leaf_minimum, maximum_depth, triangles, image)
 }
@@ -48,8 +51,11 @@ pub extern "C" fn gauge_check(image: &[u8]) -> u64
 // Writes the sure query's answer at each point. The status is the number of points.
 #[no_mangle]
 pub extern "C" fn gauge_sure(image: &[u8], points: &[u8], distance: f32, answers: &mut [u8]) -> u64
-    ensures status { λ r. ⌜ r ≡ status (queryVerdict (now (image .entry)) (now (points .entry)) distance (length (now (answers .entry)))) (length (now (points .entry)) / 12) ⌝ }
-    ensures answers { λ _. ⌜ now (answers .exit) ≡ afterBytes (queryVerdict (now (image .entry)) (now (points .entry)) distance (length (now (answers .entry)))) (answerBytes (answerIn sure (contents (now (image .entry))) distance) (now (points .entry))) (now (answers .entry)) ⌝ }
+    ensures status { λ r. ⌜ r
+        ≡ status (queryVerdict (now (image .entry)) (now (points .entry)) distance (length (now (answers .entry)))) (length (now (points .entry)) / 12) ⌝ }
+    ensures answers { λ _. ⌜ now (answers .exit)
+        ≡ afterBytes (queryVerdict (now (image .entry)) (now (points .entry)) distance (length (now (answers .entry))))
+        (answerBytes (answerIn sure (contents (now (image .entry))) distance) (now (points .entry))) (now (answers .entry)) ⌝ }
 {
     sure_points(image, points, distance, answers)
 }
@@ -62,8 +68,11 @@ pub extern "C" fn gauge_source(
     distance: f32,
     answers: &mut [u8],
 ) -> u64
-    ensures status { λ r. ⌜ r ≡ status (queryVerdict (now (image .entry)) (now (points .entry)) distance (length (now (answers .entry)))) (length (now (points .entry)) / 12) ⌝ }
-    ensures answers { λ _. ⌜ now (answers .exit) ≡ afterBytes (queryVerdict (now (image .entry)) (now (points .entry)) distance (length (now (answers .entry)))) (answerBytes (answerIn source (contents (now (image .entry))) distance) (now (points .entry))) (now (answers .entry)) ⌝ }
+    ensures status { λ r. ⌜ r
+        ≡ status (queryVerdict (now (image .entry)) (now (points .entry)) distance (length (now (answers .entry)))) (length (now (points .entry)) / 12) ⌝ }
+    ensures answers { λ _. ⌜ now (answers .exit)
+        ≡ afterBytes (queryVerdict (now (image .entry)) (now (points .entry)) distance (length (now (answers .entry))))
+        (answerBytes (answerIn source (contents (now (image .entry))) distance) (now (points .entry))) (now (answers .entry)) ⌝ }
 {
     source_points(image, points, distance, answers)
 }
@@ -71,8 +80,11 @@ pub extern "C" fn gauge_source(
 // Writes the winding number about each point. The status is the number of points.
 #[no_mangle]
 pub extern "C" fn gauge_winding(image: &[u8], points: &[u8], windings: &mut [u8]) -> u64
-    ensures status { λ r. ⌜ r ≡ status (windingVerdict (now (image .entry)) (now (points .entry)) (length (now (windings .entry)))) (length (now (points .entry)) / 12) ⌝ }
-    ensures windings { λ _. ⌜ now (windings .exit) ≡ afterBytes (windingVerdict (now (image .entry)) (now (points .entry)) (length (now (windings .entry)))) (windingBytes (contents (now (image .entry)) .triangles) (now (points .entry))) (now (windings .entry)) ⌝ }
+    ensures status { λ r. ⌜ r
+        ≡ status (windingVerdict (now (image .entry)) (now (points .entry)) (length (now (windings .entry)))) (length (now (points .entry)) / 12) ⌝ }
+    ensures windings { λ _. ⌜ now (windings .exit)
+        ≡ afterBytes (windingVerdict (now (image .entry)) (now (points .entry)) (length (now (windings .entry))))
+        (windingBytes (contents (now (image .entry)) .triangles) (now (points .entry))) (now (windings .entry)) ⌝ }
 {
     winding_points(image, points, windings)
 }

@@ -9,7 +9,8 @@ use Rattle.spec_host.specs.Loading.{TreeLoaded}
 use Rattle.spec_host.proofs.Requests.{order-read, links-read, boxes-read}
 
 -- what the reader of an image leaves is what the definitions call loaded
-pub tree-read : (image : List ℕ) (count nodes : ℕ) {o l o′ l′ : List ℕ} {b b′ : List Float} → TreeFilled (imageIn version1 image count nodes) o l b o′ l′ b′ → TreeLoaded image count nodes o′ l′ b′
+pub tree-read : (image : List ℕ) (count nodes : ℕ) {o l o′ l′ : List ℕ} {b b′ : List Float} → TreeFilled (imageIn version1 image count nodes) o l b o′ l′ b′
+    → TreeLoaded image count nodes o′ l′ b′
 unfolding imageIn
 tree-read image count nodes {o} {l} {o′} {l′} {b} {b′} f = record {
   order-is = order-read image count nodes o o′ (f .order);

@@ -38,7 +38,9 @@ fn ask_tree(
     requires { ⌜ Ready (now triangles) (now points) (length (now answers)) ⌝ }
     requires { ⌜ nodes ≤ 8191 ⌝ }
     ensures verdict { λ r. ⌜ asVerdict r ≡ lateIn (imageIn version1 (now (image .entry)) count nodes) (now (points .entry)) distance ⌝ }
-    ensures answers { λ r. ⌜ now (answers .exit) ≡ afterBytes (asVerdict r) (answerBytes (answerIn (asQuery query) (imageIn version1 (now (image .entry)) count nodes) distance) (now (points .entry))) (now (answers .entry)) ⌝ }
+    ensures answers { λ r. ⌜ now (answers .exit)
+        ≡ afterBytes (asVerdict r) (answerBytes (answerIn (asQuery query) (imageIn version1 (now (image .entry)) count nodes) distance) (now (points .entry)))
+        (now (answers .entry)) ⌝ }
 {
     let mut order = [0u32; MAX_TRIANGLES];
     let mut links = [0u32; 3 * MAX_NODES];
@@ -71,8 +73,11 @@ fn ask_triangles(
     answers: &mut [u8],
 ) -> Verdict
     requires { ⌜ Loaded (now image) count nodes (now triangles) ⌝ }
-    ensures verdict { λ r. ⌜ asVerdict r ≡ requestRefusal (imageIn version1 (now (image .entry)) count nodes) (now (points .entry)) distance (length (now (answers .entry))) ⌝ }
-    ensures answers { λ r. ⌜ now (answers .exit) ≡ afterBytes (asVerdict r) (answerBytes (answerIn (asQuery query) (imageIn version1 (now (image .entry)) count nodes) distance) (now (points .entry))) (now (answers .entry)) ⌝ }
+    ensures verdict { λ r. ⌜ asVerdict r
+        ≡ requestRefusal (imageIn version1 (now (image .entry)) count nodes) (now (points .entry)) distance (length (now (answers .entry))) ⌝ }
+    ensures answers { λ r. ⌜ now (answers .exit)
+        ≡ afterBytes (asVerdict r) (answerBytes (answerIn (asQuery query) (imageIn version1 (now (image .entry)) count nodes) distance) (now (points .entry)))
+        (now (answers .entry)) ⌝ }
 {
     let early = early_refusal(triangles, settings_of(image), answers.len(), points.len());
     if early.refuses() {
@@ -105,8 +110,11 @@ fn ask_sized(
     answers: &mut [u8],
 ) -> Verdict
     requires { ⌜ imageSize version1 count nodes ≡ length (now image) ⌝ }
-    ensures verdict { λ r. ⌜ asVerdict r ≡ requestRefusal (imageIn version1 (now (image .entry)) count nodes) (now (points .entry)) distance (length (now (answers .entry))) ⌝ }
-    ensures answers { λ r. ⌜ now (answers .exit) ≡ afterBytes (asVerdict r) (answerBytes (answerIn (asQuery query) (imageIn version1 (now (image .entry)) count nodes) distance) (now (points .entry))) (now (answers .entry)) ⌝ }
+    ensures verdict { λ r. ⌜ asVerdict r
+        ≡ requestRefusal (imageIn version1 (now (image .entry)) count nodes) (now (points .entry)) distance (length (now (answers .entry))) ⌝ }
+    ensures answers { λ r. ⌜ now (answers .exit)
+        ≡ afterBytes (asVerdict r) (answerBytes (answerIn (asQuery query) (imageIn version1 (now (image .entry)) count nodes) distance) (now (points .entry)))
+        (now (answers .entry)) ⌝ }
 {
     let bad_count = count_refusal(count);
     if bad_count.refuses() {
@@ -130,7 +138,9 @@ fn ask_sized(
 // Makes test 10 and the others, and writes the answers, 24 bytes a point. A refusal changes nothing.
 pub fn ask(query: Query, image: &[u8], points: &[u8], distance: f32, answers: &mut [u8]) -> Verdict
     ensures verdict { λ r. ⌜ asVerdict r ≡ queryVerdict (now (image .entry)) (now (points .entry)) distance (length (now (answers .entry))) ⌝ }
-    ensures answers { λ r. ⌜ now (answers .exit) ≡ afterBytes (asVerdict r) (answerBytes (answerIn (asQuery query) (contents (now (image .entry))) distance) (now (points .entry))) (now (answers .entry)) ⌝ }
+    ensures answers { λ r. ⌜ now (answers .exit)
+        ≡ afterBytes (asVerdict r) (answerBytes (answerIn (asQuery query) (contents (now (image .entry))) distance) (now (points .entry)))
+        (now (answers .entry)) ⌝ }
 {
     match image_layout(image) {
         ImageLayout::Wrong(at) => Verdict::Refused {

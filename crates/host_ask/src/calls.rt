@@ -50,8 +50,11 @@ pub fn check_image(image: &[u8]) -> u64
 
 // A query at each point, 24 bytes an answer: tests 10 and 2 to 9. The status is the number of points.
 fn query_points(query: Query, image: &[u8], points: &[u8], distance: f32, answers: &mut [u8]) -> u64
-    ensures status { λ r. ⌜ r ≡ status (queryVerdict (now (image .entry)) (now (points .entry)) distance (length (now (answers .entry)))) (length (now (points .entry)) / 12) ⌝ }
-    ensures answers { λ _. ⌜ now (answers .exit) ≡ afterBytes (queryVerdict (now (image .entry)) (now (points .entry)) distance (length (now (answers .entry)))) (answerBytes (answerIn (asQuery query) (contents (now (image .entry))) distance) (now (points .entry))) (now (answers .entry)) ⌝ }
+    ensures status { λ r. ⌜ r
+        ≡ status (queryVerdict (now (image .entry)) (now (points .entry)) distance (length (now (answers .entry)))) (length (now (points .entry)) / 12) ⌝ }
+    ensures answers { λ _. ⌜ now (answers .exit)
+        ≡ afterBytes (queryVerdict (now (image .entry)) (now (points .entry)) distance (length (now (answers .entry))))
+        (answerBytes (answerIn (asQuery query) (contents (now (image .entry))) distance) (now (points .entry))) (now (answers .entry)) ⌝ }
 {
     let verdict = ask(query, image, points, distance, answers);
     encode_count(verdict, points.len() / 12)
@@ -60,24 +63,33 @@ fn query_points(query: Query, image: &[u8], points: &[u8], distance: f32, answer
 // Writes the sure query's answer at each point: the nearest surface point, the lowest triangle number among equals.
 // The status is the number of points.
 pub fn sure_points(image: &[u8], points: &[u8], distance: f32, answers: &mut [u8]) -> u64
-    ensures status { λ r. ⌜ r ≡ status (queryVerdict (now (image .entry)) (now (points .entry)) distance (length (now (answers .entry)))) (length (now (points .entry)) / 12) ⌝ }
-    ensures answers { λ _. ⌜ now (answers .exit) ≡ afterBytes (queryVerdict (now (image .entry)) (now (points .entry)) distance (length (now (answers .entry)))) (answerBytes (answerIn sure (contents (now (image .entry))) distance) (now (points .entry))) (now (answers .entry)) ⌝ }
+    ensures status { λ r. ⌜ r
+        ≡ status (queryVerdict (now (image .entry)) (now (points .entry)) distance (length (now (answers .entry)))) (length (now (points .entry)) / 12) ⌝ }
+    ensures answers { λ _. ⌜ now (answers .exit)
+        ≡ afterBytes (queryVerdict (now (image .entry)) (now (points .entry)) distance (length (now (answers .entry))))
+        (answerBytes (answerIn sure (contents (now (image .entry))) distance) (now (points .entry))) (now (answers .entry)) ⌝ }
 {
     query_points(Query::Sure, image, points, distance, answers)
 }
 
 // Writes what the search of the Rust answers at each point. The status is the number of points.
 pub fn source_points(image: &[u8], points: &[u8], distance: f32, answers: &mut [u8]) -> u64
-    ensures status { λ r. ⌜ r ≡ status (queryVerdict (now (image .entry)) (now (points .entry)) distance (length (now (answers .entry)))) (length (now (points .entry)) / 12) ⌝ }
-    ensures answers { λ _. ⌜ now (answers .exit) ≡ afterBytes (queryVerdict (now (image .entry)) (now (points .entry)) distance (length (now (answers .entry)))) (answerBytes (answerIn source (contents (now (image .entry))) distance) (now (points .entry))) (now (answers .entry)) ⌝ }
+    ensures status { λ r. ⌜ r
+        ≡ status (queryVerdict (now (image .entry)) (now (points .entry)) distance (length (now (answers .entry)))) (length (now (points .entry)) / 12) ⌝ }
+    ensures answers { λ _. ⌜ now (answers .exit)
+        ≡ afterBytes (queryVerdict (now (image .entry)) (now (points .entry)) distance (length (now (answers .entry))))
+        (answerBytes (answerIn source (contents (now (image .entry))) distance) (now (points .entry))) (now (answers .entry)) ⌝ }
 {
     query_points(Query::Source, image, points, distance, answers)
 }
 
 // Writes the winding number about each point, an f32 in four bytes: tests 10, 2 to 4, 6 and 8. The status is the number of points.
 pub fn winding_points(image: &[u8], points: &[u8], out: &mut [u8]) -> u64
-    ensures status { λ r. ⌜ r ≡ status (windingVerdict (now (image .entry)) (now (points .entry)) (length (now (out .entry)))) (length (now (points .entry)) / 12) ⌝ }
-    ensures windings { λ _. ⌜ now (out .exit) ≡ afterBytes (windingVerdict (now (image .entry)) (now (points .entry)) (length (now (out .entry)))) (windingBytes (contents (now (image .entry)) .triangles) (now (points .entry))) (now (out .entry)) ⌝ }
+    ensures status { λ r. ⌜ r
+        ≡ status (windingVerdict (now (image .entry)) (now (points .entry)) (length (now (out .entry)))) (length (now (points .entry)) / 12) ⌝ }
+    ensures windings { λ _. ⌜ now (out .exit)
+        ≡ afterBytes (windingVerdict (now (image .entry)) (now (points .entry)) (length (now (out .entry))))
+        (windingBytes (contents (now (image .entry)) .triangles) (now (points .entry))) (now (out .entry)) ⌝ }
 {
     let verdict = winding_image(image, points, out);
     encode_count(verdict, points.len() / 12)

@@ -33,7 +33,8 @@ fn late_refusal(
     distance: f32,
 ) -> Verdict
     requires { ⌜ triangleCount (now triangles) ≤ maxTriangles ⌝ }
-    ensures { λ r. ⌜ asVerdict r ≡ lateRefusal (now (triangles .entry)) (now (order .entry)) (now (links .entry)) (now (boxes .entry)) nodes (now (points .entry)) distance ⌝ }
+    ensures { λ r. ⌜ asVerdict r
+        ≡ lateRefusal (now (triangles .entry)) (now (order .entry)) (now (links .entry)) (now (boxes .entry)) nodes (now (points .entry)) distance ⌝ }
 {
     tree_refusal(triangles, order, links, boxes, nodes)
         .or(point_bytes_refusal(points))
@@ -55,7 +56,9 @@ fn put_answers(
     requires { ⌜ Searchable (now triangles) (now order) (now links) (now boxes) nodes ⌝ }
     requires { ⌜ GoodPoints (numbersOf (now points)) ⌝ }
     requires { ⌜ 24 * (length (now points) / 12) ≤ length (now answers) ⌝ }
-    ensures { λ _. ⌜ now (answers .exit) ≡ overwrite 0 (answerBytes (answerBy binary32 (asQuery query) (now (triangles .entry)) (now (order .entry)) (now (links .entry)) (now (boxes .entry)) nodes distance) (now (points .entry))) (now (answers .entry)) ⌝ }
+    ensures { λ _. ⌜ now (answers .exit)
+        ≡ overwrite 0 (answerBytes (answerBy binary32 (asQuery query) (now (triangles .entry)) (now (order .entry)) (now (links .entry))
+        (now (boxes .entry)) nodes distance) (now (points .entry))) (now (answers .entry)) ⌝ }
 {
     let count = points.len() / 12;
     let mut k = 0;
@@ -89,8 +92,11 @@ pub fn ask_lists(
     answers: &mut [u8],
 ) -> Verdict
     requires { ⌜ Ready (now triangles) (now points) (length (now answers)) ⌝ }
-    ensures verdict { λ r. ⌜ asVerdict r ≡ lateRefusal (now (triangles .entry)) (now (order .entry)) (now (links .entry)) (now (boxes .entry)) nodes (now (points .entry)) distance ⌝ }
-    ensures answers { λ r. ⌜ now (answers .exit) ≡ afterBytes (asVerdict r) (answerBytes (answerBy binary32 (asQuery query) (now (triangles .entry)) (now (order .entry)) (now (links .entry)) (now (boxes .entry)) nodes distance) (now (points .entry))) (now (answers .entry)) ⌝ }
+    ensures verdict { λ r. ⌜ asVerdict r
+        ≡ lateRefusal (now (triangles .entry)) (now (order .entry)) (now (links .entry)) (now (boxes .entry)) nodes (now (points .entry)) distance ⌝ }
+    ensures answers { λ r. ⌜ now (answers .exit)
+        ≡ afterBytes (asVerdict r) (answerBytes (answerBy binary32 (asQuery query) (now (triangles .entry)) (now (order .entry)) (now (links .entry))
+        (now (boxes .entry)) nodes distance) (now (points .entry))) (now (answers .entry)) ⌝ }
 {
     let verdict = late_refusal(triangles, order, links, boxes, nodes, points, distance);
     if verdict.refuses() {

@@ -18,8 +18,10 @@ use records::layout::image_layout;
 // Nothing is loaded where the count is refused.
 fn winding_sized(image: &[u8], count: usize, nodes: usize, points: &[u8], out: &mut [u8]) -> Verdict
     requires { ⌜ imageSize version1 count nodes ≡ length (now image) ⌝ }
-    ensures verdict { λ r. ⌜ asVerdict r ≡ windingBytesRefusal (imageIn version1 (now (image .entry)) count nodes .triangles) (now (points .entry)) (length (now (out .entry))) ⌝ }
-    ensures windings { λ r. ⌜ now (out .exit) ≡ afterBytes (asVerdict r) (windingBytes (imageIn version1 (now (image .entry)) count nodes .triangles) (now (points .entry))) (now (out .entry)) ⌝ }
+    ensures verdict { λ r. ⌜ asVerdict r
+        ≡ windingBytesRefusal (imageIn version1 (now (image .entry)) count nodes .triangles) (now (points .entry)) (length (now (out .entry))) ⌝ }
+    ensures windings { λ r. ⌜ now (out .exit)
+        ≡ afterBytes (asVerdict r) (windingBytes (imageIn version1 (now (image .entry)) count nodes .triangles) (now (points .entry))) (now (out .entry)) ⌝ }
 {
     let bad_count = count_refusal(count);
     if bad_count.refuses() {
@@ -34,7 +36,8 @@ fn winding_sized(image: &[u8], count: usize, nodes: usize, points: &[u8], out: &
 // Makes test 10 and the others, and writes the winding numbers. A refusal changes nothing.
 pub fn winding_image(image: &[u8], points: &[u8], out: &mut [u8]) -> Verdict
     ensures verdict { λ r. ⌜ asVerdict r ≡ windingVerdict (now (image .entry)) (now (points .entry)) (length (now (out .entry))) ⌝ }
-    ensures windings { λ r. ⌜ now (out .exit) ≡ afterBytes (asVerdict r) (windingBytes (contents (now (image .entry)) .triangles) (now (points .entry))) (now (out .entry)) ⌝ }
+    ensures windings { λ r. ⌜ now (out .exit)
+        ≡ afterBytes (asVerdict r) (windingBytes (contents (now (image .entry)) .triangles) (now (points .entry))) (now (out .entry)) ⌝ }
 {
     match image_layout(image) {
         ImageLayout::Wrong(at) => Verdict::Refused {

@@ -16,7 +16,8 @@ use lists::verdict::Verdict;
 
 // Builds the tree in local lists with room for the maximum of triangles, so that only the tests 1 to 5 can refuse the build, and writes its image.
 fn build_list(settings: Settings, triangles: &[f32], image: &mut [u8]) -> u64
-    ensures { λ r. ⌜ ImagePut (listRefusal (now (triangles .entry)) (asSettings settings) (length (now (image .entry)))) (builtImage (now (triangles .entry)) (asSettings settings)) (now (image .entry)) r (now (image .exit)) ⌝ }
+    ensures { λ r. ⌜ ImagePut (listRefusal (now (triangles .entry)) (asSettings settings) (length (now (image .entry))))
+        (builtImage (now (triangles .entry)) (asSettings settings)) (now (image .entry)) r (now (image .exit)) ⌝ }
 {
     let mut order = [0u32; MAX_TRIANGLES];
     let mut links = [0u32; 3 * MAX_NODES];
@@ -56,7 +57,10 @@ pub fn build_image(
     triangles: &[u8],
     image: &mut [u8],
 ) -> u64
-    ensures { λ r. ⌜ ImagePut (bytesRefusal (now (triangles .entry)) (record { strategy = strategy; leafMinimum = «leaf_minimum»; maximumDepth = «maximum_depth» }) (length (now (image .entry)))) (builtImage (numbersOf (now (triangles .entry))) (record { strategy = strategy; leafMinimum = «leaf_minimum»; maximumDepth = «maximum_depth» })) (now (image .entry)) r (now (image .exit)) ⌝ }
+    ensures { λ r. ⌜ ImagePut (bytesRefusal (now (triangles .entry))
+        (record { strategy = strategy; leafMinimum = «leaf_minimum»; maximumDepth = «maximum_depth» }) (length (now (image .entry))))
+        (builtImage (numbersOf (now (triangles .entry))) (record { strategy = strategy; leafMinimum = «leaf_minimum»; maximumDepth = «maximum_depth» }))
+        (now (image .entry)) r (now (image .exit)) ⌝ }
 {
     let verdict = length_refusal(triangles);
     if let Verdict::Refused { number, place } = verdict {

@@ -24,7 +24,9 @@ pub fn put_built(
     image: &mut [u8],
 ) -> u64
     requires { ⌜ Puttable (imageOf settings (now triangles) (now order) (now links) (now boxes) nodes) ⌝ }
-    ensures { λ r. ⌜ ImagePut (roomRefusal (length (now (image .entry))) (exactSize version1 (imageOf settings (now (triangles .entry)) (now (order .entry)) (now (links .entry)) (now (boxes .entry)) nodes))) (imageOf settings (now (triangles .entry)) (now (order .entry)) (now (links .entry)) (now (boxes .entry)) nodes) (now (image .entry)) r (now (image .exit)) ⌝ }
+    ensures { λ r. ⌜ ImagePut (roomRefusal (length (now (image .entry)))
+        (exactSize version1 (imageOf settings (now (triangles .entry)) (now (order .entry)) (now (links .entry)) (now (boxes .entry)) nodes))) (imageOf settings
+        (now (triangles .entry)) (now (order .entry)) (now (links .entry)) (now (boxes .entry)) nodes) (now (image .entry)) r (now (image .exit)) ⌝ }
 {
     let size = image_size(triangle_count(triangles), nodes);
     if image.len() < size {

@@ -17,7 +17,8 @@ use Rattle.spec_host.proofs.Build.{bytes-ragged, bytes-many}
 use Rattle.host_bytes.specs.Length.{lengthRefusal}
 
 -- a refusal by the length is the refusal of the build
-pub length-refused : (s : List ℕ) (settings : Settings) (given : ℕ) {number place : ℕ} → lengthRefusal s ≡ refused number place → bytesRefusal s settings given ≡ refused number place
+pub length-refused : (s : List ℕ) (settings : Settings) (given : ℕ) {number place : ℕ} → lengthRefusal s ≡ refused number place
+    → bytesRefusal s settings given ≡ refused number place
 unfolding lengthRefusal raggedBytes firstRefusal
 length-refused s settings given {number} {place} e = go (eqb (length s % 36) 0) refl (ltb (36 * maxTriangles) (length s)) refl e
   where

@@ -20,8 +20,10 @@ use Rattle.records.specs.declared.layout.ImageLayout.the-variants.{Right, Wrong
 use Rattle.image.specs.Values.{ListsRead}
 
 -- a refusal leaves the lists as they were
-pub unchanged : (number place : ℕ) (s : List ℕ) (t : List Float) (o l : List ℕ) (b : List Float) → ListsRead (filledBy version1 s (refused number place)) t o l b t o l b
-unchanged number place s t o l b = record { triangles = sym (overwrite-none 0 t); order = sym (overwrite-none 0 o); links = sym (overwrite-none 0 l); boxes = sym (overwrite-none 0 b) }
+pub unchanged : (number place : ℕ) (s : List ℕ) (t : List Float) (o l : List ℕ) (b : List Float)
+    → ListsRead (filledBy version1 s (refused number place)) t o l b t o l b
+unchanged number place s t o l b =
+    record { triangles = sym (overwrite-none 0 t); order = sym (overwrite-none 0 o); links = sym (overwrite-none 0 l); boxes = sym (overwrite-none 0 b) }
 
 -- ---- what the layout's answer says
 module _ {r : ImageLayout} (s : List ℕ) (laid : imageLaid r ≡ laidOut (imageWants version1) s 0) where

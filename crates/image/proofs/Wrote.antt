@@ -36,6 +36,7 @@ module _ (x : Image) (out : List ℕ) {v : Verdict} (tests : asVerdict v ≡ wri
     can-put = (good-complete x good, rw (good-count x good) (write-passed version1 x (length out) passed .1))
 
     -- where the tests pass, the image stands at the front of the bytes
-    pub wrote-image : {n : ℕ} {out′ : List ℕ} → Put 0 (imageBytes version1 x) out out′ n → n ≡ imageSize version1 (length (x .order)) (x .nodes) → WrittenIs x (Written.Bytes n) out out′
+    pub wrote-image : {n : ℕ} {out′ : List ℕ} → Put 0 (imageBytes version1 x) out out′ n → n ≡ imageSize version1 (length (x .order)) (x .nodes)
+        → WrittenIs x (Written.Bytes n) out out′
     unfolding imageWritten bytesAfter
     wrote-image p size = record { answer = rw (passed, size, good-count x good); filled = rw passed (p .written) }

@@ -63,7 +63,8 @@ pub fn read_tree(
     requires { ⌜ imageSize version1 count nodes ≤ length (now bytes) ⌝ }
     requires { ⌜ count ≤ length (now order) ⌝ }
     requires { ⌜ (3 * nodes ≤ length (now links)) × (6 * nodes ≤ length (now boxes)) ⌝ }
-    ensures { λ _. ⌜ TreeFilled (imageIn version1 (now (bytes .entry)) count nodes) (now (order .entry)) (now (links .entry)) (now (boxes .entry)) (now (order .exit)) (now (links .exit)) (now (boxes .exit)) ⌝ }
+    ensures { λ _. ⌜ TreeFilled (imageIn version1 (now (bytes .entry)) count nodes) (now (order .entry)) (now (links .entry)) (now (boxes .entry))
+        (now (order .exit)) (now (links .exit)) (now (boxes .exit)) ⌝ }
 {
     let third = 20 + 36 * count + 6;
     let fourth = third + 2 * count + 6;
@@ -84,7 +85,8 @@ pub fn read_lists(
     requires { ⌜ imageSize version1 count nodes ≤ length (now bytes) ⌝ }
     requires { ⌜ (9 * count ≤ length (now triangles)) × (count ≤ length (now order)) ⌝ }
     requires { ⌜ (3 * nodes ≤ length (now links)) × (6 * nodes ≤ length (now boxes)) ⌝ }
-    ensures { λ _. ⌜ ListsRead (imageIn version1 (now (bytes .entry)) count nodes) (now (triangles .entry)) (now (order .entry)) (now (links .entry)) (now (boxes .entry)) (now (triangles .exit)) (now (order .exit)) (now (links .exit)) (now (boxes .exit)) ⌝ }
+    ensures { λ _. ⌜ ListsRead (imageIn version1 (now (bytes .entry)) count nodes) (now (triangles .entry)) (now (order .entry)) (now (links .entry))
+        (now (boxes .entry)) (now (triangles .exit)) (now (order .exit)) (now (links .exit)) (now (boxes .exit)) ⌝ }
 {
     read_f32s(bytes, 20, 9 * count, triangles, 0);
     read_tree(bytes, count, nodes, order, links, boxes);

@@ -43,7 +43,8 @@ fn put_settings(settings: Settings, out: &mut [u8]) -> usize
 // Writes record 2, the triangles.
 fn put_triangles(triangles: &[f32], out: &mut [u8], at: usize) -> usize
     requires { ⌜ at + 6 + 4 * length (now triangles) ≤ length (now out) ⌝ }
-    ensures { λ r. ⌜ Put at (recordOf 2 (floatBytes binary32 (now (triangles .entry)) 0 (length (now (triangles .entry))))) (now (out .entry)) (now (out .exit)) r ⌝ }
+    ensures { λ r. ⌜ Put at (recordOf 2 (floatBytes binary32 (now (triangles .entry)) 0 (length (now (triangles .entry))))) (now (out .entry))
+        (now (out .exit)) r ⌝ }
     ensures { λ r. ⌜ r ≡ at + 6 + 4 * length (now (triangles .entry)) ⌝ }
 {
     let body = put_header(out, at, 4 * triangles.len(), 2);
@@ -100,7 +101,8 @@ pub fn put_image(
 ) -> usize
     requires { ⌜ Complete (imageOf settings (now triangles) (now order) (now links) (now boxes) nodes) ⌝ }
     requires { ⌜ imageSize version1 (length (now order)) nodes ≤ length (now out) ⌝ }
-    ensures { λ r. ⌜ Put 0 (imageBytes version1 (imageOf settings (now (triangles .entry)) (now (order .entry)) (now (links .entry)) (now (boxes .entry)) nodes)) (now (out .entry)) (now (out .exit)) r ⌝ }
+    ensures { λ r. ⌜ Put 0 (imageBytes version1 (imageOf settings (now (triangles .entry)) (now (order .entry)) (now (links .entry))
+        (now (boxes .entry)) nodes)) (now (out .entry)) (now (out .exit)) r ⌝ }
     ensures { λ r. ⌜ r ≡ imageSize version1 (length (now (order .entry))) nodes ⌝ }
 {
     let second = put_settings(settings, out);

@@ -51,7 +51,8 @@ pub fn read_image(
     links: &mut [u32],
     boxes: &mut [f32],
 ) -> ImageRead
-    ensures { λ r. ⌜ ReadIs (now (bytes .entry)) r (now (triangles .entry)) (now (order .entry)) (now (links .entry)) (now (boxes .entry)) (now (triangles .exit)) (now (order .exit)) (now (links .exit)) (now (boxes .exit)) ⌝ }
+    ensures { λ r. ⌜ ReadIs (now (bytes .entry)) r (now (triangles .entry)) (now (order .entry)) (now (links .entry)) (now (boxes .entry))
+        (now (triangles .exit)) (now (order .exit)) (now (links .exit)) (now (boxes .exit)) ⌝ }
 {
     match image_layout(bytes) {
         ImageLayout::Wrong(at) => ImageRead::Refused {

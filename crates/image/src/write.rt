@@ -31,7 +31,8 @@ fn write_refusal(
     given: usize,
 ) -> Verdict
     requires { ⌜ given < 2 ^ 63 ⌝ }
-    ensures { λ r. ⌜ asVerdict r ≡ writeRefusal version1 (imageOf settings (now (triangles .entry)) (now (order .entry)) (now (links .entry)) (now (boxes .entry)) nodes) given ⌝ }
+    ensures { λ r. ⌜ asVerdict r
+        ≡ writeRefusal version1 (imageOf settings (now (triangles .entry)) (now (order .entry)) (now (links .entry)) (now (boxes .entry)) nodes) given ⌝ }
 {
     let early = triangles_refusal(triangles).or(settings_refusal(settings));
     if early.refuses() {
@@ -54,7 +55,8 @@ pub fn write_image(
     nodes: usize,
     out: &mut [u8],
 ) -> ImageWritten
-    ensures { λ r. ⌜ WrittenIs (imageFrom strategy «leaf_minimum» «maximum_depth» (now (triangles .entry)) (now (order .entry)) (now (links .entry)) (now (boxes .entry)) nodes) r (now (out .entry)) (now (out .exit)) ⌝ }
+    ensures { λ r. ⌜ WrittenIs (imageFrom strategy «leaf_minimum» «maximum_depth» (now (triangles .entry)) (now (order .entry)) (now (links .entry))
+        (now (boxes .entry)) nodes) r (now (out .entry)) (now (out .exit)) ⌝ }
 {
     let settings = Settings {
         strategy,

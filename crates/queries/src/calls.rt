@@ -31,7 +31,9 @@ fn query_refusal(
     distance: f32,
     room: usize,
 ) -> Verdict
-    ensures { λ r. ⌜ Verdicts.asVerdict r ≡ Calls.queryRefusal (now (triangles .entry)) (now (order .entry)) (now (links .entry)) (now (boxes .entry)) nodes (now (points .entry)) distance room ⌝ }
+    ensures { λ r. ⌜ Verdicts.asVerdict r
+        ≡ Calls.queryRefusal (now (triangles .entry)) (now (order .entry)) (now (links .entry)) (now (boxes .entry)) nodes
+        (now (points .entry)) distance room ⌝ }
 {
     let early = triangles_refusal(triangles).or(room_refusal(room / 6, point_count(points)));
     if early.refuses() {
@@ -56,7 +58,9 @@ fn put_answers(
 )
     requires { ⌜ Calls.Askable (now triangles) (now order) (now links) (now boxes) nodes (now points) ⌝ }
     requires { ⌜ 6 * Reading.pointCount (now points) ≤ length (now answers) ⌝ }
-    ensures { λ _. ⌜ now (answers .exit) ≡ Tables.overwrite 0 (Calls.answerWords binary32 (Calls.answerBy binary32 (Values.asQuery query) (now (triangles .entry)) (now (order .entry)) (now (links .entry)) (now (boxes .entry)) nodes distance) (now (points .entry))) (now (answers .entry)) ⌝ }
+    ensures { λ _. ⌜ now (answers .exit)
+        ≡ Tables.overwrite 0 (Calls.answerWords binary32 (Calls.answerBy binary32 (Values.asQuery query) (now (triangles .entry)) (now (order .entry))
+        (now (links .entry)) (now (boxes .entry)) nodes distance) (now (points .entry))) (now (answers .entry)) ⌝ }
 {
     let count = point_count(points);
     let mut k = 0;
@@ -89,8 +93,12 @@ fn ask(
     distance: f32,
     answers: &mut [u32],
 ) -> Verdict
-    ensures verdict { λ r. ⌜ Verdicts.asVerdict r ≡ Calls.queryRefusal (now (triangles .entry)) (now (order .entry)) (now (links .entry)) (now (boxes .entry)) nodes (now (points .entry)) distance (length (now (answers .entry))) ⌝ }
-    ensures answers { λ r. ⌜ now (answers .exit) ≡ Calls.afterQuery binary32 (Calls.answerBy binary32 (Values.asQuery query) (now (triangles .entry)) (now (order .entry)) (now (links .entry)) (now (boxes .entry)) nodes distance) (now (points .entry)) (Verdicts.asVerdict r) (now (answers .entry)) ⌝ }
+    ensures verdict { λ r. ⌜ Verdicts.asVerdict r
+        ≡ Calls.queryRefusal (now (triangles .entry)) (now (order .entry)) (now (links .entry)) (now (boxes .entry)) nodes (now (points .entry)) distance
+        (length (now (answers .entry))) ⌝ }
+    ensures answers { λ r. ⌜ now (answers .exit)
+        ≡ Calls.afterQuery binary32 (Calls.answerBy binary32 (Values.asQuery query) (now (triangles .entry)) (now (order .entry)) (now (links .entry))
+        (now (boxes .entry)) nodes distance) (now (points .entry)) (Verdicts.asVerdict r) (now (answers .entry)) ⌝ }
 {
     let verdict = query_refusal(
         triangles,
@@ -131,8 +139,12 @@ pub fn sure_query(
     distance: f32,
     answers: &mut [u32],
 ) -> Verdict
-    ensures verdict { λ r. ⌜ Verdicts.asVerdict r ≡ Calls.queryRefusal (now (triangles .entry)) (now (order .entry)) (now (links .entry)) (now (boxes .entry)) nodes (now (points .entry)) distance (length (now (answers .entry))) ⌝ }
-    ensures answers { λ r. ⌜ now (answers .exit) ≡ Calls.afterQuery binary32 (Calls.sureAnswer binary32 (now (triangles .entry)) distance) (now (points .entry)) (Verdicts.asVerdict r) (now (answers .entry)) ⌝ }
+    ensures verdict { λ r. ⌜ Verdicts.asVerdict r
+        ≡ Calls.queryRefusal (now (triangles .entry)) (now (order .entry)) (now (links .entry)) (now (boxes .entry)) nodes (now (points .entry)) distance
+        (length (now (answers .entry))) ⌝ }
+    ensures answers { λ r. ⌜ now (answers .exit)
+        ≡ Calls.afterQuery binary32 (Calls.sureAnswer binary32 (now (triangles .entry)) distance) (now (points .entry)) (Verdicts.asVerdict r)
+        (now (answers .entry)) ⌝ }
 {
     ask(
         Query::Sure,
@@ -159,8 +171,12 @@ pub fn source_query(
     distance: f32,
     answers: &mut [u32],
 ) -> Verdict
-    ensures verdict { λ r. ⌜ Verdicts.asVerdict r ≡ Calls.queryRefusal (now (triangles .entry)) (now (order .entry)) (now (links .entry)) (now (boxes .entry)) nodes (now (points .entry)) distance (length (now (answers .entry))) ⌝ }
-    ensures answers { λ r. ⌜ now (answers .exit) ≡ Calls.afterQuery binary32 (Calls.sourceAnswer binary32 (now (triangles .entry)) (now (order .entry)) (now (links .entry)) (now (boxes .entry)) nodes distance) (now (points .entry)) (Verdicts.asVerdict r) (now (answers .entry)) ⌝ }
+    ensures verdict { λ r. ⌜ Verdicts.asVerdict r
+        ≡ Calls.queryRefusal (now (triangles .entry)) (now (order .entry)) (now (links .entry)) (now (boxes .entry)) nodes (now (points .entry)) distance
+        (length (now (answers .entry))) ⌝ }
+    ensures answers { λ r. ⌜ now (answers .exit)
+        ≡ Calls.afterQuery binary32 (Calls.sourceAnswer binary32 (now (triangles .entry)) (now (order .entry)) (now (links .entry))
+        (now (boxes .entry)) nodes distance) (now (points .entry)) (Verdicts.asVerdict r) (now (answers .entry)) ⌝ }
 {
     ask(
         Query::Source,

@@ -30,7 +30,8 @@ pub fn answer_at(
 ) -> Answer
     requires { ⌜ Searchable (now triangles) (now order) (now links) (now boxes) nodes ⌝ }
     requires { ⌜ Finite (Points.at (asPoint p)) ⌝ }
-    ensures { λ r. ⌜ asAnswer r ≡ answerBy binary32 (asQuery query) (now (triangles .entry)) (now (order .entry)) (now (links .entry)) (now (boxes .entry)) nodes distance (asPoint p) ⌝ }
+    ensures { λ r. ⌜ asAnswer r ≡ answerBy binary32 (asQuery query) (now (triangles .entry)) (now (order .entry)) (now (links .entry))
+        (now (boxes .entry)) nodes distance (asPoint p) ⌝ }
 {
     let probe = Probe {
         point: p,

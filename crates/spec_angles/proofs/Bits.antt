@@ -126,7 +126,8 @@ unsigned-bits x h p = go (decLt b (2 ^ 31)) (decLt b 0x7f80_0000)
     go (yes s) (no g) =
         let f : b / 2 ^ 23 ≡ 255 = omega arith in
         absurd (no-number (b % 2 ^ 23) (rw (sign-clear b s, f) at back))
-    go (no s) (no g) = absurd (negative (b % 2 ^ 31 / 2 ^ 23) (b % 2 ^ 23) (rw (ofBits-is b, is-true (leb (2 ^ 31) b) (le→leb (2 ^ 31) b (omega arith))) at back))
+    go (no s) (no g) =
+        absurd (negative (b % 2 ^ 31 / 2 ^ 23) (b % 2 ^ 23) (rw (ofBits-is b, is-true (leb (2 ^ 31) b) (le→leb (2 ^ 31) b (omega arith))) at back))
 
 -- ---- and they are no NaN's
 value-is-number : (x : Float) (a c : ℕ) → HasValue x false a c → T (not (isNan x))

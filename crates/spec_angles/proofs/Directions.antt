@@ -76,7 +76,8 @@ quotient-within : (f : Format) (x l : Float) → T (finite x) → T (unsigned l)
 unfolding div
 quotient-within f (fin t m e) (fin false zero d) k L s h = absurd (omega arith)
 quotient-within f (fin t m e) (fin false (suc n) d) k L s h =
-    rw (eqb·suc-zero n) (round-within f _ (m * up e * down d) (suc n * up d * down e) 2 (mul-pos s (down-pos e)) (twice-whole f) (le-trans h (le-of-eq (mul-assoc 2 (suc n * up d) (down e)))))
+    rw (eqb·suc-zero n) (round-within f _ (m * up e * down d) (suc n * up d * down e) 2 (mul-pos s (down-pos e)) (twice-whole f)
+    (le-trans h (le-of-eq (mul-assoc 2 (suc n * up d) (down e)))))
 
 -- ---- a magnitude in units
 either-sign : (f : Format) (s : Bool) (m : ℕ) (e : ℤ) → T (fits f (fin s m e)) → T (fits f (fin false m e))
@@ -120,14 +121,17 @@ module _ (f : Format) (a : Point) (A : (i : Axis) → Within (2 ^ 21) (on i a)) 
   kept Y y P F h = first-kept f y _ _ P F plain-two (plain-square Z) (second-kept f y _ _ P F (plain-square X) (plain-square Y) h)
   kept Z y P F h = second-kept f y _ _ P F plain-two (plain-square Z) h
 
-  grows : (i : Axis) (k : ℕ) → k < low f + suc (emax f) → 2 ^ k * (den (on i a) * den (on i a)) ≤ num (on i a) * num (on i a) * 2 ^ low f → 2 ^ k * den (dot f a a) ≤ num (dot f a a) * 2 ^ low f
+  grows : (i : Axis) (k : ℕ) → k < low f + suc (emax f) → 2 ^ k * (den (on i a) * den (on i a)) ≤ num (on i a) * num (on i a) * 2 ^ low f
+      → 2 ^ k * den (dot f a a) ≤ num (dot f a a) * 2 ^ low f
   grows i k h g =
       let x = on i a in
       let y = round f false (2 ^ k) (2 ^ low f) in
       let v = two-to f k h in
       let c = value→cross y (2 ^ k) (2 ^ low f) v in
-      let b : T (le y (mul f x x)) = rw (square-is f x (A i .isFinite)) (round-mono f (2 ^ k) (2 ^ low f) (num x * num x) (den x * den x) (pow-pos (low f)) (mul-pos (den-pos x) (den-pos x)) g) in
-      let m = le-says y (dot f a a) (value-is-unsigned y (2 ^ k) (2 ^ low f) v) squared-unsigned (kept i y (positive-of-value y (2 ^ k) (2 ^ low f) v (pow-pos k)) (round-fits f false (2 ^ k) (2 ^ low f)) b) in
+      let b : T (le y (mul f x x)) = rw (square-is f x (A i .isFinite))
+      (round-mono f (2 ^ k) (2 ^ low f) (num x * num x) (den x * den x) (pow-pos (low f)) (mul-pos (den-pos x) (den-pos x)) g) in
+      let m = le-says y (dot f a a) (value-is-unsigned y (2 ^ k) (2 ^ low f) v) squared-unsigned
+      (kept i y (positive-of-value y (2 ^ k) (2 ^ low f) v (pow-pos k)) (round-fits f false (2 ^ k) (2 ^ low f)) b) in
       le-of-mul-le-mul-right (omega (arith, mul-le-mul-right (2 ^ low f) m, ap (λ (z : ℕ). z * den (dot f a a)) c)) (den-pos y)
 
   -- ---- the norm
@@ -150,4 +154,5 @@ module _ (f : Format) (a : Point) (A : (i : Axis) → Within (2 ^ 21) (on i a)) 
       let u = in-whole-units f x (A i .isFinite) (F i) in
       let s = some-magnitude l (unsigned-finite l (norm-is-root .isUnsigned)) n in
       quotient-within f x l (A i .isFinite) (norm-is-root .isUnsigned) s
-      (at-most-twice f (dot f a a) l squared-fits squared-unsigned norm-is-root s (num x) (den x) (u .0) 21 (den-pos x) (u .1) (A i .most) (le-trans (lit≤ tt) (wide f)) (grows i))
+      (at-most-twice f (dot f a a) l squared-fits squared-unsigned norm-is-root s (num x) (den x) (u .0) 21 (den-pos x) (u .1) (A i .most)
+      (le-trans (lit≤ tt) (wide f)) (grows i))

@@ -88,7 +88,8 @@ module _ (f : Format) (t : Triangle) (A : Inside 2 (t .a)) (B : Inside 2 (t .b))
   unfolding Winding.numerator
   numerator-within =
       dot-within f 2 32 (t .a) _ A
-      (cross-inside f 4 4 _ _ (minus-inside f 2 2 _ _ B A (few f 4 (lit< tt))) (minus-inside f 2 2 _ _ C A (few f 4 (lit< tt))) (few f 16 (lit< tt)) (few f 32 (lit< tt)))
+      (cross-inside f 4 4 _ _ (minus-inside f 2 2 _ _ B A (few f 4 (lit< tt))) (minus-inside f 2 2 _ _ C A (few f 4 (lit< tt))) (few f 16 (lit< tt))
+      (few f 32 (lit< tt)))
       (few f 64 (lit< tt)) (few f 128 (lit< tt)) (few f 192 (lit< tt))
 
   pair-within : (a p : Point) → Inside 2 a → Inside 2 p → Within 12 (dot f a p)
@@ -151,7 +152,8 @@ minus-fits f a q Z = sub-fits f _ _
 seen : (f : Format) (a q : Point) → Inside (2 ^ 20) a → Inside (2 ^ 20) q → Bounded f (minus f a q)
 seen f a q A Q = record { inside = minus-inside f (2 ^ 20) (2 ^ 20) a q A Q (power-whole f 21 (le-trans (lit≤ tt) (wide f))); holds = minus-fits f a q }
 
-solid-angle-within : (f : Format) (t : Triangle) (q : Point) → Inside (2 ^ 20) (t .a) → Inside (2 ^ 20) (t .b) → Inside (2 ^ 20) (t .c) → Inside (2 ^ 20) q → Within 8 (Winding.solidAngle f t q)
+solid-angle-within : (f : Format) (t : Triangle) (q : Point) → Inside (2 ^ 20) (t .a) → Inside (2 ^ 20) (t .b) → Inside (2 ^ 20) (t .c) → Inside (2 ^ 20) q
+    → Within 8 (Winding.solidAngle f t q)
 unfolding Winding.solidAngle Winding.seenFrom
 solid-angle-within f t q A B C Q = origin-angle-within f _ (seen f (t .a) q A Q) (seen f (t .b) q B Q) (seen f (t .c) q C Q)
 
@@ -167,17 +169,20 @@ unfolding mul round ofBits
 turn binary32 = record { isUnsigned = tt; some = lit≤ tt; least = lit≤ tt }
 turn binary64 = record { isUnsigned = tt; some = lit≤ tt; least = lit≤ tt }
 
-quotient-shrinks : (f : Format) (c : ℕ) (x l : Float) → Whole f c → T (finite x) → num x ≤ c * den x → T (unsigned l) → 0 < num l → den l ≤ num l → Within c (div f x l)
+quotient-shrinks : (f : Format) (c : ℕ) (x l : Float) → Whole f c → T (finite x) → num x ≤ c * den x → T (unsigned l) → 0 < num l → den l ≤ num l
+    → Within c (div f x l)
 unfolding div
 quotient-shrinks f c (fin t m e) (fin false Nat.zero d) w F h U s k = absurd (omega arith)
 quotient-shrinks f c (fin t m e) (fin false (suc n) d) w F h U s k =
     rw (eqb·suc-zero n)
-    (round-within f _ (m * up e * down d) (suc n * up d * down e) c (mul-pos s (down-pos e)) w (le-trans (mul-le-mul h k) (le-of-eq (mul-assoc c (down e) (suc n * up d) ∙ ap (λ (z : ℕ). c * z) (mul-comm (down e) (suc n * up d))))))
+    (round-within f _ (m * up e * down d) (suc n * up d * down e) c (mul-pos s (down-pos e)) w
+    (le-trans (mul-le-mul h k) (le-of-eq (mul-assoc c (down e) (suc n * up d) ∙ ap (λ (z : ℕ). c * z) (mul-comm (down e) (suc n * up d))))))
 
 shrunk : (f : Format) (c : ℕ) (x l : Float) → Whole f c → Within c x → Turn l → Within c (div f x l)
 shrunk f c x l w W L = quotient-shrinks f c x l w (W .isFinite) (W .most) (L .isUnsigned) (L .some) (L .least)
 
-module _ (f : Format) (triangle : ℕ → Triangle) (q : Point) (count : ℕ) (most : count ≤ 2 ^ 20) (each : (k : ℕ) → k < count → Within 8 (Winding.solidAngle f (triangle k) q)) where
+module _ (f : Format) (triangle : ℕ → Triangle) (q : Point) (count : ℕ) (most : count ≤ 2 ^ 20)
+    (each : (k : ℕ) → k < count → Within 8 (Winding.solidAngle f (triangle k) q)) where
   sum-within : (k : ℕ) → k ≤ count → Within (8 * k) (Winding.sumOf f triangle q k)
   unfolding Winding.sumOf
   sum-within Nat.zero h = zero-within _
@@ -195,7 +200,8 @@ between-ends (fin false m e) F l h = omega (arith, compared (fin false m e) furt
 between-ends (fin true m e) F l h = omega (arith, compared (neg furthestCoordinate) (fin true m e) tt tt .le→at-most l)
 
 coordinate-within : (x : Float) → T (isCoordinate x) → Within (2 ^ 20) x
-coordinate-within x h = record { isFinite = coordinate-finite x h; most = between-ends x (coordinate-finite x h) (coordinate-at-least x h) (coordinate-at-most x h) }
+coordinate-within x h =
+    record { isFinite = coordinate-finite x h; most = between-ends x (coordinate-finite x h) (coordinate-at-least x h) (coordinate-at-most x h) }
 
 point-inside-range : (xs : List Float) → AllCoordinates xs → (i : ℕ) → i + 3 ≤ length xs → Inside (2 ^ 20) (pointAt xs i)
 unfolding pointAt
@@ -209,7 +215,8 @@ module _ (f : Format) (triangles points : List Float) (T' : GoodTriangles triang
   each-angle q Q t l =
       let room = triangle-inside triangles t l in
       let c = T' .coordinates in
-      solid-angle-within f _ q (point-inside-range triangles c (9 * t) (omega arith)) (point-inside-range triangles c (9 * t + 3) (omega arith)) (point-inside-range triangles c (9 * t + 6) (omega arith)) Q
+      solid-angle-within f _ q (point-inside-range triangles c (9 * t) (omega arith)) (point-inside-range triangles c (9 * t + 3) (omega arith))
+      (point-inside-range triangles c (9 * t + 6) (omega arith)) Q
 
   -- every winding number that the call writes is finite: no root and no arc tangent is taken where there is none
   pub winding-finite : (k : ℕ) → k < pointCount points → T (finite (windingAt f triangles points k))

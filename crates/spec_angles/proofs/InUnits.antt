@@ -34,7 +34,9 @@ high binary64 = lit≤ tt
 module _ (f : Format) (m : ℕ) (e : ℤ) (u : Units f (fin false m e)) (few : m * up e ≤ down e) where
   -- in units of the least value a number up to 1 is 2 ^ low at most
   units-few : u .digits * 2 ^ u .places ≤ 2 ^ low f
-  units-few = le-of-mul-le-mul-right (le-trans (le-of-eq (sym (u .is))) (le-trans (mul-le-mul-right (2 ^ low f) few) (le-of-eq (mul-comm (down e) (2 ^ low f))))) (down-pos e)
+  units-few =
+      le-of-mul-le-mul-right
+      (le-trans (le-of-eq (sym (u .is))) (le-trans (mul-le-mul-right (2 ^ low f) few) (le-of-eq (mul-comm (down e) (2 ^ low f))))) (down-pos e)
 
   exact : HasValue (round f false (m * up e * 2 ^ 30) (down e)) false (m * up e * 2 ^ 30) (down e)
   exact =

@@ -27,7 +27,8 @@ two-to f v h =
     round-exact f false (2 ^ v) (2 ^ low f) 1 v (pow-pos (low f)) (two-digits f) (rw (one-mul (2 ^ v)) (pow-lt h)) (rw (one-mul (2 ^ v)))
 
 -- where l < y and √s < (l + y) / 2, s is below y²
-below-square : (ns ds nl dl ny dy : ℕ) → 0 < dl → nl * dy < ny * dl → 4 * ns * square (dl * dy) < square (nl * dy + ny * dl) * ds → ns * (dy * dy) < ny * ny * ds
+below-square : (ns ds nl dl ny dy : ℕ) → 0 < dl → nl * dy < ny * dl → 4 * ns * square (dl * dy) < square (nl * dy + ny * dl) * ds
+    → ns * (dy * dy) < ny * ny * ds
 below-square ns ds nl dl ny dy D h b =
     let m : square (nl * dy + ny * dl) * ds ≤ square (2 * (ny * dl)) * ds = mul-le-mul-right ds (square-mono (omega arith)) in
     lt-of-mul-lt-mul-right (dl * dl) (omega arith)
@@ -74,7 +75,8 @@ module _ (f : Format) (s l : Float) (S : T (fits f s)) (U : T (unsigned s)) (R :
       let N = u .digits * 2 ^ u .places in
       let few : N < 1 = lt-of-mul-lt-mul-right (den s) (omega (arith, u .is)) in
       let z : N ≡ 0 = omega arith in
-      let n : num s ≡ 0 = elim (eq-zero-or-pos (num s)) [ inl e ↦ e | inr p ↦ absurd (omega (arith, mul-pos p (pow-pos (low f)), u .is, ap (λ (x : ℕ). x * den s) z)) ] in
+      let n : num s ≡ 0 =
+      elim (eq-zero-or-pos (num s)) [ inl e ↦ e | inr p ↦ absurd (omega (arith, mul-pos p (pow-pos (low f)), u .is, ap (λ (x : ℕ). x * den s) z)) ] in
       let e : num l ≡ 0 = ap num (root-unique f s l +0 R (root-of-zero f s n)) in
       omega arith
 
@@ -114,7 +116,8 @@ module _ (f : Format) (s l : Float) (S : T (fits f s)) (U : T (unsigned s)) (R :
         | inr b ↦
             let k = w + w - low f in
             let e : 2 ^ k * 2 ^ low f ≡ 2 ^ w * 2 ^ w = pow-sum k (low f) (w + w) (omega arith) ∙ sym (pow-sum w w (w + w) refl) in
-            let g : 2 ^ k * (D * D) ≤ M * M * 2 ^ low f = le-of-mul-le-mul-right (omega (arith, square-mono reached, ap (λ (z : ℕ). z * (D * D)) e)) (pow-pos (low f)) in
+            let g : 2 ^ k * (D * D) ≤ M * M * 2 ^ low f =
+            le-of-mul-le-mul-right (omega (arith, square-mono reached, ap (λ (z : ℕ). z * (D * D)) e)) (pow-pos (low f)) in
             let r = grows k (omega (arith, few)) g in
             absurd (omega (arith, mul-le-mul-right (2 ^ low f) r, ap (λ (z : ℕ). z * den s) e))
       ]

@@ -49,7 +49,8 @@ some-magnitude (fin s m e) k n = elim (eq-zero-or-pos (m * up e)) [
       let b = 0 * down e in
       absurd
       (T-not (eq (fin s m e) +0) n
-      (and-i (eqb a b) (Bool·beq s false || eqb a 0) (eq→eqb {a = a} {b = b} (omega arith)) (or-r (Bool·beq s false) (eqb a 0) (eq→eqb {a = a} {b = 0} (omega arith)))))
+      (and-i (eqb a b) (Bool·beq s false || eqb a 0) (eq→eqb {a = a} {b = b} (omega arith))
+      (or-r (Bool·beq s false) (eqb a 0) (eq→eqb {a = a} {b = 0} (omega arith)))))
   | inr p ↦ p
 ]
 
@@ -70,7 +71,8 @@ ratio-at-most-one f n d k = go (lt (abs d) (abs n)) (λ (h : T (lt (abs d) (abs 
     D : T (unsigned (abs d))
     D = abs-unsigned d (k .under)
 
-    go : (b : Bool) → (T b → T (lt (abs d) (abs n))) → (T (not b) → T (not (lt (abs d) (abs n)))) → AtMostOne f (cond b (div f (abs d) (abs n)) (div f (abs n) (abs d)))
+    go : (b : Bool) → (T b → T (lt (abs d) (abs n))) → (T (not b) → T (not (lt (abs d) (abs n))))
+        → AtMostOne f (cond b (div f (abs d) (abs n)) (div f (abs n) (abs d)))
     go true is other =
         let l = lt-says (abs d) (abs n) D N (is tt) in
         quotient-at-most-one f (abs d) (abs n) D N (first-pos (num (abs n)) (den (abs d)) (lt-of-le-of-lt zero-le l)) (le-of-lt l)

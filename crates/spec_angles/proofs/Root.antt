@@ -41,7 +41,8 @@ record Written (p l e a k n : ℕ) : Type 0 where
 module _ (p l e d j a : ℕ) (deep : Deep p l e) (some : 0 < d) (few : d < 2 ^ p) (under : d * 2 ^ j < 2 ^ (l + suc e)) (is : a ≡ d * 2 ^ j * 2 ^ l) where
   -- how many digits a has
   many : l < size a
-  many = pow-lt-reflects (lt-of-le-of-lt (rw is (le-trans (le-of-eq (sym (one-mul (2 ^ l)))) (mul-le-mul-right (2 ^ l) (mul-pos some (pow-pos j))))) (size-lt a))
+  many =
+      pow-lt-reflects (lt-of-le-of-lt (rw is (le-trans (le-of-eq (sym (one-mul (2 ^ l)))) (mul-le-mul-right (2 ^ l) (mul-pos some (pow-pos j))))) (size-lt a))
 
   not-more : size a ≤ p + (j + l)
   not-more = size-le a (p + (j + l)) (rw (is, mul-assoc d (2 ^ j) (2 ^ l), pow-sum j l (j + l) refl) (shl-lt p (j + l) few))
@@ -56,8 +57,14 @@ module _ (p l e d j a : ℕ) (deep : Deep p l e) (some : 0 < d) (few : d < 2 ^ p
     same : a ≡ rest * (2 ^ k * 2 ^ k)
     unfolding rest
     same =
-        rw
-        (is, mul-assoc d (2 ^ j) (2 ^ l), pow-sum j l (j + l) refl, pow-sum k k (k + k) refl, mul-assoc d (2 ^ (j + l - (k + k))) (2 ^ (k + k)), pow-sum (j + l - (k + k)) (k + k) (j + l) (omega (arith, not-more, deep)))
+        rw (
+          is,
+          mul-assoc d (2 ^ j) (2 ^ l),
+          pow-sum j l (j + l) refl,
+          pow-sum k k (k + k) refl,
+          mul-assoc d (2 ^ (j + l - (k + k))) (2 ^ (k + k)),
+          pow-sum (j + l - (k + k)) (k + k) (j + l) (omega (arith, not-more, deep)),
+        )
 
     quotient : a / square (2 ^ k) ≡ rest
     quotient = ap (λ (x : ℕ). x / square (2 ^ k)) same ∙ mul-div-cancel rest (mul-pos (pow-pos k) (pow-pos k))
@@ -107,7 +114,8 @@ module _ (p l e a k n : ℕ) (w : Written p l e a k n) where
       (nearer-root n (wholeRoot p n) (omega (arith, root-least, pow-pos (p - 1))) cut-root))
 
 -- ---- q * 2 ^ k units, for a q up to 2 ^ prec, are a value of the format
-exact : (f : Format) (q k : ℕ) → q ≤ 2 ^ prec f → prec f + k < low f + suc (emax f) → HasValue (round f false (q * 2 ^ k) (2 ^ low f)) false (q * 2 ^ k) (2 ^ low f)
+exact : (f : Format) (q k : ℕ) → q ≤ 2 ^ prec f → prec f + k < low f + suc (emax f)
+    → HasValue (round f false (q * 2 ^ k) (2 ^ low f)) false (q * 2 ^ k) (2 ^ low f)
 exact f q k h s = elim (eq-or-lt-of-le h) [
   | inl e ↦
       round-exact f false (q * 2 ^ k) (2 ^ low f) 1 (prec f + k) (pow-pos (low f)) (two-digits f) (rw (one-mul (2 ^ (prec f + k))) (pow-lt s))
@@ -115,14 +123,16 @@ exact f q k h s = elim (eq-or-lt-of-le h) [
   | inr l ↦ round-exact f false (q * 2 ^ k) (2 ^ low f) q k (pow-pos (low f)) l (lt-of-lt-of-le (shl-lt (prec f) k l) (pow-mono (le-of-lt s))) refl
 ]
 
-by-written : (f : Format) (x : Float) (N k n : ℕ) → num x * 2 ^ low f ≡ N * den x → Written (prec f) (low f) (emax f) (N * 2 ^ low f) k n → IsRoot f x (rootBy f n k)
+by-written : (f : Format) (x : Float) (N k n : ℕ) → num x * 2 ^ low f ≡ N * den x → Written (prec f) (low f) (emax f) (N * 2 ^ low f) k n
+    → IsRoot f x (rootBy f n k)
 unfolding rootBy
 by-written f x N k n X w =
     let r = nearer n (wholeRoot (prec f) n) in
     let y = round f false (r * 2 ^ k) (2 ^ low f) in
     let a = N * 2 ^ low f in
     let v : HasValue y false (r * 2 ^ k) (2 ^ low f) = exact f r k (nearest-most (prec f) (low f) (emax f) a k n w) (w .small) in
-    root-law f x y N r k X (value→cross y (r * 2 ^ k) (2 ^ low f) v) (round-fits f false (r * 2 ^ k) (2 ^ low f)) (value-is-unsigned y (r * 2 ^ k) (2 ^ low f) v)
+    root-law f x y N r k X (value→cross y (r * 2 ^ k) (2 ^ low f) v) (round-fits f false (r * 2 ^ k) (2 ^ low f))
+    (value-is-unsigned y (r * 2 ^ k) (2 ^ low f) v)
     (rooted (prec f) (low f) (emax f) a k n w)
 
 root-of-some : (f : Format) (x : Float) (u : Units f x) → 0 < u .digits → IsRoot f x (root f x)
@@ -132,7 +142,8 @@ root-of-some f x u some =
     let a = N * 2 ^ low f in
     let k = (size a + 1) / 2 - prec f in
     let e : num x * 2 ^ low f / den x ≡ N = ap (λ (z : ℕ). z / den x) (u .is) ∙ mul-div-cancel N (den-pos x) in
-    rw e (by-written f x N k (a / square (2 ^ k)) (u .is) (written (prec f) (low f) (emax f) (u .digits) (u .places) a (deep-format f) some (u .few) (u .under) refl k refl))
+    rw e (by-written f x N k (a / square (2 ^ k)) (u .is)
+    (written (prec f) (low f) (emax f) (u .digits) (u .places) a (deep-format f) some (u .few) (u .under) refl k refl))
 
 -- ---- the root of zero
 none : (f : Format) → rootIn f 0 ≡ fin false 0 (pos 0)

@@ -50,14 +50,19 @@ split-of n power z s l h =
     let shift = z - 8 + 23 + rest % 2 in
     let more = 23 + rest % 2 in
     let apart : n * 2 ^ shift ≡ n * 2 ^ (z - 8) * 2 ^ more = rw (mul-assoc n (2 ^ (z - 8)) (2 ^ more), pow-sum (z - 8) more shift (omega arith)) in
-    let high : n * 2 ^ shift < 2 ^ 48 = rw apart (lt-of-lt-of-le (mul-lt-mul-of-pos-right (s .high) (pow-pos more)) (mul-le-mul-left (2 ^ 24) (pow-mono {i = more} {j = 24} (omega arith)))) in
+    let high : n * 2 ^ shift < 2 ^ 48 =
+    rw apart (lt-of-lt-of-le (mul-lt-mul-of-pos-right (s .high) (pow-pos more)) (mul-le-mul-left (2 ^ 24) (pow-mono {i = more} {j = 24} (omega arith)))) in
     let whole : (n * 2 ^ shift) % 2 ^ 64 ≡ n * 2 ^ shift = mod-eq-of-lt (omega arith) in
     rw whole
     record {
       least = rw apart (mul-le-mul (s .low) (pow-mono {i = 23} {j = more} (omega arith)));
       most = high;
       few = omega arith;
-      same = rw (mul-assoc n (2 ^ shift) (2 ^ (rest / 2) * 2 ^ (rest / 2)), pow-sum (rest / 2) (rest / 2) (rest / 2 + rest / 2) refl, pow-sum shift (rest / 2 + rest / 2) power (omega arith));
+      same = rw (
+        mul-assoc n (2 ^ shift) (2 ^ (rest / 2) * 2 ^ (rest / 2)),
+        pow-sum (rest / 2) (rest / 2) (rest / 2 + rest / 2) refl,
+        pow-sum shift (rest / 2 + rest / 2) power (omega arith),
+      );
     }
 
 -- the split of a subnormal number's pattern is the split of its units
@@ -70,7 +75,9 @@ scaled-normal b d s h p = record {
   least = p .least;
   most = p .most;
   few = p .few;
-  same = rw (units-normal b h, mul-assoc (2 ^ 23 + b % 2 ^ 23) (2 ^ (b / 2 ^ 23 - 1)) (2 ^ 149), pow-sum (b / 2 ^ 23 - 1) 149 (148 + b / 2 ^ 23) (omega arith)) (p .same);
+  same =
+      rw (units-normal b h, mul-assoc (2 ^ 23 + b % 2 ^ 23) (2 ^ (b / 2 ^ 23 - 1)) (2 ^ 149), pow-sum (b / 2 ^ 23 - 1) 149 (148 + b / 2 ^ 23) (omega arith))
+      (p .same);
 }
 
 -- ---- the root of the digits
@@ -86,7 +93,8 @@ nearest-root n l h =
 
 -- ---- the bits of the root
 -- scale and nearest root, put together as a pattern, are the bits of the root: so the program is right
-pub bits-root : (b d k q : ℕ) → b < 0x7f80_0000 → Scaled (unitsOf b) d k → NearestRoot d q → IsRoot binary32 (ofBits binary32 b) (ofBits binary32 (k * 2 ^ 23 + q))
+pub bits-root : (b d k q : ℕ) → b < 0x7f80_0000 → Scaled (unitsOf b) d k → NearestRoot d q
+    → IsRoot binary32 (ofBits binary32 b) (ofBits binary32 (k * 2 ^ 23 + q))
 bits-root b d k q h p r =
     let x = ofBits binary32 b in
     let c = k * 2 ^ 23 + q in

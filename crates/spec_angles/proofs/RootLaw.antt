@@ -38,7 +38,8 @@ units-of f (fin false (suc m) e) h k =
       digits = suc m;
       places = raised e + spare;
       few = n .digits;
-      under = rw (pow-add 2 (raised e) spare, ← up-is e, pow-add 2 (low f) (suc (emax f)), ← d) (omega (arith, mul-lt-mul-of-pos-right (n .high) (pow-pos spare)));
+      under =
+          rw (pow-add 2 (raised e) spare, ← up-is e, pow-add 2 (low f) (suc (emax f)), ← d) (omega (arith, mul-lt-mul-of-pos-right (n .high) (pow-pos spare)));
       is = rw (← d, pow-add 2 (raised e) spare, ← up-is e) (regroup (suc m) (up e) (2 ^ spare) (down e));
     }
 
@@ -106,7 +107,8 @@ root-law f x r N q k X R F P g = record { holds = F; isUnsigned = P; above = hig
     higher y h p l =
         let u = units-of f y h p in
         let Y = u .digits * 2 ^ u .places in
-        below (num x) (den x) (den r * den y) (num r * den y + num y * den r) N (q * 2 ^ k + Y) (2 ^ low f) X (sum-is (num r) (den r) (num y) (den y) (q * 2 ^ k) Y (2 ^ low f) R (u .is)) (room y)
+        below (num x) (den x) (den r * den y) (num r * den y + num y * den r) N (q * 2 ^ k + Y) (2 ^ low f) X
+        (sum-is (num r) (den r) (num y) (den y) (q * 2 ^ k) Y (2 ^ low f) R (u .is)) (room y)
         (nearer-than-above (half f) (N * 2 ^ low f) q (2 ^ k) Y g
         (order (num r) (den r) (num y) (den y) (q * 2 ^ k) Y (2 ^ low f) (pow-pos (low f)) R (u .is) (lt-says r y P p l))
         (on-grid (half f) (u .digits) (u .places) k (rw (twice-half f) at (u .few))))
@@ -115,7 +117,8 @@ root-law f x r N q k X R F P g = record { holds = F; isUnsigned = P; above = hig
     lower y h p l =
         let u = units-of f y h p in
         let Y = u .digits * 2 ^ u .places in
-        above (num x) (den x) (den r * den y) (num r * den y + num y * den r) N (q * 2 ^ k + Y) (2 ^ low f) X (sum-is (num r) (den r) (num y) (den y) (q * 2 ^ k) Y (2 ^ low f) R (u .is)) (room y)
+        above (num x) (den x) (den r * den y) (num r * den y + num y * den r) N (q * 2 ^ k + Y) (2 ^ low f) X
+        (sum-is (num r) (den r) (num y) (den y) (q * 2 ^ k) Y (2 ^ low f) R (u .is)) (room y)
         (nearer-than-below (half f) (N * 2 ^ low f) q (2 ^ k) Y g
         (order (num y) (den y) (num r) (den r) Y (q * 2 ^ k) (2 ^ low f) (pow-pos (low f)) (u .is) R (lt-says y r p P l))
         (on-grid (half f) (u .digits) (u .places) k (rw (twice-half f) at (u .few))))

@@ -73,13 +73,17 @@ module _ (f : Format) (a : ℕ) (some : 0 < a) (few : a < 2 ^ 32) where
     same = round-same f false a 1 (a * 2 ^ 30) (2 ^ 30) (pow-pos 0) (pow-pos 30) (sym (mul-one (a * 2 ^ 30)))
 
     large : HasValue (round f false a 1) false (W * 2 ^ 30) (2 ^ low f)
-    large = rw same (rw scaled at (round-val f (a * 2 ^ 30) (2 ^ 30) (round-under f (a * 2 ^ 30) (2 ^ 30) (rw same at (positive-finite (round f false a 1) large-positive)))))
+    large =
+        rw same (rw scaled at
+        (round-val f (a * 2 ^ 30) (2 ^ 30) (round-under f (a * 2 ^ 30) (2 ^ 30) (rw same at (positive-finite (round f false a 1) large-positive)))))
 
     product : mul f (round f false a 1) thirtieth ≡ round f false a (2 ^ 30)
     product =
         mul-at f (round f false a 1) thirtieth (W * 2 ^ 30) (2 ^ low f) 1 (2 ^ 30) large-positive tt (pow-pos (low f)) (pow-pos 30) large (refl, refl)
-        ∙ round-same f false (W * 2 ^ 30 * 1) (2 ^ low f * 2 ^ 30) W (2 ^ low f) (mul-pos (pow-pos (low f)) (pow-pos 30)) (pow-pos (low f)) (regroup W (2 ^ 30) (2 ^ low f))
-        ∙ again f (round f false a (2 ^ 30)) W (2 ^ low f) (pow-pos (low f)) (value-pos (round f false a (2 ^ 30)) W (2 ^ low f) small-positive (pow-pos (low f)) small) (round-fits f false a (2 ^ 30)) small
+        ∙ round-same f false (W * 2 ^ 30 * 1) (2 ^ low f * 2 ^ 30) W (2 ^ low f) (mul-pos (pow-pos (low f)) (pow-pos 30)) (pow-pos (low f))
+        (regroup W (2 ^ 30) (2 ^ low f))
+        ∙ again f (round f false a (2 ^ 30)) W (2 ^ low f) (pow-pos (low f))
+        (value-pos (round f false a (2 ^ 30)) W (2 ^ low f) small-positive (pow-pos (low f)) small) (round-fits f false a (2 ^ 30)) small
 
 -- the program rounds an angle once: to a float; its product with 2 ^ -30 is exact
 pub rounds-once : (f : Format) (a : ℕ) → a < 2 ^ 32 → mul f (round f false a 1) thirtieth ≡ round f false a (2 ^ 30)

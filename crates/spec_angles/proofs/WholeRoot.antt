@@ -38,7 +38,8 @@ near-up n r w g =
     record { low = rw odd (omega arith); high = omega (arith, w .high) }
 
 near-stay : (n r : ℕ) → 0 < r → WholeRoot n r → n - r * r ≤ r → Near n r
-near-stay n r s w g = record { low = lt-of-lt-of-le (square-lt {a = 2 * r - 1} {b = 2 * r} (omega arith)) (omega (arith, w .low)); high = omega (arith, w .low) }
+near-stay n r s w g =
+    record { low = lt-of-lt-of-le (square-lt {a = 2 * r - 1} {b = 2 * r} (omega arith)) (omega (arith, w .low)); high = omega (arith, w .low) }
 
 -- raised by one where the rest is larger than it, the cut root is the nearest: there is never a tie
 pub nearer-root : (n r : ℕ) → 0 < r → WholeRoot n r → Near n (nearer n r)

@@ -33,13 +33,15 @@ module _ (f : Format) (triangles : List Float) (q : Point) (count : ℕ) where
   sum-start = record { within = omega arith; is = refl }
 
   -- a turn of the loop adds the next triangle's solid angle
-  pub sum-more : (sum angle : Float) (t : Triangle) (k : ℕ) → k < count → Summed f triangles q count sum k → t ≡ triangleAt triangles k → angle ≡ solidAngle f t q
+  pub sum-more : (sum angle : Float) (t : Triangle) (k : ℕ) → k < count → Summed f triangles q count sum k → t ≡ triangleAt triangles k
+      → angle ≡ solidAngle f t q
       → Summed f triangles q count (add f sum angle) (k + 1)
   unfolding sumOf
   sum-more sum angle t k l s T' A = record { within = omega arith; is = rw (add-one k, s .is, A, T') refl }
 
   -- with every triangle in it, the sum over 4 PI is the winding number
-  pub sum-end : (sum : Float) (k : ℕ) → count ≡ triangleCount triangles → count ≤ k → Summed f triangles q count sum k → div f sum (mul f four (pi f)) ≡ windingAbout f triangles q
+  pub sum-end : (sum : Float) (k : ℕ) → count ≡ triangleCount triangles → count ≤ k → Summed f triangles q count sum k
+      → div f sum (mul f four (pi f)) ≡ windingAbout f triangles q
   unfolding windingAbout windingNumber
   sum-end sum k C l s =
       let e : k ≡ count = omega (arith, s .within) in
@@ -55,13 +57,18 @@ module _ (f : Format) (triangles points old : List Float) (count : ℕ) where
   fill-start = record { run = run-start _ 1 0 count old }
 
   -- a turn of the loop stores the next point's winding number
-  pub fill-more : (out : List Float) (k : ℕ) (q : Point) (w : Float) → count ≤ length old → k < count → WindingsPut f triangles points old count out k → q ≡ pointAt points (3 * k)
+  pub fill-more : (out : List Float) (k : ℕ) (q : Point) (w : Float) → count ≤ length old → k < count → WindingsPut f triangles points old count out k
+      → q ≡ pointAt points (3 * k)
       → w ≡ windingAbout f triangles q → WindingsPut f triangles points old count (set out k w) (k + 1)
   unfolding windingAt
-  fill-more out k q w room l h Q W = record { run = rw (zero-add k) at (run-store (windingAt f triangles points) 0 count old out k w (rw (zero-add count) room) l (h .run) (W ∙ ap (windingAbout f triangles) Q)) }
+  fill-more out k q w room l h Q W = record {
+    run = rw (zero-add k) at
+        (run-store (windingAt f triangles points) 0 count old out k w (rw (zero-add count) room) l (h .run) (W ∙ ap (windingAbout f triangles) Q));
+  }
 
   -- after the last turn the list is as the definition writes it
-  pub fill-end : (out : List Float) (k : ℕ) → count ≡ pointCount points → count ≤ k → WindingsPut f triangles points old count out k → out ≡ written f triangles points old
+  pub fill-end : (out : List Float) (k : ℕ) → count ≡ pointCount points → count ≤ k → WindingsPut f triangles points old count out k
+      → out ≡ written f triangles points old
   unfolding written
   fill-end out k C l h = run-end _ 0 count old out k l (h .run) ∙ ap (λ (n : ℕ). overwrite 0 (concatMap (λ j. windingAt f triangles points j ∷ []) n) old) C
 
@@ -78,6 +85,7 @@ module _ (triangles points old : List Float) where
   room-for-all h = room-passed (length old) (pointCount points) (all-pass _ h .1 .0)
 
   -- a call that passed its tests keeps its contract by writing every number
-  pub is-written : (f : Format) (new : List Float) → windingRefusal triangles points (length old) ≡ passes → new ≡ written f triangles points old → new ≡ afterWinding f triangles points old
+  pub is-written : (f : Format) (new : List Float) → windingRefusal triangles points (length old) ≡ passes → new ≡ written f triangles points old
+      → new ≡ afterWinding f triangles points old
   unfolding afterWinding
   is-written f new h e = rw (e, h)

@@ -26,7 +26,8 @@ units-unsigned : (f : Format) (q k m : ℕ) (e : ℤ) → T (le (units f false q
 unfolding units le
 units-unsigned f q k m e = go (ltb (q * 2 ^ k) (2 ^ (low f + suc (emax f))))
   where
-    go : (b : Bool) → T (le (cond b (odd (suc (prec f)) false q k (low f)) (inf false)) (fin false m e)) → T (unsigned (cond b (odd (suc (prec f)) false q k (low f)) (inf false)))
+    go : (b : Bool) → T (le (cond b (odd (suc (prec f)) false q k (low f)) (inf false)) (fin false m e))
+        → T (unsigned (cond b (odd (suc (prec f)) false q k (low f)) (inf false)))
     go true h = value-is-unsigned (odd (suc (prec f)) false q k (low f)) (q * 2 ^ k) (2 ^ low f) (odd-sign (suc (prec f)) false q k (low f))
 
 -- what is rounded with the sign clear, and stays below a finite number, is finite with the sign clear
@@ -37,7 +38,8 @@ units-finite : (f : Format) (q k : ℕ) → T (finite (units f false q k)) → T
 unfolding units
 units-finite f q k = go (ltb (q * 2 ^ k) (2 ^ (low f + suc (emax f))))
   where
-    go : (b : Bool) → T (finite (cond b (odd (suc (prec f)) false q k (low f)) (inf false))) → T (unsigned (cond b (odd (suc (prec f)) false q k (low f)) (inf false)))
+    go : (b : Bool) → T (finite (cond b (odd (suc (prec f)) false q k (low f)) (inf false)))
+        → T (unsigned (cond b (odd (suc (prec f)) false q k (low f)) (inf false)))
     go true h = value-is-unsigned (odd (suc (prec f)) false q k (low f)) (q * 2 ^ k) (2 ^ low f) (odd-sign (suc (prec f)) false q k (low f))
 
 -- what is rounded with the sign clear, and is finite, keeps the sign clear
@@ -57,7 +59,8 @@ pub small-whole : (f : Format) (c : ℕ) → c < 2 ^ prec f → Whole f c
 small-whole f c h = record {
   exact =
       round-exact f false c 1 c (low f) (pow-pos 0) h
-      (rw (pow-add 2 (low f) (suc (emax f)), mul-comm (2 ^ low f) (2 ^ suc (emax f))) (mul-lt-mul-of-pos-right (lt-of-lt-of-le h (pow-mono (reach f))) (pow-pos (low f))))
+      (rw (pow-add 2 (low f) (suc (emax f)), mul-comm (2 ^ low f) (2 ^ suc (emax f)))
+      (mul-lt-mul-of-pos-right (lt-of-lt-of-le h (pow-mono (reach f))) (pow-pos (low f))))
       (sym (mul-one (c * 2 ^ low f)));
 }
 
@@ -97,7 +100,10 @@ below-whole f a d c (fin false n g) v l =
     let p = round-unsigned f a d n g l in
     let k : num r * down g ≤ n * up g * den r = le-says r (fin false n g) p tt l in
     let e : n * up g ≡ c * down g = omega (arith, v .1) in
-    record { isFinite = unsigned-finite r p; most = le-of-mul-le-mul-right (le-trans k (le-of-eq (ap (λ (z : ℕ). z * den r) e ∙ mul-right-comm c (down g) (den r)))) (down-pos g) }
+    record {
+      isFinite = unsigned-finite r p;
+      most = le-of-mul-le-mul-right (le-trans k (le-of-eq (ap (λ (z : ℕ). z * den r) e ∙ mul-right-comm c (down g) (den r)))) (down-pos g);
+    }
 
 round-within-plain : (f : Format) (a d c : ℕ) → 0 < d → Whole f c → a ≤ c * d → Within c (round f false a d)
 round-within-plain f a d c D w h = below-whole f a d c (round f false c 1) (w .exact) (round-mono f a d c 1 D (pow-pos 0) (omega arith))
@@ -130,7 +136,8 @@ module _ (f : Format) (b c : ℕ) where
       let r = add-rounds f (fin s m e) (fin t n d) tt tt in
       let p = spread s (m * up e) (down d) in
       let q = spread t (n * up d) (down e) in
-      let z : r .size ≤ m * up e * down d + n * up d * down e = size-most s t (r .sign) (m * up e * down d) (n * up d * down e) (r .size) (omega (arith, r .says)) in
+      let z : r .size ≤ m * up e * down d + n * up d * down e =
+      size-most s t (r .sign) (m * up e * down d) (n * up d * down e) (r .size) (omega (arith, r .says)) in
       rw (r .is)
       (round-within f (r .sign) (r .size) (down e * down d) (b + c) (mul-pos (down-pos e) (down-pos d)) w
       (omega (arith, mul-le-mul-right (down d) (X .most), mul-le-mul-right (down e) (Y .most))))

@@ -47,7 +47,8 @@ module _ (try try′ : List ℕ → Tried) (Used : ℕ → Type 0) (permutes : (
   grown-alike zero slice u = refl
   grown-alike (suc remaining) slice u = at (leb (length slice) leafMinimum) refl (grown-alike remaining)
     where
-      at : (b : Bool) → leb (length slice) leafMinimum ≡ b → ((p : List ℕ) → Each Used p → grown try leafMinimum remaining p ≡ grown try′ leafMinimum remaining p)
+      at : (b : Bool) → leb (length slice) leafMinimum ≡ b
+          → ((p : List ℕ) → Each Used p → grown try leafMinimum remaining p ≡ grown try′ leafMinimum remaining p)
           → grownBy b try (grown try leafMinimum remaining) slice ≡ grownBy b try′ (grown try′ leafMinimum remaining) slice
       at true w e = refl
       at false w e =
@@ -97,22 +98,26 @@ module _ (boxAt boxAt′ : ℕ → Box) where
     sorted-on-alike axis slice u =
         sorted-alike (isBefore f boxAt axis) (isBefore f boxAt′ axis) Alike (λ a b p q. ap₂ lt (centre-alike axis a p) (centre-alike axis b q)) slice u
 
-    tried-on-alike : (axis : Axis) (parent : Box) (slice : List ℕ) → Each Alike slice → triedOn f boxAt strategy axis parent slice ≡ triedOn f boxAt′ strategy axis parent slice
+    tried-on-alike : (axis : Axis) (parent : Box) (slice : List ℕ) → Each Alike slice
+        → triedOn f boxAt strategy axis parent slice ≡ triedOn f boxAt′ strategy axis parent slice
     unfolding triedOn
     tried-on-alike axis parent slice u =
         let p : Each Alike (sortedOn f boxAt axis slice) = each-sorted (isBefore f boxAt axis) Alike slice u in
         ap (λ (bs : List Box). splitAs (sortedOn f boxAt axis slice) (rule f strategy axis parent bs)) (boxes-alike (sortedOn f boxAt axis slice) p)
         ∙ ap (λ (s : List ℕ). splitAs s (rule f strategy axis parent (map boxAt′ s))) (sorted-on-alike axis slice u)
 
-    or-else-alike : (next next′ : List ℕ → Tried) → ((slice : List ℕ) → Each Alike slice → next slice ≡ next′ slice) → (r : Tried) → Each Alike (sliceOf r) → orElse next r ≡ orElse next′ r
+    or-else-alike : (next next′ : List ℕ → Tried) → ((slice : List ℕ) → Each Alike slice → next slice ≡ next′ slice) → (r : Tried) → Each Alike (sliceOf r)
+        → orElse next r ≡ orElse next′ r
     or-else-alike next next′ e (cut slice k) u = refl
     or-else-alike next next′ e (uncut slice) u = e slice u
 
-    tried-in-alike : (axes : List Axis) (parent : Box) (slice : List ℕ) → Each Alike slice → triedIn f boxAt strategy axes parent slice ≡ triedIn f boxAt′ strategy axes parent slice
+    tried-in-alike : (axes : List Axis) (parent : Box) (slice : List ℕ) → Each Alike slice
+        → triedIn f boxAt strategy axes parent slice ≡ triedIn f boxAt′ strategy axes parent slice
     unfolding triedIn
     tried-in-alike [] parent slice u = refl
     tried-in-alike (axis ∷ axes) parent slice u =
-        or-else-alike (triedIn f boxAt strategy axes parent) (triedIn f boxAt′ strategy axes parent) (tried-in-alike axes parent) (triedOn f boxAt strategy axis parent slice)
+        or-else-alike (triedIn f boxAt strategy axes parent) (triedIn f boxAt′ strategy axes parent) (tried-in-alike axes parent)
+        (triedOn f boxAt strategy axis parent slice)
         (each-permuted Alike (Permᴰ·symm (tried-on-permutes f boxAt strategy axis parent slice)) u)
         ∙ ap (orElse (triedIn f boxAt′ strategy axes parent)) (tried-on-alike axis parent slice u)
 
@@ -123,6 +128,7 @@ module _ (boxAt boxAt′ : ℕ → Box) where
         ∙ ap (λ (b : Box). triedIn f boxAt′ strategy (axesBySize (λ axis. on axis (sizes f b))) b slice) (joined-alike slice w u)
 
     -- tables that agree on a slice's triangles grow the same tree from it
-    pub tree-alike : (leafMinimum remaining : ℕ) (slice : List ℕ) → Each Alike slice → grown (tried f boxAt strategy) leafMinimum remaining slice ≡ grown (tried f boxAt′ strategy) leafMinimum remaining slice
+    pub tree-alike : (leafMinimum remaining : ℕ) (slice : List ℕ) → Each Alike slice
+        → grown (tried f boxAt strategy) leafMinimum remaining slice ≡ grown (tried f boxAt′ strategy) leafMinimum remaining slice
     tree-alike leafMinimum remaining slice u =
         grown-alike (tried f boxAt strategy) (tried f boxAt′ strategy) Alike (tried-permutes f boxAt strategy) tried-alike leafMinimum remaining slice u

@@ -34,7 +34,8 @@ pub record Passed (triangles : List Float) (s : Settings) (order links : List �
   pub boxes-room : 6 * maxNodes (triangleCount triangles) ≤ length boxes
 
 -- tests that passed give what the build needs: good triangles, good settings, room in each list
-pub build-passed : (triangles : List Float) (s : Settings) (order links : List ℕ) (boxes : List Float) → buildRefusal triangles s (length order) (length links) (length boxes) ≡ passes → Passed triangles s order links boxes
+pub build-passed : (triangles : List Float) (s : Settings) (order links : List ℕ) (boxes : List Float)
+    → buildRefusal triangles s (length order) (length links) (length boxes) ≡ passes → Passed triangles s order links boxes
 unfolding buildRefusal
 build-passed triangles s order links boxes e =
     let p = all-pass _ e in
@@ -60,10 +61,12 @@ triangles-centred : (f : Format) (triangles : List Float) → GoodTriangles tria
 triangles-centred f triangles g t h = centre-number f (boxAt triangles t) (box-at-proper triangles (g .coordinates) t (triangle-inside triangles t h))
 
 -- the tree as defined holds all n triangles, has no empty leaf and is not too deep
-pub built-whole : (f : Format) (triangles : List Float) (s : Settings) → GoodTriangles triangles → GoodSettings s → Whole (triangleCount triangles) (builtTree f triangles s)
+pub built-whole : (f : Format) (triangles : List Float) (s : Settings) → GoodTriangles triangles → GoodSettings s
+    → Whole (triangleCount triangles) (builtTree f triangles s)
 unfolding builtTree
 built-whole f triangles s g h =
-    grown-whole (tries-inside f (boxAt triangles) (s .strategy)) (s .leafMinimum) (s .maximumDepth) (triangleCount triangles) (h .leaf) (h .depth) (g .some) (triangles-centred f triangles g)
+    grown-whole (tries-inside f (boxAt triangles) (s .strategy)) (s .leafMinimum) (s .maximumDepth) (triangleCount triangles) (h .leaf) (h .depth) (g .some)
+    (triangles-centred f triangles g)
 
 -- ---- the call
 -- its answer and its lists are fixed by what it is called with
@@ -74,7 +77,8 @@ pub build-is-unique : (f : Format) (triangles : List Float) (s : Settings) {orde
 build-is-unique f triangles s p q =
     (p .answer-is ∙ sym (q .answer-is), p .order-is ∙ sym (q .order-is), p .links-are ∙ sym (q .links-are), p .boxes-are ∙ sym (q .boxes-are))
 
-module _ (f : Format) (triangles : List Float) (s : Settings) (order links : List ℕ) (boxes : List Float) (order′ links′ : List ℕ) (boxes′ : List Float) (nodes depth : ℕ)
+module _ (f : Format) (triangles : List Float) (s : Settings) (order links : List ℕ) (boxes : List Float) (order′ links′ : List ℕ) (boxes′ : List Float)
+    (nodes depth : ℕ)
     (b : BuildIs f triangles s order links boxes (made nodes depth) order′ links′ boxes′) where
   never-both : (v : Verdict) → made nodes depth ≡ answerBy v (builtTree f triangles s) → v ≡ passes
   never-both passes e = refl
@@ -108,7 +112,8 @@ module _ (f : Format) (triangles : List Float) (s : Settings) (order links : Lis
       let t : Tree = builtTree f triangles s in
       let o : order′ ≡ overwrite 0 (numbers t) order = b .order-is ∙ ap (λ (v : Verdict). leftBy v (numbers t) order) made-passed in
       let l : links′ ≡ overwrite 0 (linksFrom 0 0 t) links = b .links-are ∙ ap (λ (v : Verdict). leftBy v (linksFrom 0 0 t) links) made-passed in
-      let x : boxes′ ≡ overwrite 0 (boxesOf (boxAt triangles) t) boxes = b .boxes-are ∙ ap (λ (v : Verdict). leftBy v (boxesOf (boxAt triangles) t) boxes) made-passed in
+      let x : boxes′ ≡ overwrite 0 (boxesOf (boxAt triangles) t) boxes = b .boxes-are
+      ∙ ap (λ (v : Verdict). leftBy v (boxesOf (boxAt triangles) t) boxes) made-passed in
       rw (o, l, x, made-nodes) (whole-listing whole (boxAt triangles) order links boxes)
 
   -- the tree that is built passes the tree check

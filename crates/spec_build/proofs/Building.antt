@@ -33,9 +33,11 @@ use Rattle.spec_build.proofs.Build.{Passed, build-passed, built-whole}
 
 -- ---- the table of boxes is read as it was written
 -- the i-th element of a piece
-concatMap-in : {A : Type 0} (g : ℕ → List A) (w n t i : ℕ) (d : A) → ((j : ℕ) → length (g j) ≡ w) → t < n → i < w → getD (concatMap g n) (w * t + i) d ≡ getD (g t) i d
+concatMap-in : {A : Type 0} (g : ℕ → List A) (w n t i : ℕ) (d : A) → ((j : ℕ) → length (g j) ≡ w) → t < n → i < w
+    → getD (concatMap g n) (w * t + i) d ≡ getD (g t) i d
 concatMap-in {A} g w n t i d sized h k =
-    sym (getD-take w (drop (w * t) (concatMap g n)) i d k ∙ getD-drop (w * t) (concatMap g n) i d) ∙ ap (λ (l : List A). getD l i d) (slice-concatMap g w n t sized h)
+    sym (getD-take w (drop (w * t) (concatMap g n)) i d k ∙ getD-drop (w * t) (concatMap g n) i d)
+    ∙ ap (λ (l : List A). getD l i d) (slice-concatMap g w n t sized h)
 
 module _ (boxFor : ℕ → Box) (n : ℕ) (old : List Float) where
   table : List Float
@@ -61,7 +63,8 @@ module _ (boxFor : ℕ → Box) (n : ℕ) (old : List Float) where
       let g : getD table (6 * t + 3 + 2) nan ≡ boxFor t .max .z = read (6 * t + 3 + 2) t 5 h (omega arith) (omega arith) in
       λ i. record { min = record { x = a i; y = b i; z = c i }; max = record { x = d i; y = e i; z = g i } }
 
-module _ (f : Format) (triangles : List Float) (s : Settings) (bounds centres : List Float) (scratch order links : List ℕ) (boxes : List Float) (h : BuildNeeds triangles s bounds centres scratch order links boxes)
+module _ (f : Format) (triangles : List Float) (s : Settings) (bounds centres : List Float) (scratch order links : List ℕ) (boxes : List Float)
+    (h : BuildNeeds triangles s bounds centres scratch order links boxes)
     (fit : AllFit f triangles) (count : ℕ) (count-is : count ≡ triangleCount triangles) where
   passed : Passed triangles s order links boxes
   passed = build-passed triangles s order links boxes (h .passed)
@@ -84,7 +87,8 @@ module _ (f : Format) (triangles : List Float) (s : Settings) (bounds centres : 
     bounds-long′ : length bounds′ ≡ 6 * maxTriangles
     bounds-long′ =
         ap length bounds-are
-        ∙ length-overwrite 0 (concatMap (λ t. sixOf (boxAt triangles t)) count) bounds (omega (arith, length-concatMap (λ t. sixOf (boxAt triangles t)) 6 count (λ j. refl), bounds-needs .1))
+        ∙ length-overwrite 0 (concatMap (λ t. sixOf (boxAt triangles t)) count) bounds
+        (omega (arith, length-concatMap (λ t. sixOf (boxAt triangles t)) 6 count (λ j. refl), bounds-needs .1))
         ∙ h .bounds-long
 
     -- needs of the loop that puts the centres of all triangles into their table
@@ -94,7 +98,8 @@ module _ (f : Format) (triangles : List Float) (s : Settings) (bounds centres : 
     read-again : (t : ℕ) → t < count → boxIn bounds′ t ≡ boxAt triangles t
     read-again t w = ap (λ (l : List Float). boxIn l t) bounds-are ∙ table-read (boxAt triangles) count bounds t w
 
-    module _ (centres′ : List Float) (centred : Centred f bounds′ count centres centres′) (order′ : List ℕ) (order-is : order′ ≡ overwrite 0 (range count) order) where
+    module _ (centres′ : List Float) (centred : Centred f bounds′ count centres centres′) (order′ : List ℕ)
+        (order-is : order′ ≡ overwrite 0 (range count) order) where
       front : take count order′ ≡ range count
       front = ap (take count) order-is ∙ front-overwrite count (range count) order (range-length count)
 
@@ -127,7 +132,8 @@ module _ (f : Format) (triangles : List Float) (s : Settings) (bounds centres : 
       front-tabled = rw front (each-range (Tabled f bounds′ centres′) count tabled)
 
       -- needs of growing the tree from its root: all triangles are in the tables, and the lists have room
-      pub grow-needs : (remaining : ℕ) → remaining ≡ s .maximumDepth - 1 → Growable f bounds′ centres′ (s .leafMinimum) remaining (take count order′) scratch 0 links boxes 0
+      pub grow-needs : (remaining : ℕ) → remaining ≡ s .maximumDepth - 1
+          → Growable f bounds′ centres′ (s .leafMinimum) remaining (take count order′) scratch 0 links boxes 0
       grow-needs remaining e = record {
         tabled = front-tabled;
         long = centred .long ∙ h .centres-long;
@@ -166,7 +172,14 @@ module _ (f : Format) (triangles : List Float) (s : Settings) (bounds centres : 
 
         -- the root's number is in range, so the node count does not overflow
         pub root-few : root + 1 ≤ 2 * maxTriangles
-        root-few = omega (arith, g .written .root-is, ap (rootFrom 0) same-tree, root-last 0 (builtTree f triangles s), whole-nodes tree-whole, passed .triangles-good .few)
+        root-few = omega (
+          arith,
+          g .written .root-is,
+          ap (rootFrom 0) same-tree,
+          root-last 0 (builtTree f triangles s),
+          whole-nodes tree-whole,
+          passed .triangles-good .few,
+        )
 
         numbers-long : length (numbers (builtTree f triangles s)) ≡ count
         numbers-long = whole-count tree-whole ∙ sym count-is
@@ -182,14 +195,19 @@ module _ (f : Format) (triangles : List Float) (s : Settings) (bounds centres : 
         -- tables, order and growing together leave what the definition of the build says
         pub build-gives : BuildIs f triangles s order links boxes (made (root + 1) deep) (slice′ ++ drop count order′) links′ boxes′
         build-gives = rw (h .passed) record {
-          answer-is = ap₂ made (ap (λ (n : ℕ). n + 1) (g .written .root-is ∙ ap (rootFrom 0) same-tree) ∙ root-last 0 (builtTree f triangles s) ∙ omega arith) (g .written .levels-are ∙ ap levels same-tree);
+          answer-is =
+              ap₂ made (ap (λ (n : ℕ). n + 1) (g .written .root-is ∙ ap (rootFrom 0) same-tree) ∙ root-last 0 (builtTree f triangles s) ∙ omega arith)
+              (g .written .levels-are ∙ ap levels same-tree);
           order-is = order-now;
           links-are = g .written .links-are ∙ ap (λ (t : Tree). overwrite 0 (linksFrom 0 0 t) links) same-tree;
-          boxes-are = g .written .boxes-are ∙ ap (λ (t : Tree). overwrite 0 (boxesOf (boxIn bounds′) t) boxes) same-tree ∙ ap (λ (l : List Float). overwrite 0 l boxes) same-boxes;
+          boxes-are =
+              g .written .boxes-are ∙ ap (λ (t : Tree). overwrite 0 (boxesOf (boxIn bounds′) t) boxes) same-tree
+              ∙ ap (λ (l : List Float). overwrite 0 l boxes) same-boxes;
         }
 
 -- ---- what was refused
 -- a refusal that leaves the lists as they were is what the definition says of it
-pub refusal-gives : (f : Format) (triangles : List Float) (s : Settings) (order links : List ℕ) (boxes : List Float) (number place : ℕ) → buildRefusal triangles s (length order) (length links) (length boxes) ≡ refused number place
+pub refusal-gives : (f : Format) (triangles : List Float) (s : Settings) (order links : List ℕ) (boxes : List Float) (number place : ℕ)
+    → buildRefusal triangles s (length order) (length links) (length boxes) ≡ refused number place
     → BuildIs f triangles s order links boxes (notMade number place) order links boxes
 refusal-gives f triangles s order links boxes number place e = rw e record { answer-is = refl; order-is = refl; links-are = refl; boxes-are = refl }

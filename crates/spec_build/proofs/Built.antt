@@ -42,7 +42,8 @@ module _ {n : ℕ} {t : Tree} (h : Whole n t) where
 
   module _ (boxAt : ℕ → Box) (order links : List ℕ) (boxes : List Float) where
     -- written into the lists, the tree is their listing, which the tree check accepts
-    pub whole-listing : Listing boxAt n (take n (overwrite 0 (numbers t) order)) (overwrite 0 (linksFrom 0 0 t) links) (overwrite 0 (boxesOf boxAt t) boxes) (nodeCount t) t
+    pub whole-listing : Listing boxAt n (take n (overwrite 0 (numbers t) order)) (overwrite 0 (linksFrom 0 0 t) links)
+        (overwrite 0 (boxesOf boxAt t) boxes) (nodeCount t) t
     whole-listing =
         let order-is : take n (overwrite 0 (numbers t) order) ≡ numbers t = front-overwrite n (numbers t) order whole-count in
         record {
@@ -67,7 +68,8 @@ pub range-length : (n : ℕ) → length (range n) ≡ n
 range-length n = permutes-length n (range n) (Permᴰ·refl (range n))
 
 -- grown from all n triangles at settings in range, a tree holds each of them once, has no empty leaf and is not too deep
-pub grown-whole : {tried : List ℕ → Tried} {Used : ℕ → Type 0} → Trying tried Used → (leafMinimum maximumDepth n : ℕ) → 1 ≤ leafMinimum → maximumDepth ≤ deepest → 1 ≤ n
+pub grown-whole : {tried : List ℕ → Tried} {Used : ℕ → Type 0} → Trying tried Used → (leafMinimum maximumDepth n : ℕ) → 1 ≤ leafMinimum
+    → maximumDepth ≤ deepest → 1 ≤ n
     → ((k : ℕ) → k < n → Used k) → Whole n (grown tried leafMinimum (maximumDepth - 1) (range n))
 grown-whole {Used = Used} h leafMinimum maximumDepth n leaf depth some used = record {
   permuted = grown-permutes h leafMinimum (maximumDepth - 1) (range n);

@@ -20,7 +20,8 @@ round-number f false a c h = number-right _ (round f false a c) (round-not-below
 half-number : (f : Format) (x : Float) → Number x → Number (div f x two)
 unfolding div isNan
 half-number f (inf s) h = tt
-half-number f (fin s m e) h = round-number f (unlike s false) (m * up e * down (pos 1)) (1 * up (pos 1) * down e) (mul-pos (mul-pos (zero-lt-suc 0) (up-pos (pos 1))) (down-pos e))
+half-number f (fin s m e) h =
+    round-number f (unlike s false) (m * up e * down (pos 1)) (1 * up (pos 1) * down e) (mul-pos (mul-pos (zero-lt-suc 0) (up-pos (pos 1))) (down-pos e))
 
 -- a box with finite corners has a centre that is no NaN, on each axis: the sort has keys to compare
 pub centre-number : (f : Format) (b : Box) → Proper b → (axis : Axis) → Number (on axis (centre f b))

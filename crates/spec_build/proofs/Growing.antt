@@ -45,7 +45,8 @@ module _ (try : List ℕ → Tried) (leafMinimum : ℕ) (slice : List ℕ) where
       let large : leb (length slice) leafMinimum ≡ false = rw (no-level remaining) at h in
       (omega arith, leb-false (length slice) leafMinimum large)
 
-  grown-further : (remaining : ℕ) → 1 ≤ remaining → leafMinimum < length slice → grown try leafMinimum remaining slice ≡ parted (grown try leafMinimum (remaining - 1)) (try slice)
+  grown-further : (remaining : ℕ) → 1 ≤ remaining → leafMinimum < length slice
+      → grown try leafMinimum remaining slice ≡ parted (grown try leafMinimum (remaining - 1)) (try slice)
   unfolding grown
   grown-further zero h w = absurd (omega arith)
   grown-further (suc remaining) h w =
@@ -73,7 +74,8 @@ module _ (f : Format) (bounds centres : List Float) (strategy leafMinimum : ℕ)
         shallow = grown-levels inside leafMinimum remaining slice;
       }
 
-  module _ {remaining : ℕ} {slice scratch : List ℕ} {entry : ℕ} {links : List ℕ} {boxes : List Float} {node : ℕ} (h : Growable f bounds centres leafMinimum remaining slice scratch entry links boxes node) where
+  module _ {remaining : ℕ} {slice scratch : List ℕ} {entry : ℕ} {links : List ℕ} {boxes : List Float} {node : ℕ}
+      (h : Growable f bounds centres leafMinimum remaining slice scratch entry links boxes node) where
     -- ---- a leaf
     leaf-needs-of : (slice′ : List ℕ) → List·Permᴰ slice′ slice → LeafNeeds bounds slice′ entry links boxes node
     leaf-needs-of slice′ p =
@@ -92,12 +94,14 @@ module _ (f : Format) (bounds centres : List Float) (strategy leafMinimum : ℕ)
     leaf-needs = leaf-needs-of slice (Permᴰ·refl slice)
 
     module _ (links′ : List ℕ) (boxes′ : List Float) (root deep : ℕ) (box : Box) where
-      tree-is : (slice′ : List ℕ) (t : Tree) → tree remaining slice ≡ t → slice′ ≡ numbers t → Written (boxIn bounds) t entry node links links′ boxes boxes′ root deep box
+      tree-is : (slice′ : List ℕ) (t : Tree) → tree remaining slice ≡ t → slice′ ≡ numbers t
+          → Written (boxIn bounds) t entry node links links′ boxes boxes′ root deep box
           → GrownIs f bounds strategy leafMinimum remaining slice slice′ entry links links′ boxes boxes′ node root deep box
       tree-is slice′ t e o w = record { order-is = rw e o; written = rw e w }
 
       -- where no level is left or the slice is small, the leaf that is written is the tree as defined
-      pub limit-gives : (eqb remaining 0 || leb (length slice) leafMinimum) ≡ true → Written (boxIn bounds) (leaf slice) entry node links links′ boxes boxes′ root deep box
+      pub limit-gives : (eqb remaining 0 || leb (length slice) leafMinimum) ≡ true
+          → Written (boxIn bounds) (leaf slice) entry node links links′ boxes boxes′ root deep box
           → GrownIs f bounds strategy leafMinimum remaining slice slice entry links links′ boxes boxes′ node root deep box
       unfolding numbers
       limit-gives e w = tree-is slice (leaf slice) (limit-leaf (tried f (boxIn bounds) strategy) leafMinimum slice remaining e) refl w
@@ -120,7 +124,8 @@ module _ (f : Format) (bounds centres : List Float) (strategy leafMinimum : ℕ)
 
       module _ (slice′ : List ℕ) (split : Split) (tried-is : splitAs slice′ split ≡ tried f (boxIn bounds) strategy slice) where
         same : List·Permᴰ slice′ slice
-        same = subst (λ (l : List ℕ). List·Permᴰ l slice) (sym (ap sliceOf tried-is) ∙ split-slice slice′ split) (tried-permutes f (boxIn bounds) strategy slice)
+        same =
+            subst (λ (l : List ℕ). List·Permᴰ l slice) (sym (ap sliceOf tried-is) ∙ split-slice slice′ split) (tried-permutes f (boxIn bounds) strategy slice)
 
         further : tree remaining slice ≡ parted (tree (remaining - 1)) (splitAs slice′ split)
         further = grown-further (tried f (boxIn bounds) strategy) leafMinimum slice remaining past large ∙ ap (parted (tree (remaining - 1))) (sym tried-is)
@@ -130,7 +135,8 @@ module _ (f : Format) (bounds centres : List Float) (strategy leafMinimum : ℕ)
         uncut-needs = leaf-needs-of slice′ same
 
         -- where no try cuts the slice, the leaf that is written is the tree as defined
-        pub uncut-gives : (links′ : List ℕ) (boxes′ : List Float) (root deep : ℕ) (box : Box) → split ≡ nowhere → Written (boxIn bounds) (leaf slice′) entry node links links′ boxes boxes′ root deep box
+        pub uncut-gives : (links′ : List ℕ) (boxes′ : List Float) (root deep : ℕ) (box : Box) → split ≡ nowhere
+            → Written (boxIn bounds) (leaf slice′) entry node links links′ boxes boxes′ root deep box
             → GrownIs f bounds strategy leafMinimum remaining slice slice′ entry links links′ boxes boxes′ node root deep box
         unfolding numbers
         uncut-gives links′ boxes′ root deep box e w =
@@ -140,8 +146,10 @@ module _ (f : Format) (bounds centres : List Float) (strategy leafMinimum : ℕ)
         module _ (k : ℕ) (split-is : split ≡ cutAt k) where
           inside : CutInside (cut slice′ k)
           inside =
-              let centred : Each (HasCentre f (boxIn bounds)) slice = each-weaker (Tabled f bounds centres) (HasCentre f (boxIn bounds)) (λ t u. u .centred) slice (h .tabled) in
-              subst CutInside (sym tried-is ∙ ap (splitAs slice′) split-is) (tries-inside f (boxIn bounds) strategy .inside slice (omega (arith, h .leaf, large)) centred)
+              let centred : Each (HasCentre f (boxIn bounds)) slice = each-weaker (Tabled f bounds centres) (HasCentre f (boxIn bounds))
+              (λ t u. u .centred) slice (h .tabled) in
+              subst CutInside (sym tried-is ∙ ap (splitAs slice′) split-is)
+              (tries-inside f (boxIn bounds) strategy .inside slice (omega (arith, h .leaf, large)) centred)
 
           tabled : Each (Tabled f bounds centres) slice′
           tabled = each-permuted (Tabled f bounds centres) (Permᴰ·symm same) (h .tabled)
@@ -168,7 +176,8 @@ module _ (f : Format) (bounds centres : List Float) (strategy leafMinimum : ℕ)
           left-fits = grown-fits (h .leaf) (remaining - 1) (take k slice′) left-some (each-take (Tabled f bounds centres) k slice′ tabled)
 
           -- needs of growing the left side
-          pub left-needs : (scratch′ : List ℕ) → length scratch′ ≡ length scratch → Growable f bounds centres leafMinimum (remaining - 1) (take k slice′) scratch′ entry links boxes node
+          pub left-needs : (scratch′ : List ℕ) → length scratch′ ≡ length scratch
+              → Growable f bounds centres leafMinimum (remaining - 1) (take k slice′) scratch′ entry links boxes node
           left-needs scratch′ e = record {
             tabled = each-take (Tabled f bounds centres) k slice′ tabled;
             long = h .long;
@@ -186,7 +195,8 @@ module _ (f : Format) (bounds centres : List Float) (strategy leafMinimum : ℕ)
 
           -- ---- the left side has grown
           module _ (leftSlice mid : List ℕ) (bmid : List Float) (leftRoot leftLevels : ℕ) (leftBox : Box)
-              (gl : GrownIs f bounds strategy leafMinimum (remaining - 1) (take k slice′) leftSlice entry links mid boxes bmid node leftRoot leftLevels leftBox) where
+              (gl : GrownIs f bounds strategy leafMinimum (remaining - 1)
+              (take k slice′) leftSlice entry links mid boxes bmid node leftRoot leftLevels leftBox) where
             left-slice-long : length leftSlice ≡ k
             left-slice-long = ap length (gl .order-is) ∙ left-fits .count ∙ left-long
 
@@ -221,7 +231,15 @@ module _ (f : Format) (bounds centres : List Float) (strategy leafMinimum : ℕ)
             bmid-long =
                 ap length (gl .written .boxes-are)
                 ∙ length-overwrite (6 * node) (boxesOf (boxIn bounds) (tree (remaining - 1) (take k slice′))) boxes
-                (omega (arith, boxes-length (boxIn bounds) (tree (remaining - 1) (take k slice′)), left-fits .few, left-long, inside .1, long, h .room .boxes-room))
+                (omega (
+                  arith,
+                  boxes-length (boxIn bounds) (tree (remaining - 1) (take k slice′)),
+                  left-fits .few,
+                  left-long,
+                  inside .1,
+                  long,
+                  h .room .boxes-room,
+                ))
 
             -- the right side's first node is in range, so the sum does not overflow
             pub left-root-few : leftRoot + 1 ≤ 2 * maxTriangles
@@ -236,7 +254,8 @@ module _ (f : Format) (bounds centres : List Float) (strategy leafMinimum : ℕ)
             right-fits : Fits (remaining - 1) (drop k slice′)
             right-fits = grown-fits (h .leaf) (remaining - 1) (drop k slice′) right-some (each-drop (Tabled f bounds centres) k slice′ tabled)
 
-            right-needs-of : (scratch″ : List ℕ) → length scratch″ ≡ length scratch → Growable f bounds centres leafMinimum (remaining - 1) (drop k slice′) scratch″ (entry + k) mid bmid (leftRoot + 1)
+            right-needs-of : (scratch″ : List ℕ) → length scratch″ ≡ length scratch
+                → Growable f bounds centres leafMinimum (remaining - 1) (drop k slice′) scratch″ (entry + k) mid bmid (leftRoot + 1)
             right-needs-of scratch″ e = record {
               tabled = each-drop (Tabled f bounds centres) k slice′ tabled;
               long = h .long;
@@ -259,8 +278,10 @@ module _ (f : Format) (bounds centres : List Float) (strategy leafMinimum : ℕ)
 
             -- ---- and the right side too
             module _ (rightSlice late : List ℕ) (blate : List Float) (rightRoot rightLevels : ℕ) (rightBox : Box)
-                (gr : GrownIs f bounds strategy leafMinimum (remaining - 1) (take (length now - k) (drop k now)) rightSlice (entry + k) mid late bmid blate (leftRoot + 1) rightRoot rightLevels rightBox) where
-              right-grown : GrownIs f bounds strategy leafMinimum (remaining - 1) (drop k slice′) rightSlice (entry + k) mid late bmid blate (leftRoot + 1) rightRoot rightLevels rightBox
+                (gr : GrownIs f bounds strategy leafMinimum (remaining - 1) (take (length now - k) (drop k now)) rightSlice (entry + k) mid late bmid blate
+                (leftRoot + 1) rightRoot rightLevels rightBox) where
+              right-grown : GrownIs f bounds strategy leafMinimum (remaining - 1) (drop k slice′) rightSlice (entry + k) mid late bmid blate
+                  (leftRoot + 1) rightRoot rightLevels rightBox
               right-grown = rw rest-is at gr
 
               right-root : rightRoot + 1 ≡ leftRoot + 1 + nodeCount (tree (remaining - 1) (drop k slice′))
@@ -270,14 +291,38 @@ module _ (f : Format) (bounds centres : List Float) (strategy leafMinimum : ℕ)
               late-long =
                   ap length (right-grown .written .links-are)
                   ∙ length-overwrite (3 * (leftRoot + 1)) (linksFrom (leftRoot + 1) (entry + k) (tree (remaining - 1) (drop k slice′))) mid
-                  (omega (arith, links-length (leftRoot + 1) (entry + k) (tree (remaining - 1) (drop k slice′)), right-fits .few, right-long, left-root, left-fits .few, left-long, inside .1, long, mid-long, h .room .links-room))
+                  (omega (
+                    arith,
+                    links-length (leftRoot + 1) (entry + k) (tree (remaining - 1) (drop k slice′)),
+                    right-fits .few,
+                    right-long,
+                    left-root,
+                    left-fits .few,
+                    left-long,
+                    inside .1,
+                    long,
+                    mid-long,
+                    h .room .links-room,
+                  ))
                   ∙ mid-long
 
               blate-long : length blate ≡ length boxes
               blate-long =
                   ap length (right-grown .written .boxes-are)
                   ∙ length-overwrite (6 * (leftRoot + 1)) (boxesOf (boxIn bounds) (tree (remaining - 1) (drop k slice′))) bmid
-                  (omega (arith, boxes-length (boxIn bounds) (tree (remaining - 1) (drop k slice′)), right-fits .few, right-long, left-root, left-fits .few, left-long, inside .1, long, bmid-long, h .room .boxes-room))
+                  (omega (
+                    arith,
+                    boxes-length (boxIn bounds) (tree (remaining - 1) (drop k slice′)),
+                    right-fits .few,
+                    right-long,
+                    left-root,
+                    left-fits .few,
+                    left-long,
+                    inside .1,
+                    long,
+                    bmid-long,
+                    h .room .boxes-room,
+                  ))
                   ∙ bmid-long
 
               links-fit : 3 * (rightRoot + 1) + 3 ≤ length links
@@ -318,13 +363,17 @@ module _ (f : Format) (bounds centres : List Float) (strategy leafMinimum : ℕ)
               entries = sym (left-fits .count ∙ left-long)
 
               -- both sides and the branch behind them are the tree as defined
-              pub branch-gives : (links′ : List ℕ) (boxes′ : List Float) (root deep : ℕ) (box : Box) → BranchPut leftRoot leftLevels leftBox rightRoot rightLevels rightBox late links′ blate boxes′ root deep box
-                  → GrownIs f bounds strategy leafMinimum remaining slice (take k now ++ (rightSlice ++ drop (length now - k) (drop k now))) entry links links′ boxes boxes′ node root deep box
+              pub branch-gives : (links′ : List ℕ) (boxes′ : List Float) (root deep : ℕ) (box : Box)
+                  → BranchPut leftRoot leftLevels leftBox rightRoot rightLevels rightBox late links′ blate boxes′ root deep box
+                  → GrownIs f bounds strategy leafMinimum remaining slice
+                  (take k now ++ (rightSlice ++ drop (length now - k) (drop k now))) entry links links′ boxes boxes′ node root deep box
               unfolding numbers
               branch-gives links′ boxes′ root deep box put =
                   tree-is links′ boxes′ root deep box _ (branch (tree (remaining - 1) (take k slice′)) (tree (remaining - 1) (drop k slice′))) branch-is
                   (order-now ∙ ap₂ (λ (a b : List ℕ). a ++ b) (gl .order-is) (right-grown .order-is))
-                  (branch-written (boxIn bounds) (tree (remaining - 1) (take k slice′)) (tree (remaining - 1) (drop k slice′)) entry node links mid late links′ boxes bmid blate boxes′ leftRoot leftLevels leftBox rightRoot rightLevels rightBox root deep box
+                  (branch-written (boxIn bounds) (tree (remaining - 1) (take k slice′)) (tree (remaining - 1) (drop k slice′)) entry node links mid late links′
+                  boxes bmid blate boxes′ leftRoot leftLevels leftBox rightRoot rightLevels rightBox root deep box
                   (gl .written)
-                  (subst (λ (n : ℕ). Written (boxIn bounds) (tree (remaining - 1) (drop k slice′)) (entry + n) (leftRoot + 1) mid late bmid blate rightRoot rightLevels rightBox) entries (right-grown .written))
+                  (subst (λ (n : ℕ). Written (boxIn bounds) (tree (remaining - 1) (drop k slice′)) (entry + n)
+                  (leftRoot + 1) mid late bmid blate rightRoot rightLevels rightBox) entries (right-grown .written))
                   put links-fit boxes-fit)

@@ -34,8 +34,10 @@ module _ (below : List ℕ → Tree) where
       → (r : Tried) → 0 < length (sliceOf r) → Each Used (sliceOf r) → CutInside r → Filled (parted below r)
   parted-filled Used p (cut slice k) w u i =
       let some : 0 < k = i .0 in
-      let left : k < length slice = i .1 in
-      (p (take k slice) (omega (arith, length-take k slice)) (each-take Used k slice u), p (drop k slice) (omega (arith, length-drop k slice)) (each-drop Used k slice u))
+      let left : k < length slice = i .1 in (
+        p (take k slice) (omega (arith, length-take k slice)) (each-take Used k slice u),
+        p (drop k slice) (omega (arith, length-drop k slice)) (each-drop Used k slice u),
+      )
   parted-filled Used p (uncut slice) w u i = w
 
 module _ {tried : List ℕ → Tried} {Used : ℕ → Type 0} (h : Trying tried Used) (leafMinimum : ℕ) where
@@ -45,7 +47,8 @@ module _ {tried : List ℕ → Tried} {Used : ℕ → Type 0} (h : Trying tried 
   grown-permutes zero slice = Permᴰ·refl slice
   grown-permutes (suc remaining) slice = at (leb (length slice) leafMinimum) (grown-permutes remaining)
     where
-      at : (b : Bool) → ((p : List ℕ) → List·Permᴰ (numbers (grown tried leafMinimum remaining p)) p) → List·Permᴰ (numbers (grownBy b tried (grown tried leafMinimum remaining) slice)) slice
+      at : (b : Bool) → ((p : List ℕ) → List·Permᴰ (numbers (grown tried leafMinimum remaining p)) p)
+          → List·Permᴰ (numbers (grownBy b tried (grown tried leafMinimum remaining) slice)) slice
       at true p = Permᴰ·refl slice
       at false p = List·Permᴰ·trans (parted-permutes (grown tried leafMinimum remaining) p (tried slice)) (h .permutes slice)
 
@@ -55,7 +58,8 @@ module _ {tried : List ℕ → Tried} {Used : ℕ → Type 0} (h : Trying tried 
   grown-levels zero slice = omega arith
   grown-levels (suc remaining) slice = at (leb (length slice) leafMinimum) (grown-levels remaining)
     where
-      at : (b : Bool) → ((p : List ℕ) → levels (grown tried leafMinimum remaining p) ≤ remaining + 1) → levels (grownBy b tried (grown tried leafMinimum remaining) slice) ≤ suc remaining + 1
+      at : (b : Bool) → ((p : List ℕ) → levels (grown tried leafMinimum remaining p) ≤ remaining + 1)
+          → levels (grownBy b tried (grown tried leafMinimum remaining) slice) ≤ suc remaining + 1
       at true p = omega arith
       at false p = omega (arith, parted-levels (grown tried leafMinimum remaining) (remaining + 1) p (tried slice))
 
@@ -71,4 +75,5 @@ module _ {tried : List ℕ → Tried} {Used : ℕ → Type 0} (h : Trying tried 
       at false e p =
           let more : 1 < length slice = omega (arith, leb-false (length slice) leafMinimum e) in
           let used : Each Used (sliceOf (tried slice)) = each-permuted Used (Permᴰ·symm (h .permutes slice)) u in
-          parted-filled (grown tried leafMinimum remaining) Used p (tried slice) (omega (arith, permuted-length (h .permutes slice))) used (h .inside slice more u)
+          parted-filled (grown tried leafMinimum remaining) Used p (tried slice) (omega (arith, permuted-length (h .permutes slice))) used
+          (h .inside slice more u)

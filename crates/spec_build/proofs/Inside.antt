@@ -22,7 +22,8 @@ module _ (f : Format) (boxAt : ℕ → Box) where
   abbrev pub HasCentre : ℕ → Type 0
   HasCentre t = (axis : Axis) → Number (centreOn f boxAt axis t)
 
-  none-below : (axis : Axis) (t : ℕ) (slice : List ℕ) → Each (λ u. isBefore f boxAt axis u t ≡ false) slice → NoneBelow f axis (centreOn f boxAt axis t) (map boxAt slice)
+  none-below : (axis : Axis) (t : ℕ) (slice : List ℕ) → Each (λ u. isBefore f boxAt axis u t ≡ false) slice
+      → NoneBelow f axis (centreOn f boxAt axis t) (map boxAt slice)
   none-below axis t [] h = tt
   none-below axis t (u ∷ slice) h = (h .0, none-below axis t slice (h .1))
 
@@ -30,7 +31,8 @@ module _ (f : Format) (boxAt : ℕ → Box) where
   first-is-least axis [] h = tt
   first-is-least axis (t ∷ slice) h = none-below axis t slice (h .0)
 
-  rules-inside : (median : Bool) (axis : Axis) (parent : Box) (bs : List Box) (k : ℕ) → 2 ≤ length bs → FirstIsLeast f axis bs → ruleBy median f axis parent bs ≡ cutAt k → CutsInside k (length bs)
+  rules-inside : (median : Bool) (axis : Axis) (parent : Box) (bs : List Box) (k : ℕ) → 2 ≤ length bs → FirstIsLeast f axis bs
+      → ruleBy median f axis parent bs ≡ cutAt k → CutsInside k (length bs)
   rules-inside true axis parent bs k w h e = median-inside f axis parent bs k w e
   rules-inside false axis parent bs k w h e = area-inside f axis parent bs k h e
 
@@ -38,11 +40,13 @@ module _ (f : Format) (boxAt : ℕ → Box) where
   split-inside slice (cutAt k) h = let i = h k refl in (i .after-first, i .before-end)
   split-inside slice nowhere h = tt
 
-  rule-inside : (strategy : ℕ) (axis : Axis) (parent : Box) (slice : List ℕ) → 1 < length slice → Sorted (isBefore f boxAt axis) slice → CutInside (ruled f boxAt strategy axis parent slice)
+  rule-inside : (strategy : ℕ) (axis : Axis) (parent : Box) (slice : List ℕ) → 1 < length slice → Sorted (isBefore f boxAt axis) slice
+      → CutInside (ruled f boxAt strategy axis parent slice)
   unfolding rule
   rule-inside strategy axis parent slice w s =
       let same : length (map boxAt slice) ≡ length slice = length-map slice boxAt in
-      split-inside slice (ruleBy (eqb strategy 1) f axis parent (map boxAt slice)) (λ k e. rw same at (rules-inside (eqb strategy 1) axis parent (map boxAt slice) k (omega arith) (first-is-least axis slice s) e))
+      split-inside slice (ruleBy (eqb strategy 1) f axis parent (map boxAt slice))
+      (λ k e. rw same at (rules-inside (eqb strategy 1) axis parent (map boxAt slice) k (omega arith) (first-is-least axis slice s) e))
 
   -- by either strategy the tries only bring a slice into another order, and cut it inside
   pub tries-inside : (strategy : ℕ) → Trying (tried f boxAt strategy) HasCentre

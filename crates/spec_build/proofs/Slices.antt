@@ -52,7 +52,8 @@ module _ {A : Type 0} where
         ap (take size)
         (ap (λ (n : ℕ). drop n (take at old ++ (new ++ rest))) (sym past)
         ∙ sym (drop-drop k (at + length new) (take at old ++ (new ++ rest)))
-        ∙ ap (drop k) (sym (drop-drop (length new) at (take at old ++ (new ++ rest))) ∙ ap (drop (length new)) (drop-at (take at old) (new ++ rest) at (length-take-le at old (omega arith))) ∙ drop-at new rest (length new) refl)
+        ∙ ap (drop k) (sym (drop-drop (length new) at (take at old ++ (new ++ rest)))
+        ∙ ap (drop (length new)) (drop-at (take at old) (new ++ rest) at (length-take-le at old (omega arith))) ∙ drop-at new rest (length new) refl)
         ∙ drop-drop k (at + length new) old
         ∙ ap (λ (n : ℕ). drop n old) past)
 

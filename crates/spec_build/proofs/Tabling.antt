@@ -18,8 +18,10 @@ use Rattle.spec_build.specs.Tries.{centreOn}
 use Rattle.spec_build.specs.Growing.{keysOn, CentresPut, Centred}
 use Rattle.spec_build.proofs.Slices.{put-back, slice-written, slice-in-front, slice-behind, concatMap-at, front-at}
 
-module _ (f : Format) (bounds : List Float) (axis : Axis) (count first size : ℕ) (old keys′ : List Float) (long : length old ≡ 3 * maxTriangles) (few : count ≤ maxTriangles)
-    (at : first ≡ place axis * maxTriangles) (sized : size ≡ maxTriangles) (keys-are : keys′ ≡ overwrite 0 (concatMap (λ t. centreOn f (boxIn bounds) axis t ∷ []) count) (slice old first size)) where
+module _ (f : Format) (bounds : List Float) (axis : Axis) (count first size : ℕ) (old keys′ : List Float) (long : length old ≡ 3 * maxTriangles)
+    (few : count ≤ maxTriangles)
+    (at : first ≡ place axis * maxTriangles) (sized : size ≡ maxTriangles)
+    (keys-are : keys′ ≡ overwrite 0 (concatMap (λ t. centreOn f (boxIn bounds) axis t ∷ []) count) (slice old first size)) where
   pieces : List Float
   pieces = concatMap (λ t. centreOn f (boxIn bounds) axis t ∷ []) count
 
@@ -61,14 +63,17 @@ module _ (f : Format) (bounds : List Float) (axis : Axis) (count first size : �
         elsewhere = λ other d.
             ap (keysOn other) is
             ∙ ⊎-elim
-            (λ (l : place other < place axis). slice-in-front (place axis * maxTriangles) keys′ old room (place other * maxTriangles) maxTriangles (omega arith))
-            (λ (l : place axis < place other). slice-behind (place axis * maxTriangles) keys′ old room (place other * maxTriangles) maxTriangles (omega (arith, keys-long)))
+            (λ (l : place other < place axis).
+            slice-in-front (place axis * maxTriangles) keys′ old room (place other * maxTriangles) maxTriangles (omega arith))
+            (λ (l : place axis < place other).
+            slice-behind (place axis * maxTriangles) keys′ old room (place other * maxTriangles) maxTriangles (omega (arith, keys-long)))
             (apart other d);
         long = ap length is ∙ length-overwrite (place axis * maxTriangles) keys′ old room;
       }
 
 -- made axis by axis, the table holds the centres on all three
-pub all-centred : (f : Format) (bounds : List Float) (count : ℕ) (old x y z : List Float) → CentresPut f bounds X count old x → CentresPut f bounds Y count x y → CentresPut f bounds Z count y z → Centred f bounds count old z
+pub all-centred : (f : Format) (bounds : List Float) (count : ℕ) (old x y z : List Float) → CentresPut f bounds X count old x → CentresPut f bounds Y count x y
+    → CentresPut f bounds Z count y z → Centred f bounds count old z
 all-centred f bounds count old x y z p q r = record { centre-is = at; long = r .long ∙ q .long ∙ p .long }
   where
     at : (axis : Axis) (t : ℕ) → t < count → getD (keysOn axis z) t nan ≡ centreOn f (boxIn bounds) axis t
@@ -77,5 +82,6 @@ all-centred f bounds count old x y z p q r = record { centre-is = at; long = r .
     at Z t h = r .here t h
 
 -- the slice of the table that is lent to the sort is the axis's centres
-pub keys-lent : (axis : Axis) (centres : List Float) (first size : ℕ) → first ≡ place axis * maxTriangles → size ≡ maxTriangles → slice centres first size ≡ keysOn axis centres
+pub keys-lent : (axis : Axis) (centres : List Float) (first size : ℕ) → first ≡ place axis * maxTriangles → size ≡ maxTriangles
+    → slice centres first size ≡ keysOn axis centres
 keys-lent axis centres first size e sized = ap₂ (λ (a k : ℕ). slice centres a k) e sized

@@ -26,7 +26,8 @@ pub split-slice : (slice : List ℕ) (s : Split) → sliceOf (splitAs slice s) �
 split-slice slice (cutAt k) = refl
 split-slice slice nowhere = refl
 
-or-else-permutes : (next : List ℕ → Tried) → ((slice : List ℕ) → List·Permᴰ (sliceOf (next slice)) slice) → (r : Tried) → List·Permᴰ (sliceOf (orElse next r)) (sliceOf r)
+or-else-permutes : (next : List ℕ → Tried) → ((slice : List ℕ) → List·Permᴰ (sliceOf (next slice)) slice) → (r : Tried)
+    → List·Permᴰ (sliceOf (orElse next r)) (sliceOf r)
 or-else-permutes next p (cut slice k) = Permᴰ·refl slice
 or-else-permutes next p (uncut slice) = p slice
 
@@ -37,7 +38,8 @@ module _ (f : Format) (boxAt : ℕ → Box) where
     asymmetric = λ a b h. is-false _ (le→not-lt (key a) (key b) (lt→le (key a) (key b) (passed h)));
     transitive = λ a b c h k. is-true _ (lt-le-transitive (key a) (key b) (key c) (passed h) (lt→le (key b) (key c) (passed k)));
     not-before-transitive = λ a b c ka kb kc h k.
-        is-false _ (le→not-lt (key c) (key a) (transitive (key c) (key b) (key a) (not-lt→le (key b) (key c) kb kc (failed k)) (not-lt→le (key a) (key b) ka kb (failed h))));
+        is-false _ (le→not-lt (key c) (key a)
+        (transitive (key c) (key b) (key a) (not-lt→le (key b) (key c) kb kc (failed k)) (not-lt→le (key a) (key b) ka kb (failed h))));
   }
     where
       key : ℕ → Float
@@ -67,8 +69,10 @@ module _ (f : Format) (boxAt : ℕ → Box) where
 
     -- ---- inside
     module _ (Used : ℕ → Type 0) (centred : (axis : Axis) (t : ℕ) → Used t → Number (centreOn f boxAt axis t))
-        (rule-inside : (axis : Axis) (parent : Box) (slice : List ℕ) → 1 < length slice → Each Used slice → Sorted (isBefore f boxAt axis) slice → CutInside (ruled f boxAt strategy axis parent slice)) where
-      tried-on-inside : (axis : Axis) (parent : Box) (slice : List ℕ) → 1 < length slice → Each Used slice → CutInside (triedOn f boxAt strategy axis parent slice)
+        (rule-inside : (axis : Axis) (parent : Box) (slice : List ℕ) → 1 < length slice → Each Used slice → Sorted (isBefore f boxAt axis) slice
+        → CutInside (ruled f boxAt strategy axis parent slice)) where
+      tried-on-inside : (axis : Axis) (parent : Box) (slice : List ℕ) → 1 < length slice → Each Used slice
+          → CutInside (triedOn f boxAt strategy axis parent slice)
       unfolding triedOn
       tried-on-inside axis parent slice w u =
           let p : List·Permᴰ (sortedOn f boxAt axis slice) slice = sorted-permutes (isBefore f boxAt axis) slice in
@@ -81,7 +85,8 @@ module _ (f : Format) (boxAt : ℕ → Box) where
       or-else-inside next p (cut slice k) w u i = i
       or-else-inside next p (uncut slice) w u i = p slice w u
 
-      tried-in-inside : (axes : List Axis) (parent : Box) (slice : List ℕ) → 1 < length slice → Each Used slice → CutInside (triedIn f boxAt strategy axes parent slice)
+      tried-in-inside : (axes : List Axis) (parent : Box) (slice : List ℕ) → 1 < length slice → Each Used slice
+          → CutInside (triedIn f boxAt strategy axes parent slice)
       unfolding triedIn
       tried-in-inside [] parent slice w u = tt
       tried-in-inside (axis ∷ axes) parent slice w u =

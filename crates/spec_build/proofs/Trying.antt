@@ -32,10 +32,12 @@ module _ (f : Format) (bounds centres : List Float) where
     tabled-keyed : (t : ℕ) → Tabled f bounds centres t → Keyed (keysOn axis centres) t
     tabled-keyed t h = record { within = omega (arith, h .few, keys-long); number = rw (h .centre-is axis) (h .centred axis) }
 
-  sorted-as-defined : (axis : Axis) (slice : List ℕ) → Each (Tabled f bounds centres) slice → sorted (byKey (keysOn axis centres)) slice ≡ sortedOn f (boxIn bounds) axis slice
+  sorted-as-defined : (axis : Axis) (slice : List ℕ) → Each (Tabled f bounds centres) slice
+      → sorted (byKey (keysOn axis centres)) slice ≡ sortedOn f (boxIn bounds) axis slice
   unfolding byKey
   sorted-as-defined axis slice u =
-      sorted-alike (byKey (keysOn axis centres)) (isBefore f (boxIn bounds) axis) (Tabled f bounds centres) (λ a b p q. ap₂ lt (p .centre-is axis) (q .centre-is axis)) slice u
+      sorted-alike (byKey (keysOn axis centres)) (isBefore f (boxIn bounds) axis) (Tabled f bounds centres)
+      (λ a b p q. ap₂ lt (p .centre-is axis) (q .centre-is axis)) slice u
 
   module _ {slice scratch : List ℕ} (h : Triable f bounds centres slice scratch) where
     -- needs of the sort, of a slice that may be tried
@@ -66,10 +68,12 @@ module _ (f : Format) (bounds centres : List Float) where
     }
 
     -- after a try that failed, the slice may be tried on the next axis
-    pub next-needs : (strategy : ℕ) (axis : Axis) (parent : Box) (slice′ scratch′ : List ℕ) (split : Split) → splitAs slice′ split ≡ triedOn f (boxIn bounds) strategy axis parent slice → length scratch′ ≡ length scratch
+    pub next-needs : (strategy : ℕ) (axis : Axis) (parent : Box) (slice′ scratch′ : List ℕ) (split : Split)
+        → splitAs slice′ split ≡ triedOn f (boxIn bounds) strategy axis parent slice → length scratch′ ≡ length scratch
         → Triable f bounds centres slice′ scratch′
     next-needs strategy axis parent slice′ scratch′ split e same =
-        triable-again slice′ scratch′ (subst (λ (l : List ℕ). List·Permᴰ l slice) (sym (ap sliceOf e) ∙ split-slice slice′ split) (tried-on-permutes f (boxIn bounds) strategy axis parent slice)) same
+        triable-again slice′ scratch′ (subst (λ (l : List ℕ). List·Permᴰ l slice) (sym (ap sliceOf e) ∙ split-slice slice′ split)
+        (tried-on-permutes f (boxIn bounds) strategy axis parent slice)) same
 
     module _ (strategy : ℕ) (axis : Axis) (parent : Box) (slice′ : List ℕ) (sorted-is : slice′ ≡ sorted (byKey (keysOn axis centres)) slice) where
       -- a slice that was sorted may still be tried
@@ -77,7 +81,8 @@ module _ (f : Format) (bounds centres : List Float) where
       try-sorted = triable-again slice′ scratch (rw sorted-is (sorted-permutes (byKey (keysOn axis centres)) slice)) refl
 
       -- sorting by the table's centres and then asking the rule is the try as defined
-      pub try-gives : (split : Split) → split ≡ rule f strategy axis parent (map (boxIn bounds) slice′) → splitAs slice′ split ≡ triedOn f (boxIn bounds) strategy axis parent slice
+      pub try-gives : (split : Split) → split ≡ rule f strategy axis parent (map (boxIn bounds) slice′)
+          → splitAs slice′ split ≡ triedOn f (boxIn bounds) strategy axis parent slice
       unfolding triedOn
       try-gives split e =
           ap (splitAs slice′) e
@@ -86,30 +91,35 @@ module _ (f : Format) (bounds centres : List Float) where
 -- ---- the tries in turn
 module _ (f : Format) (boxAt : ℕ → Box) (strategy : ℕ) (parent : Box) where
   -- a try that cuts ends the tries
-  pub stays-cut : (axis : Axis) (axes : List Axis) (slice slice′ : List ℕ) (split : Split) (k : ℕ) → split ≡ cutAt k → splitAs slice′ split ≡ triedOn f boxAt strategy axis parent slice
+  pub stays-cut : (axis : Axis) (axes : List Axis) (slice slice′ : List ℕ) (split : Split) (k : ℕ) → split ≡ cutAt k
+      → splitAs slice′ split ≡ triedOn f boxAt strategy axis parent slice
       → cut slice′ k ≡ triedIn f boxAt strategy (axis ∷ axes) parent slice
   unfolding triedIn
   stays-cut axis axes slice slice′ split k s e = ap (orElse (triedIn f boxAt strategy axes parent)) (ap (splitAs slice′) (sym s) ∙ e)
 
   -- a try that fails leaves its order to the next axis
-  pub tries-next : (axis : Axis) (axes : List Axis) (slice slice′ : List ℕ) (split : Split) (r : Tried) → split ≡ nowhere → splitAs slice′ split ≡ triedOn f boxAt strategy axis parent slice
+  pub tries-next : (axis : Axis) (axes : List Axis) (slice slice′ : List ℕ) (split : Split) (r : Tried) → split ≡ nowhere
+      → splitAs slice′ split ≡ triedOn f boxAt strategy axis parent slice
       → r ≡ triedIn f boxAt strategy axes parent slice′ → r ≡ triedIn f boxAt strategy (axis ∷ axes) parent slice
   unfolding triedIn
   tries-next axis axes slice slice′ split r s e h = h ∙ ap (orElse (triedIn f boxAt strategy axes parent)) (ap (splitAs slice′) (sym s) ∙ e)
 
   -- on the last axis a try's answer is the answer of the tries
-  pub tries-last : (axis : Axis) (slice : List ℕ) (r : Tried) → r ≡ triedOn f boxAt strategy axis parent slice → r ≡ triedIn f boxAt strategy (axis ∷ []) parent slice
+  pub tries-last : (axis : Axis) (slice : List ℕ) (r : Tried) → r ≡ triedOn f boxAt strategy axis parent slice
+      → r ≡ triedIn f boxAt strategy (axis ∷ []) parent slice
   unfolding triedIn
   tries-last axis slice (cut slice′ k) e = ap (orElse (triedIn f boxAt strategy [] parent)) e
   tries-last axis slice (uncut slice′) e = ap (orElse (triedIn f boxAt strategy [] parent)) e
 
   -- on the axes by size, the largest first, the tries are those within the parent's box
-  pub in-turn : (axes : List Axis) (slice : List ℕ) (r : Tried) → axes ≡ axesBySize (λ axis. on axis (sizes f parent)) → r ≡ triedIn f boxAt strategy axes parent slice → r ≡ triedWithin f boxAt strategy parent slice
+  pub in-turn : (axes : List Axis) (slice : List ℕ) (r : Tried) → axes ≡ axesBySize (λ axis. on axis (sizes f parent))
+      → r ≡ triedIn f boxAt strategy axes parent slice → r ≡ triedWithin f boxAt strategy parent slice
   unfolding triedWithin
   in-turn axes slice r e h = h ∙ ap (λ (l : List Axis). triedIn f boxAt strategy l parent slice) e
 
 -- within the union of its boxes, the tries of a slice are the tries as defined
-pub tried-is : (f : Format) (boxAt : ℕ → Box) (strategy : ℕ) (slice : List ℕ) (parent : Box) (r : Tried) → 0 < length slice → parent ≡ unionOf f (map boxAt slice) → r ≡ triedWithin f boxAt strategy parent slice
+pub tried-is : (f : Format) (boxAt : ℕ → Box) (strategy : ℕ) (slice : List ℕ) (parent : Box) (r : Tried) → 0 < length slice
+    → parent ≡ unionOf f (map boxAt slice) → r ≡ triedWithin f boxAt strategy parent slice
     → r ≡ tried f boxAt strategy slice
 unfolding tried
 tried-is f boxAt strategy slice parent r w e h = h ∙ ap (λ (b : Box). triedWithin f boxAt strategy b slice) (e ∙ union-is-joined f boxAt slice w)

@@ -54,15 +54,18 @@ leftBy passes new old = overwrite 0 new old
 leftBy (refused number place) new old = old
 
 -- what a call with this verdict and this tree answers, and what its lists hold afterwards
-pub record Outcome (v : Verdict) (boxAt : ℕ → Box) (t : Tree) (order links : List ℕ) (boxes : List Float) (answer : Built) (order′ links′ : List ℕ) (boxes′ : List Float) : Type 0 where
+pub record Outcome (v : Verdict) (boxAt : ℕ → Box) (t : Tree) (order links : List ℕ) (boxes : List Float) (answer : Built) (order′ links′ : List ℕ)
+    (boxes′ : List Float) : Type 0 where
   pub answer-is : answer ≡ answerBy v t
   pub order-is : order′ ≡ leftBy v (numbers t) order
   pub links-are : links′ ≡ leftBy v (linksFrom 0 0 t) links
   pub boxes-are : boxes′ ≡ leftBy v (boxesOf boxAt t) boxes
 
 -- the contract of the call, for every input: what it answers, and what its lists hold afterwards
-abbrev pub BuildIs : Format → List Float → Settings → (order links : List ℕ) (boxes : List Float) → Built → (order′ links′ : List ℕ) (boxes′ : List Float) → Type 0
-BuildIs f triangles s order links boxes = Outcome (buildRefusal triangles s (length order) (length links) (length boxes)) (boxAt triangles) (builtTree f triangles s) order links boxes
+abbrev pub BuildIs : Format → List Float → Settings → (order links : List ℕ) (boxes : List Float) → Built
+    → (order′ links′ : List ℕ) (boxes′ : List Float) → Type 0
+BuildIs f triangles s order links boxes =
+    Outcome (buildRefusal triangles s (length order) (length links) (length boxes)) (boxAt triangles) (builtTree f triangles s) order links boxes
 
 -- needs of the program behind the tests: they passed, and the lent tables have room for the largest number of triangles
 pub record BuildNeeds (triangles : List Float) (s : Settings) (bounds centres : List Float) (scratch order links : List ℕ) (boxes : List Float) : Type 0 where

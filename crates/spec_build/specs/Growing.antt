@@ -76,7 +76,8 @@ pub record RoomFor (count node : ℕ) (links : List ℕ) (boxes : List Float) : 
   pub few : node + 2 * count ≤ 2 * maxTriangles
 
 -- needs of growing a slice: its triangles are in the tables, and its nodes have room
-pub record Growable (f : Format) (bounds centres : List Float) (leafMinimum remaining : ℕ) (slice scratch : List ℕ) (entry : ℕ) (links : List ℕ) (boxes : List Float) (node : ℕ) : Type 0 where
+pub record Growable (f : Format) (bounds centres : List Float) (leafMinimum remaining : ℕ) (slice scratch : List ℕ) (entry : ℕ) (links : List ℕ)
+    (boxes : List Float) (node : ℕ) : Type 0 where
   pub tabled : Each (Tabled f bounds centres) slice
   pub long : length centres ≡ 3 * maxTriangles
   pub leaf : 1 ≤ leafMinimum
@@ -105,7 +106,8 @@ pub record BranchNeeds (leftRoot leftLevels rightRoot rightLevels : ℕ) (links 
   pub boxes-room : 6 * (rightRoot + 1) + 6 ≤ length boxes
 
 -- what writing a branch leaves in the lists, and what it answers
-pub record BranchPut (leftRoot leftLevels : ℕ) (leftBox : Box) (rightRoot rightLevels : ℕ) (rightBox : Box) (links links′ : List ℕ) (boxes boxes′ : List Float) (root deep : ℕ) (box : Box) : Type 0 where
+pub record BranchPut (leftRoot leftLevels : ℕ) (leftBox : Box) (rightRoot rightLevels : ℕ) (rightBox : Box) (links links′ : List ℕ) (boxes boxes′ : List Float)
+    (root deep : ℕ) (box : Box) : Type 0 where
   pub links-are : links′ ≡ Tables.overwrite (3 * (rightRoot + 1)) (2 ∷ leftRoot ∷ rightRoot ∷ []) links
   pub boxes-are : boxes′ ≡ Tables.overwrite (6 * (rightRoot + 1)) (sixOf (union leftBox rightBox)) boxes
   pub root-is : root ≡ rightRoot + 1
@@ -125,6 +127,7 @@ abbrev pub grownIn : Format → List Float → (strategy leafMinimum remaining :
 grownIn f bounds strategy leafMinimum remaining slice = grown (tried f (boxIn bounds) strategy) leafMinimum remaining slice
 
 -- the slice is left in the order of the tree's leaves, and the tree's nodes are written
-pub record GrownIs (f : Format) (bounds : List Float) (strategy leafMinimum remaining : ℕ) (slice slice′ : List ℕ) (entry : ℕ) (links links′ : List ℕ) (boxes boxes′ : List Float) (node root deep : ℕ) (box : Box) : Type 0 where
+pub record GrownIs (f : Format) (bounds : List Float) (strategy leafMinimum remaining : ℕ) (slice slice′ : List ℕ) (entry : ℕ) (links links′ : List ℕ)
+    (boxes boxes′ : List Float) (node root deep : ℕ) (box : Box) : Type 0 where
   pub order-is : slice′ ≡ numbers (grownIn f bounds strategy leafMinimum remaining slice)
   pub written : Written (boxIn bounds) (grownIn f bounds strategy leafMinimum remaining slice) entry node links links′ boxes boxes′ root deep box

@@ -50,10 +50,16 @@ module _ (f : Format) where
 
   -- 4.5 squared is 20.25, 81 / 4
   abbrev pub e10-source : Example
-  e10-source = record { worked = shown (sourceAt (n (pos 50))); given = whole (pos 1) ∷ float (n (pos 10)) ∷ float (n (pos 0)) ∷ float (n (pos 0)) ∷ float (fin false 81 (negsuc 1)) ∷ [] }
+  e10-source = record {
+    worked = shown (sourceAt (n (pos 50)));
+    given = whole (pos 1) ∷ float (n (pos 10)) ∷ float (n (pos 0)) ∷ float (n (pos 0)) ∷ float (fin false 81 (negsuc 1)) ∷ [];
+  }
 
   abbrev pub e10-sure : Example
-  e10-sure = record { worked = shown (sureAt (n (pos 50))); given = whole (pos 0) ∷ float (n (pos 1)) ∷ float (n (pos 0)) ∷ float (n (pos 0)) ∷ float (fin false 81 (negsuc 1)) ∷ [] }
+  e10-sure = record {
+    worked = shown (sureAt (n (pos 50)));
+    given = whole (pos 0) ∷ float (n (pos 1)) ∷ float (n (pos 0)) ∷ float (n (pos 0)) ∷ float (fin false 81 (negsuc 1)) ∷ [];
+  }
 
   abbrev pub e10-source-near : Example
   e10-source-near = record { worked = shown (sourceAt fourAndAHalf); given = [] }

@@ -46,7 +46,14 @@ module _ (words : List ℕ) (k : ℕ) where
   unfolding wordsLine answerLine sixWords
   words-line nothing e = rw (first nothing e)
   words-line (found h) e =
-      rw (first (found h) e, six (found h) e 1 (omega arith), six (found h) e 2 (omega arith), six (found h) e 3 (omega arith), six (found h) e 4 (omega arith), six (found h) e 5 (omega arith))
+      rw (
+        first (found h) e,
+        six (found h) e 1 (omega arith),
+        six (found h) e 2 (omega arith),
+        six (found h) e 3 (omega arith),
+        six (found h) e 4 (omega arith),
+        six (found h) e 5 (omega arith),
+      )
 
 six-long : (a : Answer) → length (sixWords binary32 a) ≡ 6
 unfolding sixWords
@@ -65,10 +72,12 @@ module _ (answer : Point → Answer) (points : List Float) (old words : List ℕ
   unfolding pieces
   lines-of-words =
       concatMap-same (wordsLine words) (λ k. answerLine k (answer (pointAt points (3 * k)))) (pointCount points)
-      (λ k l. words-line words k (answer (pointAt points (3 * k))) (rw zero-add at (remaining-concatMap pieces 6 (pointCount points) words 0 _ (λ j. six-long (answer (pointAt points (3 * j)))) words-remaining k l)))
+      (λ k l. words-line words k (answer (pointAt points (3 * k)))
+      (rw zero-add at (remaining-concatMap pieces 6 (pointCount points) words 0 _ (λ j. six-long (answer (pointAt points (3 * j)))) words-remaining k l)))
 
 -- the lines made from the sure query's words are the lines of its answers, point by point
-pub sure-lines : (triangles points : List Float) (distance : Float) (old words : List ℕ) → words ≡ overwrite 0 (answerWords binary32 (sureAnswer binary32 triangles distance) points) old
+pub sure-lines : (triangles points : List Float) (distance : Float) (old words : List ℕ)
+    → words ≡ overwrite 0 (answerWords binary32 (sureAnswer binary32 triangles distance) points) old
     → concatMap (wordsLine words) (pointCount points) ≡ answerLines triangles points distance
 unfolding answerLines
 sure-lines triangles points distance old words e = lines-of-words (sureAnswer binary32 triangles distance) points old words e
@@ -87,7 +96,8 @@ module _ (f : ℕ → List ℕ) (at n : ℕ) (old : List ℕ) where
   lined-start h = record { within = omega arith; put = put-none at old h; room = omega arith; long = refl }
 
   -- a turn of the loop writes the next line behind the others
-  pub lined-more : (mid out : List ℕ) (next end k : ℕ) → k < n → Lined f at n old mid next k → Put next (f k) mid out end → end ≤ next + 84 → Lined f at n old out end (k + 1)
+  pub lined-more : (mid out : List ℕ) (next end k : ℕ) → k < n → Lined f at n old mid next k → Put next (f k) mid out end → end ≤ next + 84
+      → Lined f at n old out end (k + 1)
   lined-more mid out next end k l r p h = record {
     within = omega arith;
     put = put-more f k (r .put) p;

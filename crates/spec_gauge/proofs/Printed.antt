@@ -55,7 +55,8 @@ unfolding printedRun
 refused-printed a number place e = rw e
 
 -- a request that passed prints the tree's counts and a line a point
-pub passed-printed : (a : Request) → requestRefusal a ≡ passes → treeLine (a .triangles) (a .settings) ++ answerLines (a .triangles) (a .points) (a .distance) ≡ printedRun a
+pub passed-printed : (a : Request) → requestRefusal a ≡ passes
+    → treeLine (a .triangles) (a .settings) ++ answerLines (a .triangles) (a .points) (a .distance) ≡ printedRun a
 unfolding printedRun
 passed-printed a e = rw e
 

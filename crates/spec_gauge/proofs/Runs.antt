@@ -47,20 +47,28 @@ module _ (a : Request) (passed : AllPassed a) (order links : List ℕ) (boxes : 
       )
 
   -- the build of a request that passed is never refused
-  pub is-built : (number place : ℕ) (order′ links′ : List ℕ) (boxes′ : List Float) → BuildIs binary32 (a .triangles) (a .settings) order links boxes (notMade number place) order′ links′ boxes′ → ⊥
+  pub is-built : (number place : ℕ) (order′ links′ : List ℕ) (boxes′ : List Float)
+      → BuildIs binary32 (a .triangles) (a .settings) order links boxes (notMade number place) order′ links′ boxes′ → ⊥
   is-built number place order′ links′ boxes′ b =
-      let e : notMade number place ≡ made _ _ = b .answer-is ∙ ap (λ (v : Verdict). answerBy v (builtTree binary32 (a .triangles) (a .settings))) build-passes in
+      let e : notMade number place ≡ made _ _ = b .answer-is
+      ∙ ap (λ (v : Verdict). answerBy v (builtTree binary32 (a .triangles) (a .settings))) build-passes in
       let z : _≡_ {A = ℕ} 0 1 = cc in
       omega arith
 
-  module _ (nodes depth : ℕ) (order′ links′ : List ℕ) (boxes′ : List Float) (b : BuildIs binary32 (a .triangles) (a .settings) order links boxes (made nodes depth) order′ links′ boxes′) where
+  module _ (nodes depth : ℕ) (order′ links′ : List ℕ) (boxes′ : List Float)
+      (b : BuildIs binary32 (a .triangles) (a .settings) order links boxes (made nodes depth) order′ links′ boxes′) where
     -- the counts that the build answers are those of the tree's line
     pub tree-line : (count : ℕ) → count ≡ triangleCount (a .triangles) → countsLine count nodes depth ≡ treeLine (a .triangles) (a .settings)
     unfolding treeLine
-    tree-line count e = rw (e, made-nodes binary32 (a .triangles) (a .settings) order links boxes order′ links′ boxes′ nodes depth b, made-depth binary32 (a .triangles) (a .settings) order links boxes order′ links′ boxes′ nodes depth b)
+    tree-line count e = rw (
+      e,
+      made-nodes binary32 (a .triangles) (a .settings) order links boxes order′ links′ boxes′ nodes depth b,
+      made-depth binary32 (a .triangles) (a .settings) order links boxes order′ links′ boxes′ nodes depth b,
+    )
 
     -- the query of the tree that was built is never refused
-    pub query-passes : (count : ℕ) → count ≡ triangleCount (a .triangles) → pointCount (a .points) ≤ maxPoints → queryRefusal (a .triangles) (take count order′) links′ boxes′ nodes (a .points) (a .distance) 16380 ≡ passes
+    pub query-passes : (count : ℕ) → count ≡ triangleCount (a .triangles) → pointCount (a .points) ≤ maxPoints
+        → queryRefusal (a .triangles) (take count order′) links′ boxes′ nodes (a .points) (a .distance) 16380 ≡ passes
     unfolding queryRefusal treeRefusal
     query-passes count e h =
         then-passes _ (
@@ -79,13 +87,15 @@ module _ (a : Request) (passed : AllPassed a) (order links : List ℕ) (boxes : 
 
 -- a query that is not refused answers all points
 pub is-answered : (triangles : List Float) (distance : Float) (points : List Float) (old new : List ℕ) (v w : Verdict) → v ≡ w → w ≡ passes
-    → new ≡ afterQuery binary32 (sureAnswer binary32 triangles distance) points v old → new ≡ overwrite 0 (answerWords binary32 (sureAnswer binary32 triangles distance) points) old
+    → new ≡ afterQuery binary32 (sureAnswer binary32 triangles distance) points v old
+    → new ≡ overwrite 0 (answerWords binary32 (sureAnswer binary32 triangles distance) points) old
 unfolding afterQuery
 is-answered triangles distance points old new v w e h n = rw (e ∙ h) at n
 
 -- ---- the lists as they are read
 -- an input up to the maximum size fits the program's lists
-pub fits : (t p : ℕ) (triangles points : List Float) (out : List ℕ) → length triangles ≡ 9 * t → length points ≡ 3 * p → 36 + 36 * t + 12 * p ≤ maxBytes → maxPrinted ≤ length out
+pub fits : (t p : ℕ) (triangles points : List Float) (out : List ℕ) → length triangles ≡ 9 * t → length points ≡ 3 * p → 36 + 36 * t + 12 * p ≤ maxBytes
+    → maxPrinted ≤ length out
     → Fits triangles points out
 unfolding triangleCount pointCount
 fits t p triangles points out a b h room = record { triangles-few = rw a (omega arith); points-few = rw b (omega arith); room = room }
@@ -94,9 +104,11 @@ fits t p triangles points out a b h room = record { triangles-few = rw a (omega 
 pub request-is : (s : List ℕ) (t p : ℕ) (settings : Settings) (triangles points old older : List Float) (distance : Float) → settings ≡ settingsIn s
     → triangles ≡ overwrite 0 (floatsIn binary32 s 20 (9 * t)) old → points ≡ overwrite 0 (floatsIn binary32 s (20 + 36 * t + 6) (3 * p)) older
     → distance ≡ ofBits binary32 (littleAt 4 s (20 + 36 * t + 6 + 12 * p + 6))
-    → _≡_ {A = Request} (record { settings = settings; triangles = take (9 * t) triangles; points = take (3 * p) points; distance = distance }) (requestIn s t p)
+    → _≡_ {A = Request} (record { settings = settings; triangles = take (9 * t) triangles; points = take (3 * p) points; distance = distance })
+    (requestIn s t p)
 unfolding requestIn
 request-is s t p settings triangles points old older distance a b c d =
     let b′ : take (9 * t) triangles ≡ floatsIn binary32 s 20 (9 * t) = ap (take (9 * t)) b ∙ take-overwrite (9 * t) _ old (length-singles _ (9 * t)) in
-    let c′ : take (3 * p) points ≡ floatsIn binary32 s (20 + 36 * t + 6) (3 * p) = ap (take (3 * p)) c ∙ take-overwrite (3 * p) _ older (length-singles _ (3 * p)) in
+    let c′ : take (3 * p) points ≡ floatsIn binary32 s (20 + 36 * t + 6) (3 * p) = ap (take (3 * p)) c
+    ∙ take-overwrite (3 * p) _ older (length-singles _ (3 * p)) in
     λ i. record { settings = a i; triangles = b′ i; points = c′ i; distance = d i }

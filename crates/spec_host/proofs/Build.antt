@@ -79,7 +79,8 @@ module _ {v : Verdict} {x : Image} {old : List ℕ} {answer : ℕ} where
   put-nothing e a = record { status-is = rw e a; bytes-are = rw e }
 
   -- a call that passed, puts the image at the front and answers its size keeps the contract
-  pub put-all : {new : List ℕ} {next : ℕ} → v ≡ passes → answer ≡ exactSize version1 x → Put 0 (imageBytes version1 x) old new next → ImagePut v x old answer new
+  pub put-all : {new : List ℕ} {next : ℕ} → v ≡ passes → answer ≡ exactSize version1 x → Put 0 (imageBytes version1 x) old new next
+      → ImagePut v x old answer new
   put-all e a p = record { status-is = rw e a; bytes-are = rw e (p .written) }
 
 -- the answer and the bytes are fixed by the verdict, the image and what the bytes held
@@ -93,7 +94,8 @@ unfolding roomRefusal
 room-short given need h = rw (lt-ltb given need h)
 
 -- the contract depends on an image's bytes and size alone, so the image in the program's lists may stand for the defined one
-pub put-as : {v w : Verdict} {x y : Image} {old new : List ℕ} {answer : ℕ} → v ≡ w → imageBytes version1 x ≡ imageBytes version1 y → exactSize version1 x ≡ exactSize version1 y
+pub put-as : {v w : Verdict} {x y : Image} {old new : List ℕ} {answer : ℕ} → v ≡ w → imageBytes version1 x ≡ imageBytes version1 y
+    → exactSize version1 x ≡ exactSize version1 y
     → ImagePut v x old answer new → ImagePut w y old answer new
 put-as e b n p = record { status-is = rw (← e, ← n) (p .status-is); bytes-are = rw (← e, ← b) (p .bytes-are) }
 
@@ -102,10 +104,12 @@ list-encodable : (triangles : List Float) (s : Settings) (given : ℕ) → InPla
 unfolding listRefusal
 list-encodable triangles s given =
     then-test (trianglesRefusal triangles) _ (triangles-encodable triangles)
-    (λ _. then-test (settingsRefusal s) _ (settings-encodable s) (λ _. then-test (roomRefusal given (exactSize version1 (builtImage triangles s))) [] (room-encodable given _) (λ _. no-test)))
+    (λ _. then-test (settingsRefusal s) _ (settings-encodable s)
+    (λ _. then-test (roomRefusal given (exactSize version1 (builtImage triangles s))) [] (room-encodable given _) (λ _. no-test)))
 
 -- where two rows begin with the same two tests, and the rest of the first passes once these do, a refusal of the first is one of the second
-same-refusal : (a b : Verdict) (rest others : List Verdict) (number place : ℕ) → (a ≡ passes → b ≡ passes → firstRefusal rest ≡ passes) → firstRefusal (a ∷ b ∷ rest) ≡ refused number place
+same-refusal : (a b : Verdict) (rest others : List Verdict) (number place : ℕ) → (a ≡ passes → b ≡ passes → firstRefusal rest ≡ passes)
+    → firstRefusal (a ∷ b ∷ rest) ≡ refused number place
     → firstRefusal (a ∷ b ∷ others) ≡ refused number place
 unfolding firstRefusal
 same-refusal (refused n p) b rest others number place h e = e
@@ -120,7 +124,8 @@ not-made (refused n p) t number place e = cc
 module _ (triangles : List Float) (s : Settings) (order links : List ℕ) (boxes : List Float)
     (order-long : length order ≡ 4096) (links-long : length links ≡ 24573) (boxes-long : length boxes ≡ 49146) where
   -- the lists' rooms are never short, so a refusal is one of the triangles or the settings
-  pub build-refused : {number place : ℕ} {order′ links′ : List ℕ} {boxes′ : List Float} → BuildIs binary32 triangles s order links boxes (notMade number place) order′ links′ boxes′
+  pub build-refused : {number place : ℕ} {order′ links′ : List ℕ} {boxes′ : List Float}
+      → BuildIs binary32 triangles s order links boxes (notMade number place) order′ links′ boxes′
       → (given : ℕ) → listRefusal triangles s given ≡ refused number place
   unfolding listRefusal buildRefusal
   build-refused {number} {place} b given =
@@ -133,11 +138,13 @@ module _ (triangles : List Float) (s : Settings) (order links : List ℕ) (boxes
       (not-made (buildRefusal triangles s (length order) (length links) (length boxes)) (builtTree binary32 triangles s) number place (b .answer-is))
 
   -- a refusal of the build can be encoded in the status
-  pub build-encodable : {number place : ℕ} {order′ links′ : List ℕ} {boxes′ : List Float} → BuildIs binary32 triangles s order links boxes (notMade number place) order′ links′ boxes′
+  pub build-encodable : {number place : ℕ} {order′ links′ : List ℕ} {boxes′ : List Float}
+      → BuildIs binary32 triangles s order links boxes (notMade number place) order′ links′ boxes′
       → Placed number place
   build-encodable b = rw (build-refused b 0) at (list-encodable triangles s 0)
 
-  module _ {nodes depth : ℕ} {order′ links′ : List ℕ} {boxes′ : List Float} (b : BuildIs binary32 triangles s order links boxes (made nodes depth) order′ links′ boxes′) where
+  module _ {nodes depth : ℕ} {order′ links′ : List ℕ} {boxes′ : List Float}
+      (b : BuildIs binary32 triangles s order links boxes (made nodes depth) order′ links′ boxes′) where
     abbrev n : ℕ
     n = triangleCount triangles
 
@@ -177,7 +184,8 @@ module _ (triangles : List Float) (s : Settings) (order links : List ℕ) (boxes
         let g = built-listing triangles s (passed .triangles-good) (passed .settings-good) in
         let links-are : take (3 * nodeCount t) links′ ≡ linksFrom 0 0 t = rw (l .nodes-are) at (l .links-are) in
         let boxes-are : take (6 * nodeCount t) boxes′ ≡ boxesOf (boxAt triangles) t = rw (l .nodes-are) at (l .boxes-are) in
-        rw (l .order-is, l .nodes-are) (image-used version1 (builtImage triangles s) links′ boxes′ (links-are ∙ sym (g .links-are)) (boxes-are ∙ sym (g .boxes-are)))
+        rw (l .order-is, l .nodes-are)
+        (image-used version1 (builtImage triangles s) links′ boxes′ (links-are ∙ sym (g .links-are)) (boxes-are ∙ sym (g .boxes-are)))
 
     -- the image in the lists is as large as the image of the tree that is built
     pub listed-size : exactSize version1 listed ≡ exactSize version1 (builtImage triangles s)
@@ -211,7 +219,12 @@ module _ (s : List ℕ) (settings : Settings) (given : ℕ) where
     numbers-many : 147456 < length s → listRefusal (numbersOf s) settings given ≡ refused 3 0
     unfolding listRefusal trianglesRefusal raggedRefusal noneRefusal tooManyRefusal triangleCount firstRefusal
     numbers-many m =
-        rw (numbers-long, eq-eqb (length s / 4 % 9) 0 (omega arith), ne-eqb (length s / 4 / 9) 0 (λ (z : length s / 4 / 9 ≡ 0). omega arith), lt-ltb maxTriangles (length s / 4 / 9) (omega arith))
+        rw (
+          numbers-long,
+          eq-eqb (length s / 4 % 9) 0 (omega arith),
+          ne-eqb (length s / 4 / 9) 0 (λ (z : length s / 4 / 9 ≡ 0). omega arith),
+          lt-ltb maxTriangles (length s / 4 / 9) (omega arith),
+        )
 
     -- more bytes than 4,096 triangles have are refused with 3, so the program need not read them
     pub bytes-many : 147456 < length s → bytesRefusal s settings given ≡ refused 3 0
@@ -237,22 +250,26 @@ module _ (s : List ℕ) (settings : Settings) (given : ℕ) where
       omega (arith, good-nodes (builtImage (numbersOf s) settings) (built-good (numbersOf s) settings g (settings-passed settings (p .1 .0))), g .few)
 
   -- the status of the build is decoded without loss
-  pub bytes-decoded : Decoded (bytesRefusal s settings given) (exactSize version1 (builtImage (numbersOf s) settings)) (status (bytesRefusal s settings given) (exactSize version1 (builtImage (numbersOf s) settings)))
+  pub bytes-decoded : Decoded (bytesRefusal s settings given) (exactSize version1 (builtImage (numbersOf s) settings))
+      (status (bytesRefusal s settings given) (exactSize version1 (builtImage (numbersOf s) settings)))
   bytes-decoded = decoded (bytesRefusal s settings given) (exactSize version1 (builtImage (numbersOf s) settings)) bytes-encodable built-small
 
 -- ---- reading back
 -- the image that is put reads back as the settings, the triangles and the tree that was built
 pub built-back : (s : List ℕ) (settings : Settings) (given : ℕ) → bytesRefusal s settings given ≡ passes
-    → imageIn version1 (imageBytes version1 (builtImage (numbersOf s) settings)) (triangleCount (numbersOf s)) (nodeCount (builtTree binary32 (numbersOf s) settings)) ≡ used (builtImage (numbersOf s) settings)
+    → imageIn version1 (imageBytes version1 (builtImage (numbersOf s) settings)) (triangleCount (numbersOf s))
+    (nodeCount (builtTree binary32 (numbersOf s) settings)) ≡ used (builtImage (numbersOf s) settings)
 unfolding bytesRefusal listRefusal imageOver
 built-back s settings given e =
     let x : Image = builtImage (numbersOf s) settings in
     let p = all-pass _ (all-pass _ e .1 .0) in
     let room = room-passed given (exactSize version1 x) (p .1 .1 .0) in
-    written-back x given (floats-fit s 0 (length s / 4)) (built-written (numbersOf s) settings (triangles-passed (numbersOf s) (p .0)) (settings-passed settings (p .1 .0)) given room)
+    written-back x given (floats-fit s 0 (length s / 4))
+    (built-written (numbersOf s) settings (triangles-passed (numbersOf s) (p .0)) (settings-passed settings (p .1 .0)) given room)
 
 -- the triangles' record has the very bytes that were given, minus zeros too
-pub bytes-kept : (s : List ℕ) → Bytes s → (settings : Settings) (given : ℕ) → bytesRefusal s settings given ≡ passes → trianglesBody version1 (builtImage (numbersOf s) settings) ≡ s
+pub bytes-kept : (s : List ℕ) → Bytes s → (settings : Settings) (given : ℕ) → bytesRefusal s settings given ≡ passes
+    → trianglesBody version1 (builtImage (numbersOf s) settings) ≡ s
 unfolding bytesRefusal raggedBytes listRefusal imageOver
 bytes-kept s ok settings given e =
     let p = all-pass _ e in
@@ -262,6 +279,7 @@ bytes-kept s ok settings given e =
     let long : length (numbersOf s) ≡ m = length-singles _ m in
     let all : 4 * m ≡ length s = omega arith in
     rw long
-    (floats-written binary32 (numbersOf s) 0 s 0 m ok (omega arith) (λ i l. finite-number _ (coordinate-finite _ (good .coordinates i (omega arith)))) (ap (slice (numbersOf s) 0) (sym long) ∙ take-length (numbersOf s))
+    (floats-written binary32 (numbersOf s) 0 s 0 m ok (omega arith) (λ i l. finite-number _ (coordinate-finite _ (good .coordinates i (omega arith))))
+    (ap (slice (numbersOf s) 0) (sym long) ∙ take-length (numbersOf s))
     ∙ ap (slice s 0) all
     ∙ take-length s)

@@ -55,10 +55,13 @@ module _ (x : Image) (ok : Storable version1 x) where
   -- the check of an image that was written refuses what the tests of its lists refuse
   pub written-checked : checkVerdict written ≡ checkedRefusal (used x)
   unfolding checkVerdict
-  written-checked = sym (inner-decides written (length (x .order)) (x .nodes) laid checkedRefusal (checkedRefusal (used x)) (ap checkedRefusal (sym (written-read version1 x ok))))
+  written-checked =
+      sym (inner-decides written (length (x .order)) (x .nodes) laid checkedRefusal (checkedRefusal (used x))
+      (ap checkedRefusal (sym (written-read version1 x ok))))
 
   -- a query of an image that was written refuses what the tests of its lists refuse
-  pub written-queried : (points : List ℕ) (distance : Float) (room : ℕ) → queryVerdict written points distance room ≡ requestRefusal (used x) points distance room
+  pub written-queried : (points : List ℕ) (distance : Float) (room : ℕ)
+      → queryVerdict written points distance room ≡ requestRefusal (used x) points distance room
   unfolding queryVerdict
   written-queried points distance room =
       sym (inner-decides written (length (x .order)) (x .nodes) laid (λ y. requestRefusal y points distance room) (requestRefusal (used x) points distance room)
@@ -105,12 +108,16 @@ module _ (s : List ℕ) (settings : Settings) (given : ℕ) (accepts : bytesRefu
 -- ---- the status is decoded
 module _ (image points : List ℕ) (ok : Bytes image) (fits : length points < 2 ^ 63) (few : length points / 12 < 2 ^ 56) (room : ℕ) where
   -- the status of a query is decoded without loss
-  pub query-decoded : (distance : Float) → Decoded (queryVerdict image points distance room) (length points / 12) (status (queryVerdict image points distance room) (length points / 12))
-  query-decoded distance = status-decoded (queryVerdict image points distance room) (length points / 12) (record { verdict = query-encodable image points ok fits room distance; counted = few })
+  pub query-decoded : (distance : Float)
+      → Decoded (queryVerdict image points distance room) (length points / 12) (status (queryVerdict image points distance room) (length points / 12))
+  query-decoded distance =
+      status-decoded (queryVerdict image points distance room) (length points / 12)
+      (record { verdict = query-encodable image points ok fits room distance; counted = few })
 
   -- the status of the winding call is decoded without loss
   pub winding-decoded : Decoded (windingVerdict image points room) (length points / 12) (status (windingVerdict image points room) (length points / 12))
-  winding-decoded = status-decoded (windingVerdict image points room) (length points / 12) (record { verdict = winding-encodable image points ok fits room; counted = few })
+  winding-decoded =
+      status-decoded (windingVerdict image points room) (length points / 12) (record { verdict = winding-encodable image points ok fits room; counted = few })
 
 -- ---- on whole points a call refuses as the list call does on what the image holds
 points-as-lists : (points : List ℕ) → length points % 12 ≡ 0 → pointBytesRefusal points ≡ pointsRefusal (numbersOf points)
@@ -134,6 +141,7 @@ queries-as-lists x points distance room fine whole =
     rw (fine, rooms, points-count points, points-as-lists points whole) (drop-second (trianglesRefusal (x .triangles)) _)
 
 -- on whole points the winding call on an image is refused as the list call is
-pub windings-as-lists : (triangles : List Float) (points : List ℕ) (room : ℕ) → length points % 12 ≡ 0 → windingBytesRefusal triangles points room ≡ windingRefusal triangles (numbersOf points) (room / 4)
+pub windings-as-lists : (triangles : List Float) (points : List ℕ) (room : ℕ) → length points % 12 ≡ 0
+    → windingBytesRefusal triangles points room ≡ windingRefusal triangles (numbersOf points) (room / 4)
 unfolding windingBytesRefusal windingRefusal
 windings-as-lists triangles points room whole = rw (points-count points, points-as-lists points whole)

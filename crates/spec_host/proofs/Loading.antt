@@ -21,7 +21,8 @@ module _ {image : List ℕ} {count nodes : ℕ} {triangles : List Float} (l : Lo
 
   -- the tests before the tree is loaded are those of what the image holds
   pub early-same : (settings : Settings) (room need : ℕ) → settings ≡ settingsIn image
-      → earlyRefusal triangles settings room need ≡ earlyRefusal (imageIn version1 image count nodes .triangles) (imageIn version1 image count nodes .settings) room need
+      → earlyRefusal triangles settings room need
+      ≡ earlyRefusal (imageIn version1 image count nodes .triangles) (imageIn version1 image count nodes .settings) room need
   unfolding imageIn
   early-same settings room need e = λ i. earlyRefusal (l .triangles-are i) (e i) room need
 
@@ -33,12 +34,14 @@ module _ {image : List ℕ} {count nodes : ℕ} {triangles : List Float} (l : Lo
   module _ {order links : List ℕ} {boxes : List Float} (t : TreeLoaded image count nodes order links boxes) where
     -- the tests after the tree is loaded are those of what the image holds
     pub late-same : (points : List ℕ) (distance : Float)
-        → lateRefusal triangles (take count order) (take (3 * nodes) links) (take (6 * nodes) boxes) nodes points distance ≡ lateIn (imageIn version1 image count nodes) points distance
+        → lateRefusal triangles (take count order) (take (3 * nodes) links) (take (6 * nodes) boxes) nodes points distance
+        ≡ lateIn (imageIn version1 image count nodes) points distance
     unfolding imageIn
     late-same points distance = λ i. lateRefusal (l .triangles-are i) (t .order-is i) (t .links-are i) (t .boxes-are i) nodes points distance
 
     -- the lists that were loaded answer as what the image holds
     pub answer-same : (query : Query) (distance : Float)
-        → answerBy binary32 query triangles (take count order) (take (3 * nodes) links) (take (6 * nodes) boxes) nodes distance ≡ answerIn query (imageIn version1 image count nodes) distance
+        → answerBy binary32 query triangles (take count order) (take (3 * nodes) links) (take (6 * nodes) boxes) nodes distance
+        ≡ answerIn query (imageIn version1 image count nodes) distance
     unfolding imageIn
     answer-same query distance = λ i. answerBy binary32 query (l .triangles-are i) (t .order-is i) (t .links-are i) (t .boxes-are i) nodes distance

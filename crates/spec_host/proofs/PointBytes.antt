@@ -60,8 +60,10 @@ word-append : (a b : List ℕ) → wordBytes (a ++ b) ≡ wordBytes a ++ wordByt
 word-append a b =
     let g : ℕ → List ℕ = λ i. little 4 (getD (a ++ b) (0 + i) 0) in
     ap (concatMap g) (length-append a b) ∙ concatMap-add g (length a) (length b)
-    ∙ ap (λ (l : List ℕ). l ++ concatMap (λ i. g (length a + i)) (length b)) (concatMap-same g (λ i. little 4 (getD a (0 + i) 0)) (length a) (λ i h. simp zero-add (ap (little 4) (List·getD-append a b 0 i h))))
-    ∙ ap (λ (l : List ℕ). wordBytes a ++ l) (concatMap-same (λ i. g (length a + i)) (λ i. little 4 (getD b (0 + i) 0)) (length b) (λ i h. simp zero-add (ap (little 4) (getD-append-add a b i 0))))
+    ∙ ap (λ (l : List ℕ). l ++ concatMap (λ i. g (length a + i)) (length b))
+    (concatMap-same g (λ i. little 4 (getD a (0 + i) 0)) (length a) (λ i h. simp zero-add (ap (little 4) (List·getD-append a b 0 i h))))
+    ∙ ap (λ (l : List ℕ). wordBytes a ++ l)
+    (concatMap-same (λ i. g (length a + i)) (λ i. little 4 (getD b (0 + i) 0)) (length b) (λ i h. simp zero-add (ap (little 4) (getD-append-add a b i 0))))
 
 word-concatMap : (f : ℕ → List ℕ) (n : ℕ) → wordBytes (concatMap f n) ≡ concatMap (λ k. wordBytes (f k)) n
 unfolding concatMap
@@ -100,10 +102,12 @@ module _ (answer : Point → Answer) (points old : List ℕ) where
   answered-start n = run-start piece 24 0 n old
 
   -- a turn of the loop writes the next point's answer behind the others
-  pub answered-more : (n : ℕ) (out new : List ℕ) (k : ℕ) (a : Answer) → 24 * n ≤ length old → k < n → Answered n out k → a ≡ answer (pointAt (numbersOf points) (3 * k))
+  pub answered-more : (n : ℕ) (out new : List ℕ) (k : ℕ) (a : Answer) → 24 * n ≤ length old → k < n → Answered n out k
+      → a ≡ answer (pointAt (numbersOf points) (3 * k))
       → new ≡ overwrite (24 * k) (wordBytes (sixWords binary32 a)) out → Answered n new (k + 1)
   answered-more n out new k a room l r e h =
-      run-front piece 24 n old out new k (λ j. answer-long (answer (pointAt (numbersOf points) (3 * j)))) room l r (h ∙ ap (λ (b : Answer). overwrite (24 * k) (wordBytes (sixWords binary32 b)) out) e)
+      run-front piece 24 n old out new k (λ j. answer-long (answer (pointAt (numbersOf points) (3 * j)))) room l r
+      (h ∙ ap (λ (b : Answer). overwrite (24 * k) (wordBytes (sixWords binary32 b)) out) e)
 
   -- after the last turn the answers at all points stand at the front
   pub answered-end : (n : ℕ) (out : List ℕ) (k : ℕ) → n ≡ length points / 12 → n ≤ k → Answered n out k → out ≡ overwrite 0 (answerBytes answer points) old
@@ -111,7 +115,8 @@ module _ (answer : Point → Answer) (points old : List ℕ) where
   answered-end n out k e l r =
       run-end piece 0 n old out k l r
       ∙ ap (λ (m : ℕ). overwrite 0 (concatMap piece m) old) (e ∙ sym (points-count points))
-      ∙ ap (λ (new : List ℕ). overwrite 0 new old) (sym (word-concatMap (λ j. sixWords binary32 (answer (pointAt (numbersOf points) (3 * j)))) (pointCount (numbersOf points))))
+      ∙ ap (λ (new : List ℕ). overwrite 0 new old)
+      (sym (word-concatMap (λ j. sixWords binary32 (answer (pointAt (numbersOf points) (3 * j)))) (pointCount (numbersOf points))))
 
 -- ---- the loop over the points that writes winding numbers
 module _ (triangles : List Float) (points old : List ℕ) where
@@ -127,19 +132,23 @@ module _ (triangles : List Float) (points old : List ℕ) where
   windings-start n = run-start turn 4 0 n old
 
   -- a turn of the loop writes the next point's winding number behind the others
-  pub windings-more : (n : ℕ) (out new : List ℕ) (k bits : ℕ) → 4 * n ≤ length old → k < n → WindingsPut n out k → bits ≡ toBits binary32 (windingAt binary32 triangles (numbersOf points) k)
+  pub windings-more : (n : ℕ) (out new : List ℕ) (k bits : ℕ) → 4 * n ≤ length old → k < n → WindingsPut n out k
+      → bits ≡ toBits binary32 (windingAt binary32 triangles (numbersOf points) k)
       → new ≡ overwrite (4 * k) (little 4 bits) out → WindingsPut n new (k + 1)
   windings-more n out new k bits room l r e h =
       run-front turn 4 n old out new k (λ j. length-little 4 _) room l r (h ∙ ap (λ (b : ℕ). overwrite (4 * k) (little 4 b) out) e)
 
   -- after the last turn the winding numbers about all points stand at the front
-  pub windings-end : (n : ℕ) (out : List ℕ) (k : ℕ) → n ≡ length points / 12 → n ≤ k → WindingsPut n out k → out ≡ overwrite 0 (windingBytes triangles points) old
+  pub windings-end : (n : ℕ) (out : List ℕ) (k : ℕ) → n ≡ length points / 12 → n ≤ k → WindingsPut n out k
+      → out ≡ overwrite 0 (windingBytes triangles points) old
   unfolding windingBytes windings
   windings-end n out k e l r =
       run-end turn 0 n old out k l r
       ∙ ap (λ (m : ℕ). overwrite 0 (concatMap turn m) old) (e ∙ sym (points-count points))
       ∙ ap (λ (new : List ℕ). overwrite 0 new old)
-      (concatMap-same turn _ (pointCount (numbersOf points)) (λ i h. ap (λ (x : Float). little 4 (toBits binary32 x)) (sym (getD-concatMap nan (windingAt binary32 triangles (numbersOf points)) (pointCount (numbersOf points)) (0 + i) (rw zero-add h) ∙ ap (windingAt binary32 triangles (numbersOf points)) (zero-add i)))))
+      (concatMap-same turn _ (pointCount (numbersOf points))
+      (λ i h. ap (λ (x : Float). little 4 (toBits binary32 x)) (sym (getD-concatMap nan (windingAt binary32 triangles (numbersOf points))
+      (pointCount (numbersOf points)) (0 + i) (rw zero-add h) ∙ ap (windingAt binary32 triangles (numbersOf points)) (zero-add i)))))
 
 -- ---- the lent bytes afterwards
 -- a call that refuses keeps its contract by leaving the lent bytes as they were

@@ -36,7 +36,8 @@ use Rattle.spec_host.proofs.PointBytes.{point-bytes-passed}
 
 -- ---- the layout
 -- a wrong layout is refused with 10 at its place, before any other test
-pub layout-refuses : (s : List ℕ) (at : ℕ) → laidOut (imageWants version1) s 0 ≡ wrong at → (inner : Verdict) → refused 10 at ≡ firstRefusal (layoutRefusal s ∷ inner ∷ [])
+pub layout-refuses : (s : List ℕ) (at : ℕ) → laidOut (imageWants version1) s 0 ≡ wrong at → (inner : Verdict)
+    → refused 10 at ≡ firstRefusal (layoutRefusal s ∷ inner ∷ [])
 unfolding layoutRefusal firstRefusal
 layout-refuses s at laid inner = rw laid
 
@@ -58,7 +59,8 @@ module _ (s : List ℕ) (t n : ℕ) (laid : laidOut (imageWants version1) s 0 �
       rw (laid, a, b)
 
   -- what is refused of what an image holds is refused of the image
-  pub inner-decides : (inner : Image → Verdict) (v : Verdict) → v ≡ inner (imageIn version1 s t n) → v ≡ firstRefusal (layoutRefusal s ∷ inner (contents s) ∷ [])
+  pub inner-decides : (inner : Image → Verdict) (v : Verdict) → v ≡ inner (imageIn version1 s t n)
+      → v ≡ firstRefusal (layoutRefusal s ∷ inner (contents s) ∷ [])
   unfolding firstRefusal
   inner-decides inner v e = rw (layout-passes, contents-are) (ends v (inner (imageIn version1 s t n)) e)
 
@@ -70,11 +72,13 @@ module _ (xs : List Float) (t : ℕ) (nine : length xs ≡ 9 * t) where
   count-counts = rw nine (omega arith)
 
   -- what the count refuses is refused of the list
-  pub count-stops : (v : Verdict) (b : Bool) (rest : List Verdict) → v ≡ countRefusal t → b ≡ refuses v → b ≡ true → v ≡ firstRefusal (trianglesRefusal xs ∷ rest)
+  pub count-stops : (v : Verdict) (b : Bool) (rest : List Verdict) → v ≡ countRefusal t → b ≡ refuses v → b ≡ true
+      → v ≡ firstRefusal (trianglesRefusal xs ∷ rest)
   unfolding countRefusal trianglesRefusal raggedRefusal noneRefusal tooManyRefusal firstRefusal
   count-stops v b rest e r h =
       let whole : eqb (length xs % 9) 0 ≡ true = eq-eqb (length xs % 9) 0 (rw nine (omega arith)) in
-      let early : v ≡ trianglesRefusal xs = rw (whole, count-counts) (row-stops (refusedIf (eqb t 0) 2 0 ∷ refusedIf (ltb maxTriangles t) 3 0 ∷ []) (coordinateRefusal 4 xs ∷ []) v b e r h) in
+      let early : v ≡ trianglesRefusal xs =
+      rw (whole, count-counts) (row-stops (refusedIf (eqb t 0) 2 0 ∷ refusedIf (ltb maxTriangles t) 3 0 ∷ []) (coordinateRefusal 4 xs ∷ []) v b e r h) in
       stops v (trianglesRefusal xs) rest b early r h
 
 count-passed : (t : ℕ) → countRefusal t ≡ passes → (1 ≤ t) × (t ≤ maxTriangles)
@@ -106,12 +110,14 @@ module _ (s : List ℕ) (t n : ℕ) where
   order-read old new e = ap (take t) e ∙ take-overwrite t _ old (length-singles _ t)
 
   -- the links that the program reads to the front of its list are the image's
-  pub links-read : (old new : List ℕ) → new ≡ overwrite 0 (concatMap (linksIn version1 s (nodesStart version1 t)) n) old → take (3 * n) new ≡ imageIn version1 s t n .links
+  pub links-read : (old new : List ℕ) → new ≡ overwrite 0 (concatMap (linksIn version1 s (nodesStart version1 t)) n) old
+      → take (3 * n) new ≡ imageIn version1 s t n .links
   unfolding imageIn
   links-read old new e = ap (take (3 * n)) e ∙ take-overwrite (3 * n) _ old (length-concatMap _ 3 n (length-links version1 s (nodesStart version1 t)))
 
   -- the boxes that the program reads to the front of its list are the image's
-  pub boxes-read : (old new : List Float) → new ≡ overwrite 0 (concatMap (sidesIn version1 s (nodesStart version1 t)) n) old → take (6 * n) new ≡ imageIn version1 s t n .boxes
+  pub boxes-read : (old new : List Float) → new ≡ overwrite 0 (concatMap (sidesIn version1 s (nodesStart version1 t)) n) old
+      → take (6 * n) new ≡ imageIn version1 s t n .boxes
   unfolding imageIn
   boxes-read old new e = ap (take (6 * n)) e ∙ take-overwrite (6 * n) _ old (length-concatMap _ 6 n (length-box version1 s (nodesStart version1 t)))
 
@@ -148,7 +154,8 @@ module _ (triangles : List Float) (points : List ℕ) where
       record { triangles-good = triangles-passed triangles (p .0); room-enough = omega arith }
 
   -- what passed after the tree is loaded has a tree that can be searched, and good points
-  pub late-passed : (order links : List ℕ) (boxes : List Float) (nodes : ℕ) (distance : Float) → GoodTriangles triangles → lateRefusal triangles order links boxes nodes points distance ≡ passes
+  pub late-passed : (order links : List ℕ) (boxes : List Float) (nodes : ℕ) (distance : Float) → GoodTriangles triangles
+      → lateRefusal triangles order links boxes nodes points distance ≡ passes
       → Searchable triangles order links boxes nodes × GoodPoints (numbersOf points)
   unfolding lateRefusal treeRefusal
   late-passed order links boxes nodes distance good e =
@@ -163,7 +170,8 @@ module _ (triangles : List Float) (points : List ℕ) where
       omega arith
 
 -- ---- the tests before the tree is loaded, and those after it
-module _ (x : Image) (points : List ℕ) (distance : Float) (room : ℕ) (v : Verdict) (b : Bool) (is : v ≡ earlyRefusal (x .triangles) (x .settings) (room / 24) (length points / 12)) (said : b ≡ refuses v) where
+module _ (x : Image) (points : List ℕ) (distance : Float) (room : ℕ) (v : Verdict) (b : Bool)
+    (is : v ≡ earlyRefusal (x .triangles) (x .settings) (room / 24) (length points / 12)) (said : b ≡ refuses v) where
   -- a refusal before the tree is loaded is the call's refusal
   pub early-stops : b ≡ true → v ≡ requestRefusal x points distance room
   unfolding earlyRefusal requestRefusal
@@ -184,7 +192,8 @@ none-passes : pointBytesRefusal [] ≡ passes
 unfolding pointBytesRefusal coordinateRefusal firstBad firstRefusal concatMap
 none-passes = refl
 
-drop-passed : (a b c d : Verdict) → firstRefusal (a ∷ firstRefusal (b ∷ c ∷ passes ∷ d ∷ passes ∷ passes ∷ []) ∷ []) ≡ firstRefusal (a ∷ firstRefusal (b ∷ c ∷ d ∷ []) ∷ [])
+drop-passed : (a b c d : Verdict)
+    → firstRefusal (a ∷ firstRefusal (b ∷ c ∷ passes ∷ d ∷ passes ∷ passes ∷ []) ∷ []) ≡ firstRefusal (a ∷ firstRefusal (b ∷ c ∷ d ∷ []) ∷ [])
 unfolding firstRefusal
 drop-passed (refused n p) b c d = refl
 drop-passed passes (refused n p) c d = refl
@@ -195,4 +204,6 @@ drop-passed passes passes passes passes = refl
 -- the check of an image is a query at no points, so one function serves both
 pub check-asks-nothing : (image : List ℕ) → queryVerdict image [] zero 1 ≡ checkVerdict image
 unfolding queryVerdict checkVerdict requestRefusal checkedRefusal roomRefusal distanceRefusal isDistance le
-check-asks-nothing image = rw none-passes (drop-passed (layoutRefusal image) (trianglesRefusal (contents image .triangles)) (settingsRefusal (contents image .settings)) (treeIn (contents image)))
+check-asks-nothing image =
+    rw none-passes
+    (drop-passed (layoutRefusal image) (trianglesRefusal (contents image .triangles)) (settingsRefusal (contents image .settings)) (treeIn (contents image)))

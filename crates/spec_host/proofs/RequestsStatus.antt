@@ -46,7 +46,8 @@ near-done s at h = go (eqb at (length s))
     go true = tt
     go false = near at h
 
-near-one : (kind : ℕ) (test : List ℕ → Bool) (next : List ℕ → Wants) (s : List ℕ) (at : ℕ) → at < 2 ^ 56 → Near (laidOut (next (bodyAt s at)) s (at + 6 + sizeAt s at)) → Near (laidOut (one kind test next) s at)
+near-one : (kind : ℕ) (test : List ℕ → Bool) (next : List ℕ → Wants) (s : List ℕ) (at : ℕ) → at < 2 ^ 56
+    → Near (laidOut (next (bodyAt s at)) s (at + 6 + sizeAt s at)) → Near (laidOut (one kind test next) s at)
 unfolding laidOut
 near-one kind test next s at h k = go (isRight kind test s at) (laidOut (next (bodyAt s at)) s (at + 6 + sizeAt s at)) k
   where
@@ -76,7 +77,8 @@ unfolding pointBytesRefusal coordinateRefusal
 point-bytes-encodable s h =
     then-test (refusedIf (not (eqb (length s % 12) 0)) 8 (length s)) _
     (placed (not (eqb (length s % 12) 0)) 8 (length s) (λ _. record { some = omega arith; most = omega arith; near = h }))
-    (λ _. then-test (coordinateRefusal 8 (numbersOf s)) [] (placed (ltb (firstBad (numbersOf s)) (length (numbersOf s))) 8 (firstBad (numbersOf s)) bad) (λ _. no-test))
+    (λ _. then-test (coordinateRefusal 8 (numbersOf s)) []
+    (placed (ltb (firstBad (numbersOf s)) (length (numbersOf s))) 8 (firstBad (numbersOf s)) bad) (λ _. no-test))
   where
     bad : ltb (firstBad (numbersOf s)) (length (numbersOf s)) ≡ true → Placed 8 (firstBad (numbersOf s))
     bad e = record { some = omega arith; most = omega arith; near = omega (arith, numbers-long s, ltb-true (firstBad (numbersOf s)) (length (numbersOf s)) e) }

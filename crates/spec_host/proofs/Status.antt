@@ -22,7 +22,8 @@ decoded-8 place h =
     let top = le-leb (2 ^ 63) (2 ^ 63 + place) (omega arith) in
     (rw top, rw top (omega arith))
 
-decoded-other : (number place : ℕ) → number ≤ 10 → place < 2 ^ 56 → (statusNumber (number * 2 ^ 56 + place) ≡ number) × (statusPlace (number * 2 ^ 56 + place) ≡ place)
+decoded-other : (number place : ℕ) → number ≤ 10 → place < 2 ^ 56
+    → (statusNumber (number * 2 ^ 56 + place) ≡ number) × (statusPlace (number * 2 ^ 56 + place) ≡ place)
 unfolding statusNumber statusPlace
 decoded-other number place m h =
     let low = lt-leb (2 ^ 63) (number * 2 ^ 56 + place) (omega arith) in
@@ -31,7 +32,8 @@ decoded-other number place m h =
     let q : (number * 2 ^ 56 + place) % 2 ^ 56 ≡ place = mul-add-mod-self-right number (2 ^ 56) place ∙ mod-eq-of-lt h in
     (rw low p, rw low q)
 
-refusal-decoded : (number place : ℕ) → Placed number place → (statusNumber (refusalStatus number place) ≡ number) × (statusPlace (refusalStatus number place) ≡ place)
+refusal-decoded : (number place : ℕ) → Placed number place
+    → (statusNumber (refusalStatus number place) ≡ number) × (statusPlace (refusalStatus number place) ≡ place)
 unfolding refusalStatus
 refusal-decoded number place ok = go (eqb number 8) refl
   where
@@ -97,7 +99,11 @@ triangles-encodable xs =
     bad few e = record {
       some = omega arith;
       most = omega arith;
-      near = omega (arith, ltb-true (firstBad xs) (length xs) e, ltb-false maxTriangles (length xs / 9) (not-refused (ltb maxTriangles (triangleCount xs)) 3 0 few));
+      near = omega (
+        arith,
+        ltb-true (firstBad xs) (length xs) e,
+        ltb-false maxTriangles (length xs / 9) (not-refused (ltb maxTriangles (triangleCount xs)) 3 0 few),
+      );
     }
 
 -- the test of the settings can be encoded

@@ -48,7 +48,8 @@ builtImage triangles s = imageOver triangles s (builtTree binary32 triangles s)
 
 -- 1 to 6 of a triangle list, into `given` bytes
 unfoldable pub listRefusal : List Float → Settings → (given : ℕ) → Verdict
-listRefusal triangles s given = firstRefusal (trianglesRefusal triangles ∷ settingsRefusal s ∷ roomRefusal given (exactSize version1 (builtImage triangles s)) ∷ [])
+listRefusal triangles s given =
+    firstRefusal (trianglesRefusal triangles ∷ settingsRefusal s ∷ roomRefusal given (exactSize version1 (builtImage triangles s)) ∷ [])
 
 -- 1 by the bytes, then the refusals of the list that they hold
 unfoldable pub bytesRefusal : List ℕ → Settings → (given : ℕ) → Verdict

@@ -40,7 +40,8 @@ use Rattle.spec_image.proofs.Rewritten.{rewritten}
 -- floats that are read are values of the format, so they can be written again
 pub floats-fit : (s : List ℕ) (start n : ℕ) → AllFit binary32 (floatsIn binary32 s start n)
 floats-fit s start n i h =
-    rw (getD-concatMap nan (λ (j : ℕ). ofBits binary32 (littleAt 4 s (start + 4 * j))) n i (omega (arith, length-singles (λ (j : ℕ). ofBits binary32 (littleAt 4 s (start + 4 * j))) n)))
+    rw (getD-concatMap nan (λ (j : ℕ). ofBits binary32 (littleAt 4 s (start + 4 * j))) n i
+    (omega (arith, length-singles (λ (j : ℕ). ofBits binary32 (littleAt 4 s (start + 4 * j))) n)))
     (ofBits-fits binary32 (littleAt 4 s (start + 4 * i)))
 
 -- ---- what good lists hold
@@ -52,18 +53,22 @@ module _ (x : Image) (g : Good x) (fit : AllFit binary32 (x .triangles)) where
       let t = g .tree in
       let long : length (linksFrom 0 0 t) ≡ 3 * x .nodes = links-length 0 0 t ∙ ap (λ (k : ℕ). 3 * k) (sym (l .nodes-are)) in
       each-taken (λ (k : ℕ). k < 65536) 0 (3 * x .nodes) (x .links) (linksFrom 0 0 t) (l .links-are) long
-      (links-below 65536 0 0 t (omega arith) (omega (arith, l .nodes-are, good-nodes x g, g .triangles .few)) (omega (arith, ap length (l .order-is), good-count x g, g .triangles .few))) i h
+      (links-below 65536 0 0 t (omega arith) (omega (arith, l .nodes-are, good-nodes x g, g .triangles .few))
+      (omega (arith, ap length (l .order-is), good-count x g, g .triangles .few))) i h
 
   box-plain : (i : ℕ) → i < 6 * x .nodes → Plain binary32 (getD (x .boxes) i nan)
   box-plain i h =
       let l = g .listing in
       let t = g .tree in
-      let long : length (boxesOf (boxAt (x .triangles)) t) ≡ 6 * x .nodes = boxes-length (boxAt (x .triangles)) t ∙ ap (λ (k : ℕ). 6 * k) (sym (l .nodes-are)) in
+      let long : length (boxesOf (boxAt (x .triangles)) t) ≡ 6 * x .nodes = boxes-length (boxAt (x .triangles)) t
+      ∙ ap (λ (k : ℕ). 6 * k) (sym (l .nodes-are)) in
       let below = permutes-entries (triangleCount (x .triangles)) (x .order) (l .permuted) in
       let plains : Each (λ (k : ℕ). PlainBox binary32 (boxAt (x .triangles) k)) (x .order) =
-      each-by-place (λ (k : ℕ). PlainBox binary32 (boxAt (x .triangles) k)) 0 (x .order) (λ j k. box-at-plain (x .triangles) (g .triangles .coordinates) binary32 fit (getD (x .order) j 0) (triangle-inside (x .triangles) (getD (x .order) j 0) (below j k))) in
+      each-by-place (λ (k : ℕ). PlainBox binary32 (boxAt (x .triangles) k)) 0 (x .order) (λ j k. box-at-plain (x .triangles)
+      (g .triangles .coordinates) binary32 fit (getD (x .order) j 0) (triangle-inside (x .triangles) (getD (x .order) j 0) (below j k))) in
       each-taken (Plain binary32) nan (6 * x .nodes) (x .boxes) (boxesOf (boxAt (x .triangles)) t) (l .boxes-are) long
-      (boxes-plain binary32 (boxAt (x .triangles)) t (l .filled) (subst (Each (λ (k : ℕ). PlainBox binary32 (boxAt (x .triangles) k))) (l .order-is) plains)) i h
+      (boxes-plain binary32 (boxAt (x .triangles)) t (l .filled)
+      (subst (Each (λ (k : ℕ). PlainBox binary32 (boxAt (x .triangles) k))) (l .order-is) plains)) i h
 
   -- what the writer accepts can be stored without loss
   pub good-storable : Storable version1 x
@@ -93,7 +98,8 @@ good-long x g = length-image version1 x (good-complete x g) ∙ ap (λ (k : ℕ)
 
 -- ---- written
 -- what the writer accepts stands, as an image, at the front of the lent bytes
-pub written-front : (x : Image) (out : List ℕ) → writeRefusal version1 x (length out) ≡ passes → take (exactSize version1 x) (bytesAfter version1 x out) ≡ imageBytes version1 x
+pub written-front : (x : Image) (out : List ℕ) → writeRefusal version1 x (length out) ≡ passes
+    → take (exactSize version1 x) (bytesAfter version1 x out) ≡ imageBytes version1 x
 unfolding bytesAfter
 written-front x out accepted =
     let good = write-passed version1 x (length out) accepted .0 in
@@ -106,10 +112,12 @@ module _ (x : Image) (given : ℕ) (fit : AllFit binary32 (x .triangles)) (accep
 
   -- the image of what the writer accepts reads back equal
   pub written-back : imageIn version1 (imageBytes version1 x) (triangleCount (x .triangles)) (x .nodes) ≡ used x
-  written-back = ap (λ (k : ℕ). imageIn version1 (imageBytes version1 x) k (x .nodes)) (sym (good-count x good)) ∙ written-read version1 x (good-storable x good fit)
+  written-back =
+      ap (λ (k : ℕ). imageIn version1 (imageBytes version1 x) k (x .nodes)) (sym (good-count x good)) ∙ written-read version1 x (good-storable x good fit)
 
   -- reading the image answers the settings and counts that were written, where there is room
-  pub written-held : (r : Rooms) → roomFor r (triangleCount (x .triangles)) (x .nodes) ≡ true → imageRead version1 (imageBytes version1 x) r ≡ holds (x .settings) (triangleCount (x .triangles)) (x .nodes)
+  pub written-held : (r : Rooms) → roomFor r (triangleCount (x .triangles)) (x .nodes) ≡ true
+      → imageRead version1 (imageBytes version1 x) r ≡ holds (x .settings) (triangleCount (x .triangles)) (x .nodes)
   written-held r room =
       subst (λ (k : ℕ). roomFor r k (x .nodes) ≡ true → imageRead version1 (imageBytes version1 x) r ≡ holds (x .settings) k (x .nodes)) (good-count x good)
       (written-holds version1 x (good-storable x good fit) r) room
@@ -132,11 +140,13 @@ module _ (s : List ℕ) where
   abbrev size₄ : ℕ
   size₄ = sizeAt s fourth
 
-  module _ (settings : RightRecord 1 (settingsRight version1) s 0 8) (triangles : RightRecord 2 (whole 36) s 14 size₂) (order : RightRecord 3 (exactly size₃) s (20 + size₂) size₃) where
+  module _ (settings : RightRecord 1 (settingsRight version1) s 0 8) (triangles : RightRecord 2 (whole 36) s 14 size₂)
+      (order : RightRecord 3 (exactly size₃) s (20 + size₂) size₃) where
     by-end : RightRecord 4 (whole 30) s fourth size₄ → (b : Bool) → eqb (fourth + 6 + size₄) (length s) ≡ b → Laid s
     by-end nodes true e =
         right (size₂ / 36) (size₄ / 30)
-        (reach-end (reach-on (reach-on (tree-wanted settings triangles) order) nodes) (eqb-true _ _ e) ∙ ap bodies (sym (image-spans size₂ size₄ (whole-size 36 triangles) (whole-size 30 nodes))))
+        (reach-end (reach-on (reach-on (tree-wanted settings triangles) order) nodes) (eqb-true _ _ e)
+        ∙ ap bodies (sym (image-spans size₂ size₄ (whole-size 36 triangles) (whole-size 30 nodes))))
     by-end nodes false e = off _ (reach-extra (reach-on (reach-on (tree-wanted settings triangles) order) nodes) (eqb-false _ _ e))
 
     by-nodes : (b : Bool) → isRight 4 (whole 30) s fourth ≡ b → Laid s
@@ -168,7 +178,8 @@ held-parts : (b : Bool) (first second : Settings) (t n t′ n′ : ℕ) → cond
 held-parts true first second t n t′ n′ e = (cc, cc, cc)
 held-parts false first second t n t′ n′ e = absurd (never-held 6 0 t n second e)
 
-read-laid : (s : List ℕ) (r : Rooms) (settings : Settings) (t n : ℕ) → imageRead version1 s r ≡ holds settings t n → laidOut (imageWants version1) s 0 ≡ bodies (imageSpans version1 t n)
+read-laid : (s : List ℕ) (r : Rooms) (settings : Settings) (t n : ℕ) → imageRead version1 s r ≡ holds settings t n
+    → laidOut (imageWants version1) s 0 ≡ bodies (imageSpans version1 t n)
 unfolding imageRead imageSpans
 read-laid s r settings t n e = go (laid s)
   where

@@ -53,13 +53,15 @@ module _ {A : Type 0} (P : A → Type 0) where
 
 -- ---- the links: a kind, and entries of the order list or nodes
 -- no link reaches a bound on the tree's nodes and entries, so links fit their bytes
-pub links-below : (most node entry : ℕ) (t : Tree) → 2 < most → node + nodeCount t ≤ most → entry + length (numbers t) < most → Each (λ (n : ℕ). n < most) (linksFrom node entry t)
+pub links-below : (most node entry : ℕ) (t : Tree) → 2 < most → node + nodeCount t ≤ most → entry + length (numbers t) < most
+    → Each (λ (n : ℕ). n < most) (linksFrom node entry t)
 unfolding linksFrom nodeCount numbers
 links-below most node entry (leaf slice) two nodes entries = (omega arith, (omega arith, (entries, tt)))
 links-below most node entry (branch l r) two nodes entries =
     let long : length (numbers l ++ numbers r) ≡ length (numbers l) + length (numbers r) = length-append (numbers l) (numbers r) in
     each-append (λ (n : ℕ). n < most) (linksFrom node entry l ++ linksFrom (node + nodeCount l) (entry + length (numbers l)) r) _
-    (each-append (λ (n : ℕ). n < most) (linksFrom node entry l) _ (links-below most node entry l two (omega arith) (omega arith)) (links-below most (node + nodeCount l) (entry + length (numbers l)) r two (omega arith) (omega arith)))
+    (each-append (λ (n : ℕ). n < most) (linksFrom node entry l) _ (links-below most node entry l two (omega arith) (omega arith))
+    (links-below most (node + nodeCount l) (entry + length (numbers l)) r two (omega arith) (omega arith)))
     (two, (omega (arith, root-last node l), (omega (arith, root-last (node + nodeCount l) r), tt)))
 
 -- ---- the boxes: those of the triangles, joined
@@ -95,5 +97,6 @@ module _ (f : Format) (boxAt : ℕ → Box) where
   boxes-plain (leaf slice) some h = six-plain _ (joined-plain slice some h)
   boxes-plain (branch l r) some h =
       each-append (Plain f) (boxesOf boxAt l ++ boxesOf boxAt r) _
-      (each-append (Plain f) (boxesOf boxAt l) (boxesOf boxAt r) (boxes-plain l (some .0) (each-front _ (numbers l) (numbers r) h)) (boxes-plain r (some .1) (each-behind _ (numbers l) (numbers r) h)))
+      (each-append (Plain f) (boxesOf boxAt l) (boxesOf boxAt r) (boxes-plain l (some .0) (each-front _ (numbers l) (numbers r) h))
+      (boxes-plain r (some .1) (each-behind _ (numbers l) (numbers r) h)))
       (six-plain _ (over-plain (branch l r) some h))

@@ -24,14 +24,16 @@ written-then : (s : List ℕ) (at m n next : ℕ) (a b : List ℕ) → next ≡ 
 written-then s at m n next a b e p q = rw (p, q, e) (slice-then s at m n)
 
 module _ (s : List ℕ) (ok : Bytes s) where
-  record-written : (kind size at : ℕ) (body : List ℕ) → sizeAt s at ≡ size → littleAt 2 s (at + 4) ≡ kind → body ≡ slice s (at + 6) size → at + 6 + size ≤ length s
+  record-written : (kind size at : ℕ) (body : List ℕ) → sizeAt s at ≡ size → littleAt 2 s (at + 4) ≡ kind → body ≡ slice s (at + 6) size
+      → at + 6 + size ≤ length s
       → recordOf kind body ≡ slice s at (6 + size)
   unfolding recordOf header
   record-written kind size at body e k b room =
       let long : length body ≡ size = ap length b ∙ length-slice s (at + 6) size room in
       let first : little 4 (length body) ≡ slice s at 4 = ap (little 4) (long ∙ sym e) ∙ number-back 4 s at ok (omega arith) in
       let second : little 2 kind ≡ slice s (at + 4) 2 = ap (little 2) (sym k) ∙ number-back 2 s (at + 4) ok (omega arith) in
-      written-then s at 6 size (at + 6) (little 4 (length body) ++ little 2 kind) body refl (written-then s at 4 2 (at + 4) (little 4 (length body)) (little 2 kind) refl first second) b
+      written-then s at 6 size (at + 6) (little 4 (length body) ++ little 2 kind) body refl
+      (written-then s at 4 2 (at + 4) (little 4 (length body)) (little 2 kind) refl first second) b
 
   settings-written : (sh : Shape) → littleAt 2 s 6 ≡ sh .version → 14 ≤ length s → settingsBytes sh (settingsIn s) ≡ slice s 6 8
   unfolding settingsBytes settingsIn
@@ -72,7 +74,8 @@ module _ (s : List ℕ) (ok : Bytes s) where
           let long : length links ≡ 3 * n = length-concatMap (linksIn sh s start) 3 n (length-links sh s start) in
           let here : length (linksIn sh s start i) ≡ 3 = length-links sh s start i in
           subst (Remaining links (3 * i)) (append-assoc kind sides rest)
-          (remaining-slice links (3 * i) (linksIn sh s start i) (omega arith) (ap (slice links (3 * i)) here ∙ slice-concatMap (linksIn sh s start) 3 n i (length-links sh s start) l))
+          (remaining-slice links (3 * i) (linksIn sh s start i) (omega arith)
+          (ap (slice links (3 * i)) here ∙ slice-concatMap (linksIn sh s start) 3 n i (length-links sh s start) l))
 
       kind-written : numberBytes 2 links (3 * i) 1 ≡ slice s at 2
       kind-written =
@@ -82,7 +85,8 @@ module _ (s : List ℕ) (ok : Bytes s) where
       sides-written : numberBytes (sh .entry) links (3 * i + 1) 2 ≡ slice s (at + 2) (sh .entry * 2)
       sides-written =
           let back : Remaining links (3 * i + 1) (sides ++ rest) = remaining-on 1 links (3 * i) kind _ (length-singles _ 1) links-remaining in
-          let e : slice links (3 * i + 1) 2 ≡ sides = ap (slice links (3 * i + 1)) (sym (length-singles _ 2)) ∙ remaining-front links (3 * i + 1) sides _ back in
+          let e : slice links (3 * i + 1) 2 ≡ sides = ap (slice links (3 * i + 1)) (sym (length-singles _ 2))
+          ∙ remaining-front links (3 * i + 1) sides _ back in
           numbers-written (sh .entry) links (3 * i + 1) s (at + 2) 2 ok (omega (arith, within)) e
 
       box-written : floatBytes (sh .float) boxes (6 * i) 6 ≡ slice s (at + (2 + 2 * sh .entry)) (floatSize (sh .float) * 6)
@@ -97,7 +101,8 @@ module _ (s : List ℕ) (ok : Bytes s) where
       node-written =
           let size : 2 + sh .entry * 2 + floatSize (sh .float) * 6 ≡ nodeSize sh = omega arith in
           let place : at + (2 + 2 * sh .entry) ≡ at + (2 + sh .entry * 2) = omega arith in
-          written-then s at (2 + sh .entry * 2) (floatSize (sh .float) * 6) (at + (2 + 2 * sh .entry)) _ _ place (written-then s at 2 (sh .entry * 2) (at + 2) _ _ refl kind-written sides-written) box-written
+          written-then s at (2 + sh .entry * 2) (floatSize (sh .float) * 6) (at + (2 + 2 * sh .entry)) _ _ place
+          (written-then s at 2 (sh .entry * 2) (at + 2) _ _ refl kind-written sides-written) box-written
           ∙ ap (slice s at) size
 
   -- an image that is right, and whose floats are numbers, is what is written of what was read
@@ -111,19 +116,24 @@ module _ (s : List ℕ) (ok : Bytes s) where
       let long : imageSize sh t n ≡ length s = is .long in
       let all : List Float = floatsIn (sh .float) s 20 (9 * t) in
       let size₂ : floatSize (sh .float) * (9 * t) ≡ triangleSize sh * t = omega arith in
-      let r₁ : recordOf 1 (settingsBytes sh (settingsIn s)) ≡ slice s 0 14 = record-written 1 8 0 _ (is .size1) (is .kind1) (settings-written sh (is .version) (omega arith)) (omega arith) in
+      let r₁ : recordOf 1 (settingsBytes sh (settingsIn s)) ≡ slice s 0 14 =
+      record-written 1 8 0 _ (is .size1) (is .kind1) (settings-written sh (is .version) (omega arith)) (omega arith) in
       let l₂ : length all ≡ 9 * t = length-singles _ (9 * t) in
       let f₂ : floatBytes (sh .float) all 0 (9 * t) ≡ slice s 20 (triangleSize sh * t) =
-      floats-written (sh .float) all 0 s 20 (9 * t) ok (omega arith) (λ i l. corners i (omega arith)) (ap (slice all 0) (sym l₂) ∙ take-length all) ∙ ap (slice s 20) size₂ in
-      let r₂ : recordOf 2 (floatBytes (sh .float) all 0 (9 * t)) ≡ slice s 14 (6 + triangleSize sh * t) = record-written 2 (triangleSize sh * t) 14 _ (is .size2) (is .kind2) f₂ (omega arith) in
+      floats-written (sh .float) all 0 s 20 (9 * t) ok (omega arith) (λ i l. corners i (omega arith)) (ap (slice all 0) (sym l₂) ∙ take-length all)
+      ∙ ap (slice s 20) size₂ in
+      let r₂ : recordOf 2 (floatBytes (sh .float) all 0 (9 * t)) ≡ slice s 14 (6 + triangleSize sh * t) =
+      record-written 2 (triangleSize sh * t) 14 _ (is .size2) (is .kind2) f₂ (omega arith) in
       let order : List ℕ = numbersIn (sh .entry) s (orderStart sh t) t in
       let l₃ : length order ≡ t = length-singles _ t in
       let f₃ : numberBytes (sh .entry) order 0 t ≡ slice s (orderStart sh t) (sh .entry * t) =
       numbers-written (sh .entry) order 0 s (orderStart sh t) t ok (omega arith) (ap (slice order 0) (sym l₃) ∙ take-length order) in
-      let r₃ : recordOf 3 (numberBytes (sh .entry) order 0 t) ≡ slice s third (6 + sh .entry * t) = record-written 3 (sh .entry * t) third _ (is .size3) (is .kind3) f₃ (omega arith) in
+      let r₃ : recordOf 3 (numberBytes (sh .entry) order 0 t) ≡ slice s third (6 + sh .entry * t) =
+      record-written 3 (sh .entry * t) third _ (is .size3) (is .kind3) f₃ (omega arith) in
       let nodes : List ℕ = concatMap (nodeBytes sh (concatMap (linksIn sh s (nodesStart sh t)) n) (concatMap (sidesIn sh s (nodesStart sh t)) n)) n in
       let f₄ : nodes ≡ slice s (nodesStart sh t) (nodeSize sh * n) =
-      concatMap-same _ (λ i. slice s (nodesStart sh t + nodeSize sh * i) (nodeSize sh)) n (node-written sh (nodesStart sh t) n (omega arith) bounds) ∙ concatMap-slices-at (nodeSize sh) s (nodesStart sh t) n in
+      concatMap-same _ (λ i. slice s (nodesStart sh t + nodeSize sh * i) (nodeSize sh)) n (node-written sh (nodesStart sh t) n (omega arith) bounds)
+      ∙ concatMap-slices-at (nodeSize sh) s (nodesStart sh t) n in
       let r₄ : recordOf 4 nodes ≡ slice s fourth (6 + nodeSize sh * n) = record-written 4 (nodeSize sh * n) fourth _ (is .size4) (is .kind4) f₄ (omega arith) in
       let whole : 14 + (6 + triangleSize sh * t) + (6 + sh .entry * t) + (6 + nodeSize sh * n) ≡ length s = omega arith in
       let two = written-then s 0 14 (6 + triangleSize sh * t) 14 _ _ refl r₁ r₂ in

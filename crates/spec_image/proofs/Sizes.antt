@@ -31,7 +31,8 @@ length-settings sh x = simp (length-append, length-little)
 pub length-node : (sh : Shape) (links : List ℕ) (boxes : List Float) (i : ℕ) → length (nodeBytes sh links boxes i) ≡ nodeSize sh
 unfolding nodeBytes
 length-node sh links boxes i =
-    simp (length-append, length-numbers 2 links (3 * i) 1, length-numbers (sh .entry) links (3 * i + 1) 2, length-floats (sh .float) boxes (6 * i) 6) (omega arith)
+    simp (length-append, length-numbers 2 links (3 * i) 1, length-numbers (sh .entry) links (3 * i + 1) 2, length-floats (sh .float) boxes (6 * i) 6)
+    (omega arith)
 
 module _ (sh : Shape) (x : Image) where
   nine : (w n t : ℕ) → n ≡ 9 * t → w * n ≡ 9 * w * t
@@ -40,7 +41,8 @@ module _ (sh : Shape) (x : Image) where
   -- the body of the triangles is as long as the layout wants it
   pub length-triangles : Complete x → length (trianglesBody sh x) ≡ triangleSize sh * length (x .order)
   length-triangles ok =
-      length-floats (sh .float) (x .triangles) 0 (length (x .triangles)) ∙ nine (floatSize (sh .float)) (length (x .triangles)) (length (x .order)) (ok .triples)
+      length-floats (sh .float) (x .triangles) 0 (length (x .triangles))
+      ∙ nine (floatSize (sh .float)) (length (x .triangles)) (length (x .order)) (ok .triples)
 
   -- the body of the order is as long as the layout wants it
   pub length-order : length (orderBody sh x) ≡ sh .entry * length (x .order)
@@ -81,7 +83,8 @@ image-is sh s t n e =
     record {
       size1 = a .right .sized;
       kind1 = record-kind 1 s 0 (a .right .there);
-      version = sym (number-slice 2 s 6 8 two) ∙ eqb-true _ _ (both (exactly 8 (slice s 6 8)) (eqb (littleAt 2 (slice s 6 8) 0) (sh .version)) (a .right .passes) .1);
+      version =
+          sym (number-slice 2 s 6 8 two) ∙ eqb-true _ _ (both (exactly 8 (slice s 6 8)) (eqb (littleAt 2 (slice s 6 8) 0) (sh .version)) (a .right .passes) .1);
       size2 = b .right .sized;
       kind2 = record-kind 2 s 14 (b .right .there);
       size3 = c .right .sized;

@@ -21,16 +21,22 @@ numbers-same : (w n : ℕ) (l l′ : List ℕ) (from m : ℕ) → take n l ≡ t
 numbers-same w n l l′ from m e h = concatMap-same _ _ m (λ i k. ap (little w) (same-getD 0 n (from + i) l l′ e (omega arith)))
 
 floats-same : (f : Format) (n : ℕ) (l l′ : List Float) (from m : ℕ) → take n l ≡ take n l′ → from + m ≤ n → floatBytes f l from m ≡ floatBytes f l′ from m
-floats-same f n l l′ from m e h = concatMap-same _ _ m (λ i k. ap (λ (x : Float). little (floatSize f) (toBits f x)) (same-getD nan n (from + i) l l′ e (omega arith)))
+floats-same f n l l′ from m e h =
+    concatMap-same _ _ m (λ i k. ap (λ (x : Float). little (floatSize f) (toBits f x)) (same-getD nan n (from + i) l l′ e (omega arith)))
 
 node-same : (sh : Shape) (n i : ℕ) (l l′ : List ℕ) (b b′ : List Float) → take (3 * n) l ≡ take (3 * n) l′ → take (6 * n) b ≡ take (6 * n) b′ → i < n
     → nodeBytes sh l b i ≡ nodeBytes sh l′ b′ i
 unfolding nodeBytes
 node-same sh n i l l′ b b′ e f h =
-    rw (numbers-same 2 (3 * n) l l′ (3 * i) 1 e (omega arith), numbers-same (sh .entry) (3 * n) l l′ (3 * i + 1) 2 e (omega arith), floats-same (sh .float) (6 * n) b b′ (6 * i) 6 f (omega arith))
+    rw (
+      numbers-same 2 (3 * n) l l′ (3 * i) 1 e (omega arith),
+      numbers-same (sh .entry) (3 * n) l l′ (3 * i + 1) 2 e (omega arith),
+      floats-same (sh .float) (6 * n) b b′ (6 * i) 6 f (omega arith),
+    )
 
 -- images that agree on the nodes are written as the same bytes
-pub image-used : (sh : Shape) (x : Image) (l : List ℕ) (b : List Float) → take (3 * x .nodes) l ≡ take (3 * x .nodes) (x .links) → take (6 * x .nodes) b ≡ take (6 * x .nodes) (x .boxes)
+pub image-used : (sh : Shape) (x : Image) (l : List ℕ) (b : List Float) → take (3 * x .nodes) l ≡ take (3 * x .nodes) (x .links)
+    → take (6 * x .nodes) b ≡ take (6 * x .nodes) (x .boxes)
     → imageBytes sh (record { settings = x .settings; triangles = x .triangles; order = x .order; nodes = x .nodes; links = l; boxes = b }) ≡ imageBytes sh x
 unfolding imageBytes
 image-used sh x l b e f =

@@ -74,7 +74,8 @@ module _ (sh : Shape) (x : Image) (given : ℕ) where
   unfolding writeRefusal treeRefusal
   write-passed e =
       let p = all-pass _ e in
-      let listed = accepted-listed (boxAt (x .triangles)) (triangleCount (x .triangles)) (x .order) (x .links) (x .boxes) (x .nodes) (so isTree 7 0 (p .1 .1 .1 .0)) in (
+      let listed = accepted-listed (boxAt (x .triangles)) (triangleCount (x .triangles)) (x .order) (x .links) (x .boxes) (x .nodes)
+      (so isTree 7 0 (p .1 .1 .1 .0)) in (
         record {
           triangles = triangles-passed (x .triangles) (p .0);
           settings = settings-passed (x .settings) (p .1 .0);
@@ -88,5 +89,7 @@ module _ (sh : Shape) (x : Image) (given : ℕ) where
   pub write-passes : Good x → exactSize sh x ≤ given → writeRefusal sh x given ≡ passes
   unfolding writeRefusal treeRefusal
   write-passes g room =
-      let yes : isTree ≡ true = listed-accepted (boxAt (x .triangles)) (triangleCount (x .triangles)) (x .order) (x .links) (x .boxes) (x .nodes) (g .tree) (g .listing) in
-      then-passes _ (triangles-pass (x .triangles) (g .triangles), (settings-pass (x .settings) (g .settings), (room-passes given (exactSize sh x) room, (rw yes, tt))))
+      let yes : isTree ≡ true =
+      listed-accepted (boxAt (x .triangles)) (triangleCount (x .triangles)) (x .order) (x .links) (x .boxes) (x .nodes) (g .tree) (g .listing) in
+      then-passes _
+      (triangles-pass (x .triangles) (g .triangles), (settings-pass (x .settings) (g .settings), (room-passes given (exactSize sh x) room, (rw yes, tt))))

@@ -34,14 +34,16 @@ pub record RecordRemaining (kind : ℕ) (body : List ℕ) (size : ℕ) (s : List
   pub stands : slice s (at + 6) size ≡ body
   pub onward : Remaining s (at + 6 + size) rest
 
-record-remaining : (kind : ℕ) (body : List ℕ) (size : ℕ) (s : List ℕ) (at : ℕ) (rest : List ℕ) → kind < 256 ^ 2 → size < 256 ^ 4 → length body ≡ size → Remaining s at (recordOf kind body ++ rest)
+record-remaining : (kind : ℕ) (body : List ℕ) (size : ℕ) (s : List ℕ) (at : ℕ) (rest : List ℕ) → kind < 256 ^ 2 → size < 256 ^ 4 → length body ≡ size
+    → Remaining s at (recordOf kind body ++ rest)
     → RecordRemaining kind body size s at rest
 unfolding recordOf header
 record-remaining kind body size s at rest k l long h =
     let h₀ : Remaining s at (little 4 (length body) ++ (little 2 kind ++ (body ++ rest))) = subst (Remaining s at) (simp append-assoc) h in
     let sized : sizeAt s at ≡ size = number-remaining 4 (length body) s at _ (omega arith) h₀ ∙ long in
     let h₁ : Remaining s (at + 4) (little 2 kind ++ (body ++ rest)) = remaining-on 4 s at (little 4 (length body)) _ (length-little 4 (length body)) h₀ in
-    let h₂ : Remaining s (at + 6) (body ++ rest) = subst (λ (n : ℕ). Remaining s n (body ++ rest)) (add-assoc at 4 2) (remaining-on 2 s (at + 4) (little 2 kind) _ (length-little 2 kind) h₁) in
+    let h₂ : Remaining s (at + 6) (body ++ rest) = subst (λ (n : ℕ). Remaining s n (body ++ rest)) (add-assoc at 4 2)
+    (remaining-on 2 s (at + 4) (little 2 kind) _ (length-little 2 kind) h₁) in
     let h₃ : Remaining s (at + 6 + size) rest = remaining-on size s (at + 6) body rest long h₂ in
     record {
       there = record-there kind s at (omega (arith, h₃ .within)) (number-remaining 2 kind s (at + 4) _ k h₁);
@@ -51,7 +53,8 @@ record-remaining kind body size s at rest k l long h =
       onward = h₃;
     }
 
-right : {kind : ℕ} {body : List ℕ} {size : ℕ} {s : List ℕ} {at : ℕ} {rest : List ℕ} (test : List ℕ → Bool) → RecordRemaining kind body size s at rest → test body ≡ true → RightRecord kind test s at size
+right : {kind : ℕ} {body : List ℕ} {size : ℕ} {s : List ℕ} {at : ℕ} {rest : List ℕ} (test : List ℕ → Bool) → RecordRemaining kind body size s at rest
+    → test body ≡ true → RightRecord kind test s at size
 right test r ok = record { there = r .there; sized = r .sized; passes = ap test (r .stands) ∙ ok }
 
 positive : (f : Format) → 0 < floatSize f
@@ -105,7 +108,9 @@ module _ (sh : Shape) (x : Image) (ok : Storable sh x) where
   settings-ok : settingsRight sh b₁ ≡ true
   unfolding settingsBytes
   settings-ok =
-      let front : Remaining b₁ 0 (little 2 (sh .version) ++ (little 2 (x .settings .strategy) ++ (little 2 (x .settings .leafMinimum) ++ little 2 (x .settings .maximumDepth)))) = subst (Remaining b₁ 0) (simp append-assoc) (remaining-whole b₁) in
+      let front : Remaining b₁ 0
+      (little 2 (sh .version) ++ (little 2 (x .settings .strategy) ++ (little 2 (x .settings .leafMinimum) ++ little 2 (x .settings .maximumDepth)))) =
+      subst (Remaining b₁ 0) (simp append-assoc) (remaining-whole b₁) in
       rw (length-settings sh (x .settings), number-remaining 2 (sh .version) b₁ 0 _ (ok .version) front, eq-eqb (sh .version) (sh .version) refl)
 
   triangles-ok : whole (triangleSize sh) b₂ ≡ true
@@ -123,7 +128,8 @@ module _ (sh : Shape) (x : Image) (ok : Storable sh x) where
   pub written-laid : laidOut (imageWants sh) s 0 ≡ bodies (imageSpans sh t (x .nodes))
   unfolding imageSpans
   written-laid =
-      let two = reach-on (reach-on (reach-start (imageWants sh) s) (right (settingsRight sh) first settings-ok)) (right (whole (triangleSize sh)) second triangles-ok) in
+      let two = reach-on (reach-on (reach-start (imageWants sh) s) (right (settingsRight sh) first settings-ok))
+      (right (whole (triangleSize sh)) second triangles-ok) in
       let wanted : ℕ = sh .entry * (length (slice s 20 (triangleSize sh * t)) / triangleSize sh) in
       let four = reach-on (reach-on two (right (exactly wanted) third order-ok)) (right (whole (nodeSize sh)) fourth nodes-ok) in
       reach-end four (omega (arith, remaining-within s _ [] (fourth .onward)))
@@ -177,7 +183,8 @@ module _ (sh : Shape) (x : Image) (ok : Storable sh x) where
     node-remaining =
         let sized : length (nodeBytes sh (x .links) (x .boxes) i) ≡ nodeSize sh = length-node sh (x .links) (x .boxes) i in
         let e : slice s at (nodeSize sh) ≡ nodeBytes sh (x .links) (x .boxes) i =
-        remaining-concatMap (nodeBytes sh (x .links) (x .boxes)) (nodeSize sh) (x .nodes) s (nodesStart sh t) [] (length-node sh (x .links) (x .boxes)) (fourth .inner) i l in
+        remaining-concatMap (nodeBytes sh (x .links) (x .boxes)) (nodeSize sh) (x .nodes) s (nodesStart sh t) [] (length-node sh (x .links) (x .boxes))
+        (fourth .inner) i l in
         let m : nodeSize sh * i + nodeSize sh ≤ nodeSize sh * x .nodes = piece-within (nodeSize sh) (x .nodes) i l in
         let room : at + length (nodeBytes sh (x .links) (x .boxes) i) ≤ length s = omega (arith, fourth .onward .within) in
         subst (Remaining s at) (simp append-assoc)
@@ -189,14 +196,16 @@ module _ (sh : Shape) (x : Image) (ok : Storable sh x) where
     box-remaining : Remaining s (at + (2 + 2 * sh .entry)) (box ++ rest)
     box-remaining =
         let e : at + 2 + sh .entry * 2 ≡ at + (2 + 2 * sh .entry) = omega arith in
-        subst (λ (n : ℕ). Remaining s n (box ++ rest)) e (remaining-on (sh .entry * 2) s (at + 2) sides _ (length-numbers (sh .entry) (x .links) (3 * i + 1) 2) sides-remaining)
+        subst (λ (n : ℕ). Remaining s n (box ++ rest)) e
+        (remaining-on (sh .entry * 2) s (at + 2) sides _ (length-numbers (sh .entry) (x .links) (3 * i + 1) 2) sides-remaining)
 
     links-back : linksIn sh s (nodesStart sh t) i ≡ slice (x .links) (3 * i) 3
     unfolding linksIn
     links-back =
         let room : 3 * i + 3 ≤ length (x .links) = omega (arith, ok .complete .linked) in
         let a : numbersIn 2 s at 1 ≡ slice (x .links) (3 * i) 1 = numbers-read 2 (x .links) (3 * i) 1 s at _ (ok .kinds i l) (omega arith) node-remaining in
-        let b : numbersIn (sh .entry) s (at + 2) 2 ≡ slice (x .links) (3 * i + 1) 2 = numbers-read (sh .entry) (x .links) (3 * i + 1) 2 s (at + 2) _ (ok .sides i l) (omega arith) sides-remaining in
+        let b : numbersIn (sh .entry) s (at + 2) 2 ≡ slice (x .links) (3 * i + 1) 2 =
+        numbers-read (sh .entry) (x .links) (3 * i + 1) 2 s (at + 2) _ (ok .sides i l) (omega arith) sides-remaining in
         rw (a, b, take-add 1 2 (drop (3 * i) (x .links)), drop-drop 1 (3 * i) (x .links))
 
     box-back : sidesIn sh s (nodesStart sh t) i ≡ slice (x .boxes) (6 * i) 6

@@ -17,7 +17,8 @@ exactSize sh x = imageSize sh (triangleCount (x .triangles)) (x .nodes)
 -- 1 to 7, into `given` bytes
 unfoldable pub writeRefusal : Shape → Image → (given : ℕ) → Verdict
 writeRefusal sh x given =
-    firstRefusal (trianglesRefusal (x .triangles) ∷ settingsRefusal (x .settings) ∷ roomRefusal given (exactSize sh x) ∷ treeRefusal (x .triangles) (x .order) (x .links) (x .boxes) (x .nodes) ∷ [])
+    firstRefusal (trianglesRefusal (x .triangles) ∷ settingsRefusal (x .settings) ∷ roomRefusal given (exactSize sh x)
+    ∷ treeRefusal (x .triangles) (x .order) (x .links) (x .boxes) (x .nodes) ∷ [])
 
 -- a refusal's number and place, or how many bytes were written
 pub data ImageWritten : Type 0 where

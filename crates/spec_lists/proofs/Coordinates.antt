@@ -61,7 +61,8 @@ first-bad-is-bad [] h = absurd (omega arith)
 first-bad-is-bad (x ∷ xs) h = go (isCoordinate x) (λ t. t) h (first-bad-is-bad xs)
   where
     go : (b : Bool) → (T (not b) → T (not (isCoordinate x))) → cond b (suc (firstBad xs)) 0 < suc (length xs)
-        → (firstBad xs < length xs → T (not (isCoordinate (getD xs (firstBad xs) nan)))) → T (not (isCoordinate (getD (x ∷ xs) (cond b (suc (firstBad xs)) 0) nan)))
+        → (firstBad xs < length xs → T (not (isCoordinate (getD xs (firstBad xs) nan))))
+        → T (not (isCoordinate (getD (x ∷ xs) (cond b (suc (firstBad xs)) 0) nan)))
     go true here h rest = rest (omega arith)
     go false here h rest = here tt
 

@@ -75,4 +75,5 @@ module _ (xs : List Float) (h : AllCoordinates xs) where
     -- every triangle that is read has a plain box, so that boxes may be joined in any order
     pub box-at-plain : (t : ℕ) → 9 * t + 9 ≤ length xs → PlainBox f (boxAt xs t)
     unfolding boxAt triangleAt
-    box-at-plain t k = box-plain f (triangleAt xs t) (point-plain (9 * t) (omega arith)) (point-plain (9 * t + 3) (omega arith)) (point-plain (9 * t + 6) (omega arith))
+    box-at-plain t k =
+        box-plain f (triangleAt xs t) (point-plain (9 * t) (omega arith)) (point-plain (9 * t + 3) (omega arith)) (point-plain (9 * t + 6) (omega arith))

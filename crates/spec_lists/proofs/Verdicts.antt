@@ -39,7 +39,8 @@ stops passes test tests b e r t = absurd (passed (sym r ∙ t))
 stops (refused n p) test tests b e r t = rw (← e)
 
 -- a test that passes leaves the answer to the rest of the row
-pub goes-on : (v test : Verdict) (tests : List Verdict) (b : Bool) (rest : Verdict) → v ≡ test → b ≡ refuses v → b ≡ false → rest ≡ firstRefusal tests → rest ≡ firstRefusal (test ∷ tests)
+pub goes-on : (v test : Verdict) (tests : List Verdict) (b : Bool) (rest : Verdict) → v ≡ test → b ≡ refuses v → b ≡ false → rest ≡ firstRefusal tests
+    → rest ≡ firstRefusal (test ∷ tests)
 unfolding firstRefusal
 goes-on passes test tests b rest e r t k = rw (← e) k
 goes-on (refused n p) test tests b rest e r t k = absurd (failed (sym r ∙ t))

@@ -50,7 +50,8 @@ equal-not-less x y h = le→not-lt y x (or-r (lt y x) (eq y x) (equal-symmetric 
 -- numbers are equal exactly where neither is below the other: a tie is where both tests fail
 pub equal-is : (x y : Float) → Number x → Number y → eq x y ≡ (not (lt x y) && not (lt y x))
 equal-is x y p q =
-    go (eq x y) (lt x y) (lt y x) (equal-not-less x y) (λ e. equal-not-less y x (equal-symmetric x y e)) (λ a b. antisymmetric x y (not-lt→le y x q p b) (not-lt→le x y p q a))
+    go (eq x y) (lt x y) (lt y x) (equal-not-less x y) (λ e. equal-not-less y x (equal-symmetric x y e))
+    (λ a b. antisymmetric x y (not-lt→le y x q p b) (not-lt→le x y p q a))
   where
     go : (e a b : Bool) → (T e → T (not a)) → (T e → T (not b)) → (T (not a) → T (not b) → T e) → e ≡ (not a && not b)
     go true true b h k l = absurd (h tt)

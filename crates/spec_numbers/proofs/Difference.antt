@@ -26,7 +26,8 @@ pub sub-number : (f : Format) (x p : Float) → T (finite x) → T (finite p) �
 unfolding sub
 sub-number f x p X P = add-number f x (neg p) X (neg-finite p P)
 
-sub-keeps-order : (f : Format) (x p y q : Float) → T (finite x) → T (finite p) → T (finite y) → T (finite q) → T (le x y) → T (le q p) → T (le (sub f x p) (sub f y q))
+sub-keeps-order : (f : Format) (x p y q : Float) → T (finite x) → T (finite p) → T (finite y) → T (finite q) → T (le x y) → T (le q p)
+    → T (le (sub f x p) (sub f y q))
 unfolding sub
 sub-keeps-order f x p y q X P Y Q h k = finite-add-keeps-order f x (neg p) y (neg q) X (neg-finite p P) Y (neg-finite q Q) h (neg-reverses q p k)
 

@@ -45,7 +45,8 @@ by-value f (fin t n d) s m e h k v =
 
 -- rounding does not change what the format holds exactly
 pub rounds-to-itself : (f : Format) (s : Bool) (m : ℕ) (e : ℤ) → T (fits f (fin s (suc m) e)) → round f s (suc m * up e) (down e) ≡ fin s (suc m) e
-rounds-to-itself f s m e h = by-value f (round f s (suc m * up e) (down e)) s (suc m) e (round-fits f s (suc m * up e) (down e)) h (kept-whole f s (suc m) e (normal f s m e h))
+rounds-to-itself f s m e h =
+    by-value f (round f s (suc m * up e) (down e)) s (suc m) e (round-fits f s (suc m * up e) (down e)) h (kept-whole f s (suc m) e (normal f s m e h))
 
 -- ---- x + 0
 zero-plus-zero : (f : Format) (s : Bool) → add f (fin s 0 (pos 0)) +0 ≡ +0

@@ -32,7 +32,8 @@ module _ (f : Format) where
       go : Dec (k < top) → m * 2 ^ k ≤ most * 2 ^ top
       go (yes h) = mul-le-mul (omega arith) (pow-mono (omega arith))
       go (no h) =
-          let split : 2 ^ k ≡ 2 ^ (k - top) * 2 ^ top = ap (λ (n : ℕ). 2 ^ n) (sym (sub-add-cancel {n = k} {m = top} (omega arith))) ∙ pow-add 2 (k - top) top in
+          let split : 2 ^ k ≡ 2 ^ (k - top) * 2 ^ top = ap (λ (n : ℕ). 2 ^ n) (sym (sub-add-cancel {n = k} {m = top} (omega arith)))
+          ∙ pow-add 2 (k - top) top in
           let spread : m * 2 ^ k ≡ m * 2 ^ (k - top) * 2 ^ top = ap (λ (n : ℕ). m * n) split ∙ sym (mul-assoc m (2 ^ (k - top)) (2 ^ top)) in
           let small : m * 2 ^ (k - top) < 2 ^ prec f = lt-of-mul-lt-mul-right (2 ^ top) (omega (arith, spread, overflow)) in
           rw spread (mul-le-mul-right (2 ^ top) (omega arith))

@@ -37,12 +37,15 @@ module _ (f : Format) (p : Axis → Float) (P : Finite p) where
   distance-number a A = number-right _ _ (distance-not-below a A)
 
   -- nearer on each axis is nearer
-  nearer-on-each : (a b : Axis → Float) → Finite a → ((i : Axis) → T (le (apart2 f (a i) (p i)) (apart2 f (b i) (p i)))) → T (le (distance2 f a p) (distance2 f b p))
+  nearer-on-each : (a b : Axis → Float) → Finite a → ((i : Axis) → T (le (apart2 f (a i) (p i)) (apart2 f (b i) (p i))))
+      → T (le (distance2 f a p) (distance2 f b p))
   nearer-on-each a b A h =
       let d : (i : Axis) → T (le zero (apart2 f (a i) (p i))) = λ i. apart-not-below f _ _ (A i) (P i) in
       sum-keeps-order f _ _ _ _ (sum-not-below f _ _ (d X) (d Y)) (d Z) (sum-keeps-order f _ _ _ _ (d X) (d Y) (h X) (h Y)) (h Z)
 
   -- of all points of a box, the query point held into it is nearest: no point in the box is closer than the box
-  pub held-is-nearest-of-three : (lo hi h : Axis → Float) → Finite lo → Finite hi → Finite h → Under lo h → Under h hi → T (le (distance2 f (λ i. held (lo i) (hi i) (p i)) p) (distance2 f h p))
+  pub held-is-nearest-of-three : (lo hi h : Axis → Float) → Finite lo → Finite hi → Finite h → Under lo h → Under h hi
+      → T (le (distance2 f (λ i. held (lo i) (hi i) (p i)) p) (distance2 f h p))
   held-is-nearest-of-three lo hi h L U H l k =
-      nearer-on-each (λ i. held (lo i) (hi i) (p i)) h (λ i. held-finite _ _ _ (L i) (U i) (P i)) (λ i. held-is-nearest f _ _ _ _ (L i) (U i) (P i) (H i) (l i) (k i))
+      nearer-on-each (λ i. held (lo i) (hi i) (p i)) h (λ i. held-finite _ _ _ (L i) (U i) (P i))
+      (λ i. held-is-nearest f _ _ _ _ (L i) (U i) (P i) (H i) (l i) (k i))

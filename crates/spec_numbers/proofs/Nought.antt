@@ -29,9 +29,11 @@ unfolding le
 nought-by-order (inf false) h k = k
 nought-by-order (inf true) h k = h
 nought-by-order (fin false zero e) h k = refl
-nought-by-order (fin false (suc m) e) h k = absurd (omega (arith, compared (fin false (suc m) e) Values.zero tt tt .le→at-most k, mul-pos (zero-lt-suc m) (up-pos e)))
+nought-by-order (fin false (suc m) e) h k =
+    absurd (omega (arith, compared (fin false (suc m) e) Values.zero tt tt .le→at-most k, mul-pos (zero-lt-suc m) (up-pos e)))
 nought-by-order (fin true zero e) h k = refl
-nought-by-order (fin true (suc m) e) h k = absurd (omega (arith, compared Values.zero (fin true (suc m) e) tt tt .le→at-most h, mul-pos (zero-lt-suc m) (up-pos e)))
+nought-by-order (fin true (suc m) e) h k =
+    absurd (omega (arith, compared Values.zero (fin true (suc m) e) tt tt .le→at-most h, mul-pos (zero-lt-suc m) (up-pos e)))
 
 -- ---- a number's difference with itself
 -- it is a zero where the number is finite, and else a NaN

@@ -65,7 +65,8 @@ transitive (fin s m e) (fin t n d) (fin u o c) h k =
     let x = fin s m e in
     let y = fin t n d in
     let z = fin u o c in
-    compared x z tt tt .at-most→le (at-most-transitive (value x) (value y) (value z) (down-pos d) (compared x y tt tt .le→at-most h) (compared y z tt tt .le→at-most k))
+    compared x z tt tt .at-most→le
+    (at-most-transitive (value x) (value y) (value z) (down-pos d) (compared x y tt tt .le→at-most h) (compared y z tt tt .le→at-most k))
 
 -- ---- `lt` is the strict part of `le`
 -- a strict comparison is a comparison
@@ -117,11 +118,13 @@ antisymmetric x y h k = or-elim (lt x y) (eq x y) (λ (l : T (lt x y)). absurd (
 
 -- a strict comparison stays strict with a weak one behind it
 pub lt-le-transitive : (x y z : Float) → T (lt x y) → T (le y z) → T (lt x z)
-lt-le-transitive x y z h k = elim (lt-or-le x z (number-left _ _ (lt→le _ _ h)) (number-right _ _ k)) [ inl l ↦ l | inr l ↦ absurd (lt→not-le _ _ h (transitive _ _ _ k l)) ]
+lt-le-transitive x y z h k =
+    elim (lt-or-le x z (number-left _ _ (lt→le _ _ h)) (number-right _ _ k)) [ inl l ↦ l | inr l ↦ absurd (lt→not-le _ _ h (transitive _ _ _ k l)) ]
 
 -- a strict comparison stays strict with a weak one in front of it
 pub le-lt-transitive : (x y z : Float) → T (le x y) → T (lt y z) → T (lt x z)
-le-lt-transitive x y z h k = elim (lt-or-le x z (number-left _ _ h) (number-right _ _ (lt→le _ _ k))) [ inl l ↦ l | inr l ↦ absurd (lt→not-le _ _ k (transitive _ _ _ l h)) ]
+le-lt-transitive x y z h k =
+    elim (lt-or-le x z (number-left _ _ h) (number-right _ _ (lt→le _ _ k))) [ inl l ↦ l | inr l ↦ absurd (lt→not-le _ _ k (transitive _ _ _ l h)) ]
 
 -- ---- a range test
 -- what lies between finite floats is finite: a range test keeps out infinities and NaNs

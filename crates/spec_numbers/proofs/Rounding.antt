@@ -23,7 +23,8 @@ neg-reverses (inf true) (inf false) h = tt
 neg-reverses (inf false) (inf false) h = tt
 neg-reverses (inf true) (fin t n d) h = tt
 neg-reverses (fin s m e) (inf false) h = tt
-neg-reverses (fin s m e) (fin t n d) h = compared (fin (not t) n d) (fin (not s) m e) tt tt .at-most→le (turned s t (compared (fin s m e) (fin t n d) tt tt .le→at-most h))
+neg-reverses (fin s m e) (fin t n d) h =
+    compared (fin (not t) n d) (fin (not s) m e) tt tt .at-most→le (turned s t (compared (fin s m e) (fin t n d) tt tt .le→at-most h))
   where
     turned : (s t : Bool) → AtMost (value (fin s m e)) (value (fin t n d)) → AtMost (value (fin (not t) n d)) (value (fin (not s) m e))
     turned false false k = omega arith
@@ -74,7 +75,8 @@ module _ (f : Format) (a c : ℕ) (C : 0 < c) where
   round-none-above z = rw (round-negated f a c) (transitive +0 (neg +0) (neg (round f false a c)) tt (neg-reverses (round f false a c) +0 (round-none-below z)))
 
 -- ---- the law
-signed-keeps-order : (f : Format) (s : Bool) (a c : ℕ) (t : Bool) (b d : ℕ) → 0 < c → 0 < d → AtMost (signed s a c) (signed t b d) → T (le (round f s a c) (round f t b d))
+signed-keeps-order : (f : Format) (s : Bool) (a c : ℕ) (t : Bool) (b d : ℕ) → 0 < c → 0 < d → AtMost (signed s a c) (signed t b d)
+    → T (le (round f s a c) (round f t b d))
 signed-keeps-order f false a c false b d C D h = round-mono f a c b d C D (omega arith)
 signed-keeps-order f false a c true b d C D h =
     transitive (round f false a c) +0 (round f true b d)

@@ -44,14 +44,17 @@ grows a c b d h =
 pub square-keeps-order : (f : Format) (x y : Float) → T (le (abs x) (abs y)) → T (le (mul f x x) (mul f y y))
 unfolding le
 square-keeps-order f (inf s) (inf t) h = rw (square-of-infinity f s, square-of-infinity f t) tt
-square-keeps-order f (fin s m e) (inf t) h = rw (square-of-infinity f t) (greatest (mul f (fin s m e) (fin s m e)) (square-number f (fin s m e) (finite-number (fin s m e) tt)))
+square-keeps-order f (fin s m e) (inf t) h =
+    rw (square-of-infinity f t) (greatest (mul f (fin s m e) (fin s m e)) (square-number f (fin s m e) (finite-number (fin s m e) tt)))
 square-keeps-order f (fin s m e) (fin t n d) h =
     rw (square-is f s m e, square-is f t n d)
-    (round-mono f (m * up e * (m * up e)) (down e * down e) (n * up d * (n * up d)) (down d * down d) (mul-pos (down-pos e) (down-pos e)) (mul-pos (down-pos d) (down-pos d))
+    (round-mono f (m * up e * (m * up e)) (down e * down e) (n * up d * (n * up d)) (down d * down d) (mul-pos (down-pos e) (down-pos e))
+    (mul-pos (down-pos d) (down-pos d))
     (grows (m * up e) (down e) (n * up d) (down d) (compared (fin false m e) (fin false n d) tt tt .le→at-most h)))
 
 -- ---- magnitudes grow away from zero, up and down
-sizes : (s : Bool) (a c : ℕ) (t : Bool) (b d : ℕ) → AtMost (signed false 0 1) (signed s a c) → AtMost (signed s a c) (signed t b d) → AtMost (signed false a c) (signed false b d)
+sizes : (s : Bool) (a c : ℕ) (t : Bool) (b d : ℕ) → AtMost (signed false 0 1) (signed s a c) → AtMost (signed s a c) (signed t b d)
+    → AtMost (signed false a c) (signed false b d)
 sizes false a c false b d h k = k
 sizes false a c true b d h k = omega arith
 sizes true a c false b d h k = let z : a ≤ 0 = omega arith in omega (arith, mul-le-mul-right d z)
@@ -74,4 +77,6 @@ abs-neg (fin s m e) = refl
 
 -- from zero downward the magnitude grows
 pub abs-grows-downward : (x y : Float) → T (le x zero) → T (le y x) → T (le (abs x) (abs y))
-abs-grows-downward x y h k = rw (abs-neg x, abs-neg y) at (abs-grows-upward (neg x) (neg y) (transitive zero (neg zero) (neg x) (unfold neg le in tt) (neg-reverses x zero h)) (neg-reverses y x k))
+abs-grows-downward x y h k =
+    rw (abs-neg x, abs-neg y) at (abs-grows-upward (neg x) (neg y) (transitive zero (neg zero) (neg x) (unfold neg le in
+    tt) (neg-reverses x zero h)) (neg-reverses y x k))

@@ -57,15 +57,18 @@ sum-rounds f true a false b c = go (ltb a b) (ltb b a) (ltb→lt a b) (nltb→le
 pub add-rounds : (f : Format) (x y : Float) → T (finite x) → T (finite y) → Rounded f (plus (value x) (value y)) (add f x y)
 unfolding add
 add-rounds f (fin s m e) (fin t n d) h k =
-    let r : Rounded f (exact s (m * up e * down d) t (n * up d * down e) (down e * down d)) (sum f s (m * up e * down d) t (n * up d * down e) (down e * down d)) =
+    let r : Rounded f (exact s (m * up e * down d) t (n * up d * down e) (down e * down d))
+    (sum f s (m * up e * down d) t (n * up d * down e) (down e * down d)) =
     sum-rounds f s (m * up e * down d) t (n * up d * down e) (down e * down d) in
     record { sign = r .sign; size = r .size; is = r .is; says = omega (arith, spread s (m * up e) (down d), spread t (n * up d) (down e), r .says) }
 
 -- ---- a sum grows with its terms
 -- larger terms make a sum that is no smaller, though it is rounded
-pub finite-add-keeps-order : (f : Format) (a b c d : Float) → T (finite a) → T (finite b) → T (finite c) → T (finite d) → T (le a c) → T (le b d) → T (le (add f a b) (add f c d))
+pub finite-add-keeps-order : (f : Format) (a b c d : Float) → T (finite a) → T (finite b) → T (finite c) → T (finite d) → T (le a c) → T (le b d)
+    → T (le (add f a b) (add f c d))
 finite-add-keeps-order f a b c d A B C D h k =
-    rounding-keeps-order (mul-pos (den-above-zero a) (den-above-zero b)) (mul-pos (den-above-zero c) (den-above-zero d)) (add-rounds f a b A B) (add-rounds f c d C D)
+    rounding-keeps-order (mul-pos (den-above-zero a) (den-above-zero b)) (mul-pos (den-above-zero c) (den-above-zero d)) (add-rounds f a b A B)
+    (add-rounds f c d C D)
     (plus-keeps-order (value a) (value b) (value c) (value d) (compared a c A C .le→at-most h) (compared b d B D .le→at-most k))
 
 -- an infinity decides a sum that is no NaN
@@ -87,7 +90,8 @@ add-keeps-order f (fin s m g) b (inf false) d h k p q = rw (add-highest f d q) (
 add-keeps-order f (fin s m g) (inf true) (fin t n e) d h k p q = least (add f (fin t n e) d) q
 add-keeps-order f (fin s m g) (inf false) (fin t n e) (inf false) h k p q = tt
 add-keeps-order f (fin s m g) (fin r l j) (fin t n e) (inf false) h k p q = greatest (add f (fin s m g) (fin r l j)) p
-add-keeps-order f (fin s m g) (fin r l j) (fin t n e) (fin u o i) h k p q = finite-add-keeps-order f (fin s m g) (fin r l j) (fin t n e) (fin u o i) tt tt tt tt h k
+add-keeps-order f (fin s m g) (fin r l j) (fin t n e) (fin u o i) h k p q =
+    finite-add-keeps-order f (fin s m g) (fin r l j) (fin t n e) (fin u o i) tt tt tt tt h k
 
 -- a sum of finite floats is no NaN
 pub add-number : (f : Format) (x y : Float) → T (finite x) → T (finite y) → Number (add f x y)
@@ -112,4 +116,5 @@ zero-and-zero binary64 = refl
 
 -- a sum of terms that are not below zero is not below zero
 pub sum-not-below : (f : Format) (a b : Float) → T (le zero a) → T (le zero b) → T (le zero (add f a b))
-sum-not-below f a b h k = rw (zero-and-zero f) at (sum-keeps-order f zero zero a b (reflexive zero (finite-number zero tt)) (reflexive zero (finite-number zero tt)) h k)
+sum-not-below f a b h k =
+    rw (zero-and-zero f) at (sum-keeps-order f zero zero a b (reflexive zero (finite-number zero tt)) (reflexive zero (finite-number zero tt)) h k)

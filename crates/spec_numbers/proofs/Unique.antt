@@ -86,7 +86,8 @@ not-zero m u d h k e = omega (arith, mul-pos (mul-pos (zero-lt-suc m) h) k)
 
 -- ---- one value, one sign, one float
 -- finite floats of one value and one sign are the same data
-pub unique-finite : (f : Format) (s : Bool) (m : ℕ) (e : ℤ) (n : ℕ) (d : ℤ) → T (fits f (fin s m e)) → T (fits f (fin s n d)) → m * up e * down d ≡ n * up d * down e → fin s m e ≡ fin s n d
+pub unique-finite : (f : Format) (s : Bool) (m : ℕ) (e : ℤ) (n : ℕ) (d : ℤ) → T (fits f (fin s m e)) → T (fits f (fin s n d))
+    → m * up e * down d ≡ n * up d * down e → fin s m e ≡ fin s n d
 unique-finite f s zero e zero d h k v = ap (fin s zero) (zero-exponent f s e h ∙ sym (zero-exponent f s d k))
 unique-finite f s zero e (suc n) d h k v = absurd (not-zero n (up d) (down e) (up-pos d) (down-pos e) (sym v ∙ simp zero-mul))
 unique-finite f s (suc m) e zero d h k v = absurd (not-zero m (up e) (down d) (up-pos e) (down-pos d) (v ∙ simp zero-mul))
@@ -100,7 +101,8 @@ unfolding eq
 unique f (inf s) (inf t) h k e r = ap inf r
 unique f (fin s m e) (fin t n d) h k v r =
     subst (λ (u : Bool). T (fits f (fin u n d)) → fin s m e ≡ fin u n d) r
-    (λ k'. unique-finite f s m e n d h k' (eqb→eq (m * up e * down d) (n * up d * down e) (and-l (eqb (m * up e * down d) (n * up d * down e)) (Bool·beq s t || eqb (m * up e * down d) 0) v))) k
+    (λ k'. unique-finite f s m e n d h k'
+    (eqb→eq (m * up e * down d) (n * up d * down e) (and-l (eqb (m * up e * down d) (n * up d * down e)) (Bool·beq s t || eqb (m * up e * down d) 0) v))) k
 
 -- unlike signs are only those of zeros
 agree : (s : Bool) (a : ℕ) (t : Bool) (b : ℕ) → T (level s a t b) → (a ≡ 0 → ⊥) → s ≡ t
@@ -117,11 +119,13 @@ unfolding eq
 zero-equal s m e z =
     let a = m * up e * 1 in
     let b = 0 * down e in
-    and-i (eqb a b) (Bool·beq s false || eqb a 0) (eq→eqb {a = a} {b = b} (omega arith)) (or-r (Bool·beq s false) (eqb a 0) (eq→eqb {a = a} {b = 0} (omega arith)))
+    and-i (eqb a b) (Bool·beq s false || eqb a 0) (eq→eqb {a = a} {b = b} (omega arith))
+    (or-r (Bool·beq s false) (eqb a 0) (eq→eqb {a = a} {b = 0} (omega arith)))
 
 -- floats that compare equal have one sign, but for zeros
 pub signs-agree : (x y : Float) → T (eq x y) → T (not (eq x +0)) → negative x ≡ negative y
 unfolding eq
 signs-agree (inf true) (inf true) e n = refl
 signs-agree (inf false) (inf false) e n = refl
-signs-agree (fin s m e) (fin t n d) v z = agree s (m * up e * down d) t (n * up d * down e) v (λ a. T-not (eq (fin s m e) +0) z (zero-equal s m e (cancel (m * up e) (down d) (down-pos d) a)))
+signs-agree (fin s m e) (fin t n d) v z =
+    agree s (m * up e * down d) t (n * up d * down e) v (λ a. T-not (eq (fin s m e) +0) z (zero-equal s m e (cancel (m * up e) (down d) (down-pos d) a)))

@@ -24,15 +24,19 @@ module _ (base at count n : ℕ) (old : List ℕ) where
   back-start = record { tail = []; split = sym (append-nil _); filled = sym (overwrite-none (at + count) old); sized = add-zero count; long = refl }
 
   -- a turn of the loop writes the lowest digit of the rest in front of the others
-  pub back-more : (out : List ℕ) (remaining rest d less : ℕ) → at + count ≤ length old → remaining ≡ less + 1 → d ≡ digit (rest % base) → Backwards base at count n old out remaining rest
+  pub back-more : (out : List ℕ) (remaining rest d less : ℕ) → at + count ≤ length old → remaining ≡ less + 1 → d ≡ digit (rest % base)
+      → Backwards base at count n old out remaining rest
       → Backwards base at count n old (set out (at + less) d) less (rest / base)
   back-more out remaining rest d less room e f r =
       let place : at + remaining ≡ at + less + 1 = omega arith in
       let fit : at + less + 1 + length (r .tail) ≤ length old = omega (arith, r .sized) in
       record {
         tail = d ∷ r .tail;
-        split = r .split ∙ ap (λ (k : ℕ). digits base k rest ++ r .tail) e ∙ digits-split base less rest (r .tail) ∙ ap (λ (k : ℕ). digits base less (rest / base) ++ (k ∷ r .tail)) (sym f);
-        filled = ap (λ (l : List ℕ). set l (at + less) d) (r .filled ∙ ap (λ (k : ℕ). overwrite k (r .tail) old) place) ∙ set-before (at + less) d (r .tail) old fit;
+        split =
+            r .split ∙ ap (λ (k : ℕ). digits base k rest ++ r .tail) e ∙ digits-split base less rest (r .tail)
+            ∙ ap (λ (k : ℕ). digits base less (rest / base) ++ (k ∷ r .tail)) (sym f);
+        filled =
+            ap (λ (l : List ℕ). set l (at + less) d) (r .filled ∙ ap (λ (k : ℕ). overwrite k (r .tail) old) place) ∙ set-before (at + less) d (r .tail) old fit;
         sized = omega (arith, r .sized);
         long = length-set out (at + less) d ∙ r .long;
       }
@@ -46,7 +50,9 @@ module _ (base at count n : ℕ) (old : List ℕ) where
       let long : length (digits base count n) ≡ count = length-digits base count n in
       let all : digits base count n ≡ r .tail = r .split ∙ ap (λ (k : ℕ). digits base k rest ++ r .tail) z in
       record {
-        written = r .filled ∙ ap (λ (k : ℕ). overwrite (at + k) (r .tail) old) z ∙ ap (λ (k : ℕ). overwrite k (r .tail) old) (add-zero at) ∙ ap (λ (l : List ℕ). overwrite at l old) (sym all);
+        written =
+            r .filled ∙ ap (λ (k : ℕ). overwrite (at + k) (r .tail) old) z ∙ ap (λ (k : ℕ). overwrite k (r .tail) old) (add-zero at)
+            ∙ ap (λ (l : List ℕ). overwrite at l old) (sym all);
         behind = omega arith;
         within = room;
       }

@@ -76,7 +76,8 @@ width-bound k zero n h = omega arith
 width-bound zero (suc turns) n h = let l : n < 10 = h in rw (lt-ltb n 10 l) (omega arith)
 width-bound (suc k) (suc turns) n h =
     let m : n < 10 ^ suc k * 10 = rw pow-suc at h in
-    ⊎-elim (λ (l : n < 10). rw (lt-ltb n 10 l) (omega arith)) (λ (l : 10 ≤ n). rw (le-ltb n 10 l) (omega (arith, width-bound k turns (n / 10) (omega arith)))) (lt-or-ge n 10)
+    ⊎-elim (λ (l : n < 10). rw (lt-ltb n 10 l) (omega arith))
+    (λ (l : 10 ≤ n). rw (le-ltb n 10 l) (omega (arith, width-bound k turns (n / 10) (omega arith)))) (lt-or-ge n 10)
 
 -- a number of 64 bits has twenty digits at most
 pub width-most : (n : ℕ) → n < 2 ^ 64 → width n ≤ 20
@@ -106,7 +107,8 @@ width-enough : (turns n : ℕ) → n ≤ turns → n < 10 ^ widthIn turns n
 unfolding widthIn
 width-enough zero n h = omega arith
 width-enough (suc turns) n h =
-    ⊎-elim (λ (l : n < 10). rw (lt-ltb n 10 l) (omega arith)) (λ (l : 10 ≤ n). rw (le-ltb n 10 l, pow-suc) (omega (arith, width-enough turns (n / 10) (omega arith)))) (lt-or-ge n 10)
+    ⊎-elim (λ (l : n < 10). rw (lt-ltb n 10 l) (omega arith))
+    (λ (l : 10 ≤ n). rw (le-ltb n 10 l, pow-suc) (omega (arith, width-enough turns (n / 10) (omega arith)))) (lt-or-ge n 10)
 
 -- a number printed in decimal reads back
 pub decimal-back : (n : ℕ) → readOn 0 (decimal n) ≡ n

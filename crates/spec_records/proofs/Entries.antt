@@ -15,7 +15,8 @@ use Rattle.spec_records.specs.Entries.{floatSize, numberBytes, floatByte
 use Rattle.spec_records.proofs.Little.{length-little, little-back, number-back, number-below}
 
 -- an element of a slice that is known one by one
-element : {A : Type 0} (d : A) (xs : List A) (from n : ℕ) (g : ℕ → A) → slice xs from n ≡ concatMap (λ j. g j ∷ []) n → (i : ℕ) → i < n → getD xs (from + i) d ≡ g i
+element : {A : Type 0} (d : A) (xs : List A) (from n : ℕ) (g : ℕ → A) → slice xs from n ≡ concatMap (λ j. g j ∷ []) n → (i : ℕ) → i < n
+    → getD xs (from + i) d ≡ g i
 element {A} d xs from n g e i l = sym (getD-slice d xs from n i l) ∙ ap (λ (l : List A). getD l i d) e ∙ getD-concatMap d g n i l
 
 -- ---- numbers

@@ -61,7 +61,8 @@ version-decides sh s e =
 pub settings-right : (sh : Shape) (s : List ℕ) → isRight 1 (settingsRight sh) s 0 ≡ true → RightRecord 1 (settingsRight sh) s 0 8
 settings-right sh s e =
     let r = right-parts 1 (settingsRight sh) s 0 e in
-    let size = exactly-right 1 8 s 0 (both (isRight 1 (exactly 8) s 0) (eqb (littleAt 2 (bodyAt s 0) 0) (sh .version)) (sym (settings-are sh s) ∙ e) .0) .sized in
+    let size = exactly-right 1 8 s 0
+    (both (isRight 1 (exactly 8) s 0) (eqb (littleAt 2 (bodyAt s 0) 0) (sh .version)) (sym (settings-are sh s) ∙ e) .0) .sized in
     subst (RightRecord 1 (settingsRight sh) s 0) size r
 
 -- ---- past the triangles of an image
@@ -70,14 +71,16 @@ pub tree-wanted : {s : List ℕ} {size : ℕ} → RightRecord 1 (settingsRight v
     → Reached (imageWants version1) s (record { start = 6; size = 8 } ∷ record { start = 20; size = size } ∷ [])
     (one 3 (exactly (2 * (size / 36))) (λ _. one 4 (whole 30) (λ _. done))) (20 + size)
 tree-wanted {s} {size} settings triangles =
-    subst (λ (n : ℕ). Reached (imageWants version1) s (record { start = 6; size = 8 } ∷ record { start = 20; size = size } ∷ []) (one 3 (exactly (2 * (n / 36))) (λ _. one 4 (whole 30) (λ _. done))) (20 + size)) (body-long triangles)
+    subst (λ (n : ℕ). Reached (imageWants version1) s (record { start = 6; size = 8 } ∷ record { start = 20; size = size } ∷ [])
+    (one 3 (exactly (2 * (n / 36))) (λ _. one 4 (whole 30) (λ _. done))) (20 + size)) (body-long triangles)
     (reach-on (reach-on (reach-start (imageWants version1) s) settings) triangles)
 
 -- ---- the bodies by the counts
 -- the bodies of an image, by the sizes in its headers, are where its triangle and node counts put them
 pub image-spans : (triangles nodes : ℕ) → triangles % 36 ≡ 0 → nodes % 30 ≡ 0
     → imageSpans version1 (triangles / 36) (nodes / 30)
-    ≡ record { start = 6; size = 8 } ∷ record { start = 20; size = triangles } ∷ record { start = 20 + triangles + 6; size = 2 * (triangles / 36) } ∷ record { start = 20 + triangles + 6 + 2 * (triangles / 36) + 6; size = nodes } ∷ []
+    ≡ record { start = 6; size = 8 } ∷ record { start = 20; size = triangles } ∷ record { start = 20 + triangles + 6; size = 2 * (triangles / 36) }
+    ∷ record { start = 20 + triangles + 6 + 2 * (triangles / 36) + 6; size = nodes } ∷ []
 unfolding imageSpans
 image-spans triangles nodes a b =
     let e : 36 * (triangles / 36) ≡ triangles = omega arith in
@@ -87,7 +90,8 @@ image-spans triangles nodes a b =
 -- the bodies of gauge's input, by the sizes in its headers, are where its triangle and point counts put them
 pub gauge-spans : (triangles points : ℕ) → triangles % 36 ≡ 0 → points % 12 ≡ 0
     → gaugeSpans (triangles / 36) (points / 12)
-    ≡ record { start = 6; size = 8 } ∷ record { start = 20; size = triangles } ∷ record { start = 20 + triangles + 6; size = points } ∷ record { start = 20 + triangles + 6 + points + 6; size = 4 } ∷ []
+    ≡ record { start = 6; size = 8 } ∷ record { start = 20; size = triangles } ∷ record { start = 20 + triangles + 6; size = points }
+    ∷ record { start = 20 + triangles + 6 + points + 6; size = 4 } ∷ []
 unfolding gaugeSpans
 gauge-spans triangles points a b =
     let e : 36 * (triangles / 36) ≡ triangles = omega arith in

@@ -121,7 +121,8 @@ two-put n at old room =
     (put-then (put-store at (n % 256) old (omega arith)) (put-store (at + 1) (n / 256 % 256) (set old at (n % 256)) inside))
 
 -- code puts four bytes as two and two
-pub four-put : (n : ℕ) {at middle next : ℕ} {old mid out : List ℕ} → Put at (little 2 n) old mid middle → Put middle (little 2 (n / 65536)) mid out next → Put at (little 4 n) old out next
+pub four-put : (n : ℕ) {at middle next : ℕ} {old mid out : List ℕ} → Put at (little 2 n) old mid middle → Put middle (little 2 (n / 65536)) mid out next
+    → Put at (little 4 n) old out next
 four-put n p q = rw four-is (put-then p q)
 
 -- the first number of a slice is the number at the slice's start

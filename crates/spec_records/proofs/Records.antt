@@ -81,7 +81,8 @@ laid-right : {kind at size : ℕ} {test : List ℕ → Bool} {s : List ℕ} (nex
 unfolding laidOut isRight
 laid-right next r = rw (r .sized, r .there, r .passes)
 
-laid-wrong : (kind : ℕ) (test : List ℕ → Bool) (next : List ℕ → Wants) (s : List ℕ) (at : ℕ) → isRight kind test s at ≡ false → laidOut (one kind test next) s at ≡ wrong at
+laid-wrong : (kind : ℕ) (test : List ℕ → Bool) (next : List ℕ → Wants) (s : List ℕ) (at : ℕ) → isRight kind test s at ≡ false
+    → laidOut (one kind test next) s at ≡ wrong at
 unfolding laidOut
 laid-wrong kind test next s at e = rw e
 
@@ -130,7 +131,8 @@ module _ {all : Wants} {s : List ℕ} {passed : List Span} {at : ℕ} where
   reach-on {kind} {size} {test} {next} r here = record { so = r .so ∙ ap (allBehind passed) (laid-right next here) ∙ one-behind passed _ _ }
 
   -- early end: a record that is not right is the first wrong one
-  pub reach-wrong : {kind : ℕ} {test : List ℕ → Bool} {next : List ℕ → Wants} → Reached all s passed (one kind test next) at → isRight kind test s at ≡ false → laidOut all s 0 ≡ wrong at
+  pub reach-wrong : {kind : ℕ} {test : List ℕ → Bool} {next : List ℕ → Wants} → Reached all s passed (one kind test next) at → isRight kind test s at ≡ false
+      → laidOut all s 0 ≡ wrong at
   reach-wrong {kind} {test} {next} r off = r .so ∙ ap (allBehind passed) (laid-wrong kind test next s at off) ∙ behind-wrong passed at
 
   -- end: nothing more is wanted where the input ends, so the bodies are those that were read
@@ -164,7 +166,8 @@ one-back kind test next s at b rest e =
     let l : Layout = laidOut (next (bodyAt s at)) s (at + 6 + sizeAt s at) in
     let p = cond-back (isRight kind test s at) (behind here l) at (b ∷ rest) e in
     let q = behind-back here b l rest (p .1) in
-    subst (λ (size : ℕ). OneBack kind test next s at size rest) (ap (λ (x : Span). x .size) (q .0)) (record { right = right-parts kind test s at (p .0); onward = q .1 })
+    subst (λ (size : ℕ). OneBack kind test next s at size rest) (ap (λ (x : Span). x .size) (q .0))
+    (record { right = right-parts kind test s at (p .0); onward = q .1 })
 
 -- a layout that wants no more records is at the end of the input
 pub done-back : (s : List ℕ) (at : ℕ) (bs : List Span) → laidOut done s at ≡ bodies bs → at ≡ length s
@@ -183,7 +186,8 @@ length-record kind body = simp (length-append, length-header)
 
 -- ---- a header, and the body behind it
 -- a header put before its body is a record
-pub record-put : (kind size : ℕ) {at inner next : ℕ} {body old mid out : List ℕ} → length body ≡ size → Put at (header size kind) old mid inner → Put inner body mid out next
+pub record-put : (kind size : ℕ) {at inner next : ℕ} {body old mid out : List ℕ} → length body ≡ size → Put at (header size kind) old mid inner
+    → Put inner body mid out next
     → Put at (recordOf kind body) old out next
 unfolding recordOf
 record-put kind size e p q = put-then (put-same (ap (λ (n : ℕ). header n kind) (sym e)) p) q

@@ -37,7 +37,8 @@ module _ (triangles : List Float) (order links : List ℕ) (boxes : List Float) 
   pub root-safe : NodeSafe triangles order links boxes (deepest - 1) (nodes - 1) 0
   root-safe =
       let l = listed .1 in
-      let count : length (numbers (listed .0)) ≡ triangleCount triangles = ap length (sym (l .order-is)) ∙ permutes-length (triangleCount triangles) order (l .permuted) in
+      let count : length (numbers (listed .0)) ≡ triangleCount triangles = ap length (sym (l .order-is))
+      ∙ permutes-length (triangleCount triangles) order (l .permuted) in
       let few : triangleCount triangles ≤ maxTriangles = s .triangles-good .few in
       record {
         tree = listed .0;
@@ -50,7 +51,8 @@ module _ (triangles : List Float) (order links : List ℕ) (boxes : List Float) 
 -- ---- the tests that passed
 module _ (triangles : List Float) (order links : List ℕ) (boxes : List Float) (nodes : ℕ) (points : List Float) (distance : Float) (room : ℕ) where
   -- lists that pass the tests have what the searches need, and the lent list has room for all answers
-  pub query-passed : queryRefusal triangles order links boxes nodes points distance room ≡ passes → Askable triangles order links boxes nodes points × (6 * pointCount points ≤ room)
+  pub query-passed : queryRefusal triangles order links boxes nodes points distance room ≡ passes
+      → Askable triangles order links boxes nodes points × (6 * pointCount points ≤ room)
   unfolding queryRefusal treeRefusal
   query-passed h =
       let all = all-pass _ h in
@@ -89,11 +91,15 @@ module _ (f : Format) (answer : Point → Answer) (points : List Float) (old : L
   answered-start n = run-start (λ j. sixWords f (answer (pointAt points (3 * j)))) 6 0 n old
 
   -- turn: the next point's answer is written behind the others
-  pub answered-more : (n : ℕ) (out new : List ℕ) (k : ℕ) (a : Answer) → 6 * n ≤ length old → k < n → Answered n out k → a ≡ answer (pointAt points (3 * k)) → new ≡ overwrite (6 * k) (sixWords f a) out → Answered n new (k + 1)
+  pub answered-more : (n : ℕ) (out new : List ℕ) (k : ℕ) (a : Answer) → 6 * n ≤ length old → k < n → Answered n out k → a ≡ answer (pointAt points (3 * k))
+      → new ≡ overwrite (6 * k) (sixWords f a) out → Answered n new (k + 1)
   answered-more n out new k a room l r e h =
-      run-front (λ j. sixWords f (answer (pointAt points (3 * j)))) 6 n old out new k (λ j. six-long (answer (pointAt points (3 * j)))) room l r (h ∙ ap (λ (b : Answer). overwrite (6 * k) (sixWords f b) out) e)
+      run-front (λ j. sixWords f (answer (pointAt points (3 * j)))) 6 n old out new k (λ j. six-long (answer (pointAt points (3 * j)))) room l r
+      (h ∙ ap (λ (b : Answer). overwrite (6 * k) (sixWords f b) out) e)
 
   -- end: every point is answered, and what is behind the answers is as it was
   pub answered-end : (n : ℕ) (out : List ℕ) (k : ℕ) → n ≡ pointCount points → n ≤ k → Answered n out k → out ≡ overwrite 0 (answerWords f answer points) old
   unfolding answerWords
-  answered-end n out k e l r = run-end (λ j. sixWords f (answer (pointAt points (3 * j)))) 0 n old out k l r ∙ ap (λ (m : ℕ). overwrite 0 (concatMap (λ j. sixWords f (answer (pointAt points (3 * j)))) m) old) e
+  answered-end n out k e l r =
+      run-end (λ j. sixWords f (answer (pointAt points (3 * j)))) 0 n old out k l r
+      ∙ ap (λ (m : ℕ). overwrite 0 (concatMap (λ j. sixWords f (answer (pointAt points (3 * j)))) m) old) e

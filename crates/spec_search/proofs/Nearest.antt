@@ -45,14 +45,16 @@ module _ (hit : ℕ → Hit) (named : (t : ℕ) → hit t .triangle ≡ t) (limi
   uncounted : (n : ℕ) (a : Answer) → Nearest hit limit n a → T (not (counts limit (hit n .squared))) → Nearest hit limit (suc n) a
   uncounted n nothing m c = λ t h. ⊎-elim (λ (e : t ≡ n). rw e c) (λ (l : t < n). m t l) (one-more n t h)
   uncounted n (found h) m c =
-      let no-counting : (t : ℕ) → t ≡ n → T (counts limit (hit t .squared)) → ⊥ = λ t e k. T-not (counts limit (hit n .squared)) c (subst (λ (j : ℕ). T (counts limit (hit j .squared))) e k) in
+      let no-counting : (t : ℕ) → t ≡ n → T (counts limit (hit t .squared)) → ⊥ = λ t e k.
+      T-not (counts limit (hit n .squared)) c (subst (λ (j : ℕ). T (counts limit (hit j .squared))) e k) in
       record {
         one-of-them = omega (arith, m .one-of-them);
         measured-there = m .measured-there;
         counted = m .counted;
         smallest = λ t l k. ⊎-elim (λ (e : t ≡ n). absurd (no-counting t e k)) (λ (b : t < n). m .smallest t b k) (one-more n t l);
         lowest = λ t l k.
-            ⊎-elim (λ (e : t ≡ n). absurd (no-counting t e (equal-counts (hit t .squared) (h .squared) k (m .counted)))) (λ (b : t < n). m .lowest t b k) (one-more n t l);
+            ⊎-elim (λ (e : t ≡ n). absurd (no-counting t e (equal-counts (hit t .squared) (h .squared) k (m .counted)))) (λ (b : t < n). m .lowest t b k)
+            (one-more n t l);
       }
 
   -- the last one counts, and is the first that does
@@ -64,13 +66,16 @@ module _ (hit : ℕ → Hit) (named : (t : ℕ) → hit t .triangle ≡ t) (limi
         measured-there = ap hit (sym (named n));
         counted = c;
         smallest = λ t l k.
-            ⊎-elim (λ (e : t ≡ n). rw e (reflexive (hit n .squared) (number (hit n .squared) c))) (λ (b : t < n). absurd (nothing-before t b k)) (one-more n t l);
+            ⊎-elim (λ (e : t ≡ n). rw e (reflexive (hit n .squared) (number (hit n .squared) c))) (λ (b : t < n). absurd (nothing-before t b k))
+            (one-more n t l);
         lowest = λ t l k.
-            ⊎-elim (λ (e : t ≡ n). rw (named n, e) (le-refl n)) (λ (b : t < n). absurd (nothing-before t b (equal-counts (hit t .squared) (hit n .squared) k c))) (one-more n t l);
+            ⊎-elim (λ (e : t ≡ n). rw (named n, e) (le-refl n))
+            (λ (b : t < n). absurd (nothing-before t b (equal-counts (hit t .squared) (hit n .squared) k c))) (one-more n t l);
       }
 
   -- the last one counts, and is smaller than the best so far
-  smaller : (n : ℕ) (h : Hit) → IsNearest hit limit n h → T (counts limit (hit n .squared)) → T (lt (hit n .squared) (h .squared)) → IsNearest hit limit (suc n) (hit n)
+  smaller : (n : ℕ) (h : Hit) → IsNearest hit limit n h → T (counts limit (hit n .squared)) → T (lt (hit n .squared) (h .squared))
+      → IsNearest hit limit (suc n) (hit n)
   smaller n h m c l =
       let below : (t : ℕ) → t < n → T (counts limit (hit t .squared)) → T (lt (hit n .squared) (hit t .squared)) =
       λ t b k. lt-le-transitive (hit n .squared) (h .squared) (hit t .squared) l (m .smallest t b k) in
@@ -79,10 +84,12 @@ module _ (hit : ℕ → Hit) (named : (t : ℕ) → hit t .triangle ≡ t) (limi
         measured-there = ap hit (sym (named n));
         counted = c;
         smallest = λ t b k.
-            ⊎-elim (λ (e : t ≡ n). rw e (reflexive (hit n .squared) (number (hit n .squared) c))) (λ (s : t < n). lt→le (hit n .squared) (hit t .squared) (below t s k)) (one-more n t b);
+            ⊎-elim (λ (e : t ≡ n). rw e (reflexive (hit n .squared) (number (hit n .squared) c)))
+            (λ (s : t < n). lt→le (hit n .squared) (hit t .squared) (below t s k)) (one-more n t b);
         lowest = λ t b k.
             ⊎-elim (λ (e : t ≡ n). rw (named n, e) (le-refl n))
-            (λ (s : t < n). absurd (lt→not-le (hit n .squared) (hit t .squared) (below t s (equal-counts (hit t .squared) (hit n .squared) k c)) (equal-at-most (hit t .squared) (hit n .squared) k)))
+            (λ (s : t < n). absurd (lt→not-le (hit n .squared) (hit t .squared) (below t s (equal-counts (hit t .squared) (hit n .squared) k c))
+            (equal-at-most (hit t .squared) (hit n .squared) k)))
             (one-more n t b);
       }
     where
@@ -90,9 +97,11 @@ module _ (hit : ℕ → Hit) (named : (t : ℕ) → hit t .triangle ≡ t) (limi
       equal-at-most x y e = unfold le in or-r (lt x y) (eq x y) e
 
   -- the last one counts, and is not smaller: what was best stays
-  not-smaller : (n : ℕ) (h : Hit) → IsNearest hit limit n h → T (counts limit (hit n .squared)) → T (not (lt (hit n .squared) (h .squared))) → IsNearest hit limit (suc n) h
+  not-smaller : (n : ℕ) (h : Hit) → IsNearest hit limit n h → T (counts limit (hit n .squared)) → T (not (lt (hit n .squared) (h .squared)))
+      → IsNearest hit limit (suc n) h
   not-smaller n h m c l =
-      let above : T (le (h .squared) (hit n .squared)) = not-lt→le (hit n .squared) (h .squared) (number (hit n .squared) c) (number (h .squared) (m .counted)) l in
+      let above : T (le (h .squared) (hit n .squared)) = not-lt→le (hit n .squared) (h .squared) (number (hit n .squared) c)
+      (number (h .squared) (m .counted)) l in
       record {
         one-of-them = omega (arith, m .one-of-them);
         measured-there = m .measured-there;
@@ -103,7 +112,8 @@ module _ (hit : ℕ → Hit) (named : (t : ℕ) → hit t .triangle ≡ t) (limi
 
   -- ---- what is kept once the next triangle is offered
   better-is-smaller : (n : ℕ) (h : Hit) → h .triangle < n → better (hit n) (found h) ≡ lt (hit n .squared) (h .squared)
-  better-is-smaller n h l = rw (le-ltb (hit n .triangle) (h .triangle) (omega (arith, named n, l))) (alone (lt (hit n .squared) (h .squared)) (eq (hit n .squared) (h .squared)))
+  better-is-smaller n h l =
+      rw (le-ltb (hit n .triangle) (h .triangle) (omega (arith, named n, l))) (alone (lt (hit n .squared) (h .squared)) (eq (hit n .squared) (h .squared)))
     where
       alone : (a b : Bool) → (a || (b && false)) ≡ a
       alone true b = refl
@@ -119,13 +129,16 @@ module _ (hit : ℕ → Hit) (named : (t : ℕ) → hit t .triangle ≡ t) (limi
   offered-yes h a p q = rw (p, q)
 
   taken : (n : ℕ) (a : Answer) → Nearest hit limit n a → Nearest hit limit (suc n) (offered limit (hit n) a)
-  taken n a m = ⊎-elim (counted a m) (λ (c : counts limit (hit n .squared) ≡ false). rw (offered-not (hit n) a _ false c refl refl) (uncounted n a m (failed c))) (either (counts limit (hit n .squared)))
+  taken n a m =
+      ⊎-elim (counted a m) (λ (c : counts limit (hit n .squared) ≡ false). rw (offered-not (hit n) a _ false c refl refl) (uncounted n a m (failed c)))
+      (either (counts limit (hit n .squared)))
     where
       counted : (a : Answer) → Nearest hit limit n a → counts limit (hit n .squared) ≡ true → Nearest hit limit (suc n) (offered limit (hit n) a)
       counted nothing m c = rw (offered-yes (hit n) nothing c refl) (first-counted n m (passed c))
       counted (found h) m c =
           ⊎-elim
-          (λ (l : lt (hit n .squared) (h .squared) ≡ true). rw (offered-yes (hit n) (found h) c (better-is-smaller n h (m .one-of-them) ∙ l)) (smaller n h m (passed c) (passed l)))
+          (λ (l : lt (hit n .squared) (h .squared) ≡ true).
+          rw (offered-yes (hit n) (found h) c (better-is-smaller n h (m .one-of-them) ∙ l)) (smaller n h m (passed c) (passed l)))
           (λ (l : lt (hit n .squared) (h .squared) ≡ false).
           rw (offered-not (hit n) (found h) false true c (better-is-smaller n h (m .one-of-them) ∙ l) refl) (not-smaller n h m (passed c) (failed l)))
           (either (lt (hit n .squared) (h .squared)))
@@ -150,4 +163,5 @@ module _ (f : Format) (triangles : List Float) (p : Point) (limit : Float) where
       go : (a : Answer) → Nearest (hit f triangles p) limit (triangleCount triangles) a → a ≡ nothing
       go nothing m = refl
       go (found h) m =
-          absurd (T-not (counts limit (hit f triangles p (h .triangle) .squared)) (none (h .triangle) (m .one-of-them)) (subst (λ (k : Hit). T (counts limit (k .squared))) (m .measured-there) (m .counted)))
+          absurd (T-not (counts limit (hit f triangles p (h .triangle) .squared)) (none (h .triangle) (m .one-of-them))
+          (subst (λ (k : Hit). T (counts limit (k .squared))) (m .measured-there) (m .counted)))

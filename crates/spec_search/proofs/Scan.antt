@@ -83,23 +83,28 @@ module _ {S : Type 0} (took : ℕ → S → S) (Good : S → Type 0) (stays : (t
         → ((s′ : Sought S) → Good (s′ .best) → (walk r s′) .best ≡ fold took ys (s′ .best))
         → (inTurn first walk l r s) .best ≡ fold took (xs ++ ys) (s .best)
     in-turn true walk xs ys l r s g h k =
-        h (walk r s) (subst Good (sym (k s g)) (good-kept ys (s .best) g)) ∙ ap (fold took xs) (k s g) ∙ lists-swap xs ys (s .best) g ∙ sym (kept-append took xs ys (s .best))
+        h (walk r s) (subst Good (sym (k s g)) (good-kept ys (s .best) g)) ∙ ap (fold took xs) (k s g) ∙ lists-swap xs ys (s .best) g
+        ∙ sym (kept-append took xs ys (s .best))
     in-turn false walk xs ys l r s g h k =
         k (walk l s) (subst Good (sym (h s g)) (good-kept xs (s .best) g)) ∙ ap (fold took ys) (h s g) ∙ sym (kept-append took xs ys (s .best))
 
     -- whatever it skips and whichever child goes first, a walk keeps what the scan of the tree's triangles keeps
-    pub walk-scans : (t : Tree) (d n : ℕ) (s : Sought S) → At t n → levels t ≤ suc d → Good (s .best) → (nodeWalk how order links d n s) .best ≡ fold took (numbers t) (s .best)
+    pub walk-scans : (t : Tree) (d n : ℕ) (s : Sought S) → At t n → levels t ≤ suc d → Good (s .best)
+        → (nodeWalk how order links d n s) .best ≡ fold took (numbers t) (s .best)
     unfolding nodeWalk numbers levels
     walk-scans (leaf slice) zero n s x deep g =
         at-node (skipped n (s .best)) (leaf slice) (λ l r s′. s′) n s (skips (leaf slice) n (s .best) x g)
         (looked-leaf (isLeaf links n) slice (λ l r s′. s′) n s (leaf-at slice n x .0) (leaf-at slice n x .1))
     walk-scans (leaf slice) (suc d) n s x deep g =
-        at-node (skipped n (s .best)) (leaf slice) (λ l r s′. inTurn (rightFirst l r) (nodeWalk how order links d) l r s′) n s (skips (leaf slice) n (s .best) x g)
-        (looked-leaf (isLeaf links n) slice (λ l r s′. inTurn (rightFirst l r) (nodeWalk how order links d) l r s′) n s (leaf-at slice n x .0) (leaf-at slice n x .1))
+        at-node (skipped n (s .best)) (leaf slice) (λ l r s′. inTurn (rightFirst l r) (nodeWalk how order links d) l r s′) n s
+        (skips (leaf slice) n (s .best) x g)
+        (looked-leaf (isLeaf links n) slice (λ l r s′. inTurn (rightFirst l r) (nodeWalk how order links d) l r s′) n s (leaf-at slice n x .0)
+        (leaf-at slice n x .1))
     walk-scans (branch l r) zero n s x deep g = absurd (omega (arith, levels-least l, le-max-left (levels l) (levels r)))
     walk-scans (branch l r) (suc d) n s x deep g =
         let b = branch-at l r n x in
-        at-node (skipped n (s .best)) (branch l r) (λ l′ r′ s′. inTurn (rightFirst l′ r′) (nodeWalk how order links d) l′ r′ s′) n s (skips (branch l r) n (s .best) x g)
+        at-node (skipped n (s .best)) (branch l r) (λ l′ r′ s′. inTurn (rightFirst l′ r′) (nodeWalk how order links d) l′ r′ s′) n s
+        (skips (branch l r) n (s .best) x g)
         (rw (b .0)
         (in-turn (rightFirst (leftAt links n) (rightAt links n)) (nodeWalk how order links d) (numbers l) (numbers r) (leftAt links n) (rightAt links n) s g
         (λ s′ g′. walk-scans l d (leftAt links n) s′ (b .1 .0) (omega (arith, le-max-left (levels l) (levels r))) g′)

@@ -54,8 +54,10 @@ of-better h k hn kn b = go (lt d e) (lt e d) refl refl (rw (equal-is d e hn kn) 
     e = k .squared
 
     go : (x y : Bool) → lt (h .squared) (k .squared) ≡ x → lt (k .squared) (h .squared) ≡ y
-        → (lt (h .squared) (k .squared) || ((not (lt (h .squared) (k .squared)) && not (lt (k .squared) (h .squared))) && ltb (h .triangle) (k .triangle))) ≡ true
-        → (lt (h .squared) (k .squared) ≡ true) ⊎ ((lt (h .squared) (k .squared) ≡ false) × (lt (k .squared) (h .squared) ≡ false) × (h .triangle < k .triangle))
+        → (lt (h .squared) (k .squared) || ((not (lt (h .squared) (k .squared)) && not (lt (k .squared) (h .squared))) && ltb (h .triangle) (k .triangle)))
+        ≡ true
+        → (lt (h .squared) (k .squared) ≡ true)
+        ⊎ ((lt (h .squared) (k .squared) ≡ false) × (lt (k .squared) (h .squared) ≡ false) × (h .triangle < k .triangle))
     go true y p q b = inl p
     go false true p q b = absurd (false≢true (simp (p, q) at b))
     go false false p q b = inr (p, q, ltb-true (h .triangle) (k .triangle) (simp (p, q) at b))
@@ -80,8 +82,10 @@ less-trans h k j hn kn jn (inl a) (inr b) =
 less-trans h k j hn kn jn (inr a) (inl b) =
     inl (⊎-elim (λ c. both-ways _ c (a .1)) (λ c. c) (less-between (k .squared) (h .squared) (j .squared) hn b))
 less-trans h k j hn kn jn (inr a) (inr b) = inr (
-  ⊎-elim (λ c. ⊎-elim (λ x. both-ways _ x (a .0)) (λ x. both-ways _ x (b .0)) (less-between (h .squared) (k .squared) (j .squared) kn c)) (λ c. c) (either (lt (h .squared) (j .squared))),
-  ⊎-elim (λ c. ⊎-elim (λ x. both-ways _ x (b .1)) (λ x. both-ways _ x (a .1)) (less-between (j .squared) (k .squared) (h .squared) kn c)) (λ c. c) (either (lt (j .squared) (h .squared))),
+  ⊎-elim (λ c. ⊎-elim (λ x. both-ways _ x (a .0)) (λ x. both-ways _ x (b .0)) (less-between (h .squared) (k .squared) (j .squared) kn c)) (λ c. c)
+      (either (lt (h .squared) (j .squared))),
+  ⊎-elim (λ c. ⊎-elim (λ x. both-ways _ x (b .1)) (λ x. both-ways _ x (a .1)) (less-between (j .squared) (k .squared) (h .squared) kn c)) (λ c. c)
+      (either (lt (j .squared) (h .squared))),
   omega arith,
 )
 
@@ -91,7 +95,8 @@ better-one h k ne hn kn =
     rw (equal-is (h .squared) (k .squared) hn kn, equal-is (k .squared) (h .squared) kn hn)
     (go (lt (h .squared) (k .squared)) (lt (k .squared) (h .squared)) (ltb (h .triangle) (k .triangle)) (ltb (k .triangle) (h .triangle)) refl refl refl refl)
   where
-    go : (x y a b : Bool) → lt (h .squared) (k .squared) ≡ x → lt (k .squared) (h .squared) ≡ y → ltb (h .triangle) (k .triangle) ≡ a → ltb (k .triangle) (h .triangle) ≡ b
+    go : (x y a b : Bool) → lt (h .squared) (k .squared) ≡ x → lt (k .squared) (h .squared) ≡ y → ltb (h .triangle) (k .triangle) ≡ a
+        → ltb (k .triangle) (h .triangle) ≡ b
         → (y || ((not y && not x) && b)) ≡ not (x || ((not x && not y) && a))
     go true true a b p q r s = both-ways _ q (less-asymmetric _ _ p)
     go true false a b p q r s = refl
@@ -166,7 +171,8 @@ module _ (limit : Float) (hit : ℕ → Hit) (named : (t : ℕ) → hit t .trian
       (either (counts limit (hit t .squared)))
 
   -- h is better than what is kept and j is not: j is not better than h either
-  better-over : (h j : Hit) (k : Answer) → Number (h .squared) → Number (j .squared) → Good k → better h k ≡ true → better j k ≡ false → better j (found h) ≡ false
+  better-over : (h j : Hit) (k : Answer) → Number (h .squared) → Number (j .squared) → Good k → better h k ≡ true → better j k ≡ false
+      → better j (found h) ≡ false
   better-over h j nothing hn jn g a b = both-ways true refl b
   better-over h j (found k) hn jn g a b =
       ⊎-elim
@@ -175,7 +181,8 @@ module _ (limit : Float) (hit : ℕ → Hit) (named : (t : ℕ) → hit t .trian
       (either (better j (found h)))
 
   -- both count: the smaller one stays
-  both-better : (h j : Hit) → (h .triangle ≡ j .triangle → ⊥) → counts limit (h .squared) ≡ true → counts limit (j .squared) ≡ true → offered limit h (found j) ≡ offered limit j (found h)
+  both-better : (h j : Hit) → (h .triangle ≡ j .triangle → ⊥) → counts limit (h .squared) ≡ true → counts limit (j .squared) ≡ true
+      → offered limit h (found j) ≡ offered limit j (found h)
   both-better h j ne c d =
       let one = better-one h j ne (counts-number limit _ c) (counts-number limit _ d) in
       ⊎-elim
@@ -187,11 +194,13 @@ module _ (limit : Float) (hit : ℕ → Hit) (named : (t : ℕ) → hit t .trian
       → offered limit h (offered limit j k) ≡ offered limit j (offered limit h k)
   swap-counted h j k g ne c d = go (either (better h k)) (either (better j k))
     where
-      go : (better h k ≡ true) ⊎ (better h k ≡ false) → (better j k ≡ true) ⊎ (better j k ≡ false) → offered limit h (offered limit j k) ≡ offered limit j (offered limit h k)
+      go : (better h k ≡ true) ⊎ (better h k ≡ false) → (better j k ≡ true) ⊎ (better j k ≡ false)
+          → offered limit h (offered limit j k) ≡ offered limit j (offered limit h k)
       go (inl a) (inl b) = ap (offered limit h) (is-better j k d b) ∙ both-better h j ne c d ∙ sym (ap (offered limit j) (is-better h k c a))
       go (inl a) (inr b) =
           ap (offered limit h) (not-better j k b) ∙ is-better h k c a
-          ∙ sym (not-better j (found h) (better-over h j k (counts-number limit _ c) (counts-number limit _ d) g a b)) ∙ sym (ap (offered limit j) (is-better h k c a))
+          ∙ sym (not-better j (found h) (better-over h j k (counts-number limit _ c) (counts-number limit _ d) g a b))
+          ∙ sym (ap (offered limit j) (is-better h k c a))
       go (inr a) (inl b) =
           ap (offered limit h) (is-better j k d b) ∙ not-better h (found j) (better-over j h k (counts-number limit _ d) (counts-number limit _ c) g b a)
           ∙ sym (is-better j k d b) ∙ sym (ap (offered limit j) (not-better h k a))
@@ -201,7 +210,8 @@ module _ (limit : Float) (hit : ℕ → Hit) (named : (t : ℕ) → hit t .trian
   pub swaps : (t u : ℕ) (k : Answer) → Good k → took t (took u k) ≡ took u (took t k)
   swaps t u k g = go (ℕ-discrete t u) (either (counts limit (hit t .squared))) (either (counts limit (hit u .squared)))
     where
-      go : Dec (t ≡ u) → (counts limit (hit t .squared) ≡ true) ⊎ (counts limit (hit t .squared) ≡ false) → (counts limit (hit u .squared) ≡ true) ⊎ (counts limit (hit u .squared) ≡ false) → took t (took u k) ≡ took u (took t k)
+      go : Dec (t ≡ u) → (counts limit (hit t .squared) ≡ true) ⊎ (counts limit (hit t .squared) ≡ false)
+          → (counts limit (hit u .squared) ≡ true) ⊎ (counts limit (hit u .squared) ≡ false) → took t (took u k) ≡ took u (took t k)
       go (yes e) c d = ap (λ (v : ℕ). took t (took v k)) (sym e) ∙ ap (λ (v : ℕ). took v (took t k)) e
       go (no e) (inl c) (inl d) = swap-counted (hit t) (hit u) k g (λ x. e (sym (named t) ∙ x ∙ named u)) c d
       go (no e) (inl c) (inr d) = ap (took t) (not-counted (hit u) k d) ∙ sym (not-counted (hit u) (took t k) d)

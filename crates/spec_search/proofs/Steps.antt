@@ -26,13 +26,15 @@ use Rattle.spec_search.proofs.Smallest.{still-skipped}
 use Rattle.spec_search.proofs.Walked.{walk-skipped, walk-leaf, walk-branch, root-leaf, root-branch, pair-right, pair-left, walk-keeps, counted-most}
 
 -- a slice of the order list has entries below n too, so measuring its triangles stays within the list
-pub slice-below : (n : ℕ) (order : List ℕ) (first last : ℕ) → first ≤ last → last ≤ length order → EntriesBelow n order → EntriesBelow n (slice order first (last - first))
+pub slice-below : (n : ℕ) (order : List ℕ) (first last : ℕ) → first ≤ last → last ≤ length order → EntriesBelow n order
+    → EntriesBelow n (slice order first (last - first))
 slice-below n order first last h k l i b =
     let inside : i < last - first = omega (arith, slice-length order first (last - first) (omega arith)) in
     rw (getD-take, getD-drop) (l (first + i) (omega arith))
 
 -- where a tree hangs, the node is there, so reading its links and box stays within the lists
-pub hangs-there : (triangles : List Float) (order links : List ℕ) (boxes : List Float) (t : Tree) (node : ℕ) → Hangs (boxAt triangles) order links boxes t node → There links boxes node
+pub hangs-there : (triangles : List Float) (order links : List ℕ) (boxes : List Float) (t : Tree) (node : ℕ) → Hangs (boxAt triangles) order links boxes t node
+    → There links boxes node
 hangs-there triangles order links boxes (leaf ks) node h = h .there
 hangs-there triangles order links boxes (branch l r) node h = h .there
 
@@ -47,7 +49,8 @@ module _ (triangles : List Float) (order links : List ℕ) (boxes : List Float) 
   abbrev pub LeafNeeds : Type 0
   LeafNeeds = EntriesBelow (triangleCount triangles) order × (((l ≤ r) × (r ≤ length order)) × (m + (r - l) < 2 ^ 64))
 
-  leaf-needs-of : (t : Tree) → Hangs (boxAt triangles) order links boxes t node → m + length (numbers t) < 2 ^ 64 → EntriesBelow (triangleCount triangles) order → kind ≡ 1 → LeafNeeds
+  leaf-needs-of : (t : Tree) → Hangs (boxAt triangles) order links boxes t node → m + length (numbers t) < 2 ^ 64 → EntriesBelow (triangleCount triangles) order
+      → kind ≡ 1 → LeafNeeds
   unfolding numbers
   leaf-needs-of (leaf ks) h room listed e =
       let size : rightAt links node - leftAt links node ≡ length ks =
@@ -55,7 +58,8 @@ module _ (triangles : List Float) (order links : List ℕ) (boxes : List Float) 
       (listed, ((omega (arith, here, h .nonempty), omega (arith, here, h .within)), omega (arith, here, size, room)))
   leaf-needs-of (branch a b) h room listed e = absurd (omega (arith, h .kind-is, here .kind-is))
 
-  pair-needs-of : (t : Tree) → Hangs (boxAt triangles) order links boxes t node → levels t ≤ suc d → m + length (numbers t) < 2 ^ 64 → EntriesBelow (triangleCount triangles) order → (kind ≡ 1 → ⊥)
+  pair-needs-of : (t : Tree) → Hangs (boxAt triangles) order links boxes t node → levels t ≤ suc d → m + length (numbers t) < 2 ^ 64
+      → EntriesBelow (triangleCount triangles) order → (kind ≡ 1 → ⊥)
       → (0 < d) × PairSafe triangles order links boxes (d - 1) l r m
   unfolding numbers levels
   pair-needs-of (leaf ks) h deep room listed e = absurd (e (here .kind-is ∙ h .kind-is))
@@ -89,11 +93,13 @@ module _ (triangles : List Float) (order links : List ℕ) (boxes : List Float) 
 
     module _ {S : Type 0} (how : Search S) (s next : Sought S) where
       -- at a leaf that is not skipped, measuring its slice is the walk of the node
-      pub leaf-answers : how .skipped node (s .best) ≡ false → kind ≡ 1 → next ≡ tookAll (how .took) (slice order l (r - l)) s → next ≡ nodeWalk how order links d node s
+      pub leaf-answers : how .skipped node (s .best) ≡ false → kind ≡ 1 → next ≡ tookAll (how .took) (slice order l (r - l)) s
+          → next ≡ nodeWalk how order links d node s
       leaf-answers looked e a = a ∙ rw (here .left-is, here .right-is) (sym (walk-leaf how order links d node s looked (leaf-yes e)))
 
       -- at a branch that is not skipped, the walk of its children is the walk of the node
-      pub pair-answers : how .skipped node (s .best) ≡ false → (kind ≡ 1 → ⊥) → next ≡ pairWalk how order links (d - 1) l r s → next ≡ nodeWalk how order links d node s
+      pub pair-answers : how .skipped node (s .best) ≡ false → (kind ≡ 1 → ⊥) → next ≡ pairWalk how order links (d - 1) l r s
+          → next ≡ nodeWalk how order links d node s
       pair-answers looked e a =
           let more : 0 < d = levels-remaining e in
           a ∙ rw (here .left-is, here .right-is) (sym (walk-branch how order links d node s looked (leaf-no e) (λ (z : d ≡ 0). omega arith)))
@@ -125,7 +131,13 @@ module _ (triangles : List Float) (order links : List ℕ) (boxes : List Float) 
       tree = safe .left-tree;
       hangs = safe .left-hangs;
       deep = safe .left-deep;
-      room = omega (arith, safe .room, counted-most how (boxAt triangles) order links boxes (safe .right-tree) d r s (safe .right-hangs) (safe .right-deep), ap (λ (x : Sought S). x .measured) e, counted);
+      room = omega (
+        arith,
+        safe .room,
+        counted-most how (boxAt triangles) order links boxes (safe .right-tree) d r s (safe .right-hangs) (safe .right-deep),
+        ap (λ (x : Sought S). x .measured) e,
+        counted,
+      );
       listed = safe .listed;
     }
 
@@ -135,17 +147,25 @@ module _ (triangles : List Float) (order links : List ℕ) (boxes : List Float) 
       tree = safe .right-tree;
       hangs = safe .right-hangs;
       deep = safe .right-deep;
-      room = omega (arith, safe .room, counted-most how (boxAt triangles) order links boxes (safe .left-tree) d l s (safe .left-hangs) (safe .left-deep), ap (λ (x : Sought S). x .measured) e, counted);
+      room = omega (
+        arith,
+        safe .room,
+        counted-most how (boxAt triangles) order links boxes (safe .left-tree) d l s (safe .left-hangs) (safe .left-deep),
+        ap (λ (x : Sought S). x .measured) e,
+        counted,
+      );
       listed = safe .listed;
     }
 
 module _ {S : Type 0} (how : Search S) (order links : List ℕ) (d l r : ℕ) (s first next : Sought S) where
   -- right child first: its walk and then that of the left one are the walk of the pair
-  pub right-answers : how .rightFirst l r ≡ true → first ≡ nodeWalk how order links d r s → next ≡ nodeWalk how order links d l first → next ≡ pairWalk how order links d l r s
+  pub right-answers : how .rightFirst l r ≡ true → first ≡ nodeWalk how order links d r s → next ≡ nodeWalk how order links d l first
+      → next ≡ pairWalk how order links d l r s
   right-answers e a b = b ∙ ap (nodeWalk how order links d l) a ∙ sym (pair-right how order links d l r s e)
 
   -- left child first: its walk and then that of the right one are the walk of the pair
-  pub left-answers : how .rightFirst l r ≡ false → first ≡ nodeWalk how order links d l s → next ≡ nodeWalk how order links d r first → next ≡ pairWalk how order links d l r s
+  pub left-answers : how .rightFirst l r ≡ false → first ≡ nodeWalk how order links d l s → next ≡ nodeWalk how order links d r first
+      → next ≡ pairWalk how order links d l r s
   left-answers e a b = b ∙ ap (nodeWalk how order links d r) a ∙ sym (pair-left how order links d l r s e)
 
 -- ---- a pair whose farther child is skipped before the nearer one is walked: where what is skipped stays so, nothing remains
@@ -170,12 +190,14 @@ module _ {S : Type 0} (how : Search S) (stays : (node t : ℕ) (k : S) → how .
 -- ---- what the tests of the sure walk say, of distances that were measured
 module _ (f : Format) (boxes : List Float) (p : Point) where
   -- whether a node is skipped, decided by its box's distance that was computed before
-  pub skipped-here : (limit squared : Float) (node : ℕ) (k : Answer) (b flag : Bool) → squared ≡ nodeSquared f boxes p node → b ≡ isSkipped limit squared k → b ≡ flag → skippedSure f boxes p limit node k ≡ flag
+  pub skipped-here : (limit squared : Float) (node : ℕ) (k : Answer) (b flag : Bool) → squared ≡ nodeSquared f boxes p node → b ≡ isSkipped limit squared k
+      → b ≡ flag → skippedSure f boxes p limit node k ≡ flag
   unfolding skippedSure
   skipped-here limit squared node k b flag s e h = ap (λ (d : Float). isSkipped limit d k) (sym s) ∙ sym e ∙ h
 
   -- which child goes first, decided by the boxes' distances that were computed before
-  pub right-first-here : (l r : ℕ) (toLeft toRight : Float) (flag : Bool) → toLeft ≡ nodeSquared f boxes p l → toRight ≡ nodeSquared f boxes p r → lt toRight toLeft ≡ flag → rightNearer f boxes p l r ≡ flag
+  pub right-first-here : (l r : ℕ) (toLeft toRight : Float) (flag : Bool) → toLeft ≡ nodeSquared f boxes p l → toRight ≡ nodeSquared f boxes p r
+      → lt toRight toLeft ≡ flag → rightNearer f boxes p l r ≡ flag
   unfolding rightNearer
   right-first-here l r toLeft toRight flag s t h = rw (← s, ← t) h
 

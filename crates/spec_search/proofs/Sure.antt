@@ -46,7 +46,8 @@ module _ (f : Format) (triangles : List Float) (good : GoodTriangles triangles) 
   unfolding tookSure
   good-stays = stays limit (hit f triangles p) named
 
-  takes-swap : (t u : ℕ) (k : Answer) → Good k → tookSure f triangles p limit t (tookSure f triangles p limit u k) ≡ tookSure f triangles p limit u (tookSure f triangles p limit t k)
+  takes-swap : (t u : ℕ) (k : Answer) → Good k
+      → tookSure f triangles p limit t (tookSure f triangles p limit u k) ≡ tookSure f triangles p limit u (tookSure f triangles p limit t k)
   unfolding tookSure
   takes-swap = swaps limit (hit f triangles p) named
 
@@ -83,7 +84,8 @@ module _ (f : Format) (triangles : List Float) (good : GoodTriangles triangles) 
       ),
     )
 
-    met-skips : (t : Tree) (node : ℕ) (s : Answer) → Met t node → Good s → skippedSure f boxes p limit node s ≡ true → (k : ℕ) → List·Memᴰ k (numbers t) → tookSure f triangles p limit k s ≡ s
+    met-skips : (t : Tree) (node : ℕ) (s : Answer) → Met t node → Good s → skippedSure f boxes p limit node s ≡ true → (k : ℕ) → List·Memᴰ k (numbers t)
+        → tookSure f triangles p limit k s ≡ s
     unfolding skippedSure nodeSquared tookSure
     met-skips t node s m g h k mem =
         let box : nodeBox boxes node ≡ boxOver (boxAt triangles) t = box-at-node t node (m .hangs) in
@@ -96,7 +98,9 @@ module _ (f : Format) (triangles : List Float) (good : GoodTriangles triangles) 
     -- the walk of a tree that is met at a node keeps what the scan of the tree's triangles keeps
     walk-answers : (t : Tree) (d node : ℕ) (s : Sought Answer) → Met t node → levels t ≤ suc d → Good (s .best)
         → (nodeWalk (sureSearch f triangles boxes p limit) order links d node s) .best ≡ fold (tookSure f triangles p limit) (numbers t) (s .best)
-    walk-answers = walk-scans (tookSure f triangles p limit) Good good-stays takes-swap (skippedSure f boxes p limit) (rightNearer f boxes p) order links Met met-leaf met-branch met-skips
+    walk-answers =
+        walk-scans (tookSure f triangles p limit) Good good-stays takes-swap (skippedSure f boxes p limit)
+        (rightNearer f boxes p) order links Met met-leaf met-branch met-skips
 
     module _ (nodes : ℕ) where
       listing-met : (t : Tree) → Listing (boxAt triangles) n order links boxes nodes t → Met t (nodes - 1)
@@ -107,7 +111,8 @@ module _ (f : Format) (triangles : List Float) (good : GoodTriangles triangles) 
       }
 
       -- what the sure query promises: the walk of an accepted tree answers what the scan of all triangles answers
-      pub walk-is-scan : accepted (boxAt triangles) n order links boxes nodes ≡ true → (sureWalk f triangles order links boxes nodes p limit) .best ≡ scan f triangles p limit
+      pub walk-is-scan : accepted (boxAt triangles) n order links boxes nodes ≡ true
+          → (sureWalk f triangles order links boxes nodes p limit) .best ≡ scan f triangles p limit
       unfolding sureWalk scan
       walk-is-scan passed =
           let listed = accepted-listed (boxAt triangles) n order links boxes nodes passed in

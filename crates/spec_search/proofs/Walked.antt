@@ -24,7 +24,8 @@ module _ {S : Type 0} (how : Search S) (order links : List ℕ) where
   walk-skipped (suc d) node s e = simp e
 
   -- a leaf that is not skipped is measured whole
-  pub walk-leaf : (d node : ℕ) (s : Sought S) → how .skipped node (s .best) ≡ false → isLeaf links node ≡ true → nodeWalk how order links d node s ≡ tookAll (how .took) (leafSlice order links node) s
+  pub walk-leaf : (d node : ℕ) (s : Sought S) → how .skipped node (s .best) ≡ false → isLeaf links node ≡ true
+      → nodeWalk how order links d node s ≡ tookAll (how .took) (leafSlice order links node) s
   unfolding nodeWalk
   walk-leaf zero node s e k = simp (e, k)
   walk-leaf (suc d) node s e k = simp (e, k)
@@ -37,13 +38,15 @@ module _ {S : Type 0} (how : Search S) (order links : List ℕ) where
   walk-branch (suc d) node s e k z = simp (e, k, sub-one)
 
   -- a root that is a leaf is measured whole
-  pub root-leaf : (d node : ℕ) (s : Sought S) → isLeaf links node ≡ true → rootWalk how order links d node s ≡ tookAll (how .took) (leafSlice order links node) s
+  pub root-leaf : (d node : ℕ) (s : Sought S) → isLeaf links node ≡ true
+      → rootWalk how order links d node s ≡ tookAll (how .took) (leafSlice order links node) s
   unfolding rootWalk
   root-leaf zero node s k = simp k
   root-leaf (suc d) node s k = simp k
 
   -- a root that is a branch is the walk of its children, one level fewer remaining
-  pub root-branch : (d node : ℕ) (s : Sought S) → isLeaf links node ≡ false → (d ≡ 0 → ⊥) → rootWalk how order links d node s ≡ pairWalk how order links (d - 1) (leftAt links node) (rightAt links node) s
+  pub root-branch : (d node : ℕ) (s : Sought S) → isLeaf links node ≡ false → (d ≡ 0 → ⊥)
+      → rootWalk how order links d node s ≡ pairWalk how order links (d - 1) (leftAt links node) (rightAt links node) s
   unfolding rootWalk
   root-branch zero node s k z = absurd (z refl)
   root-branch (suc d) node s k z = simp (k, sub-one)
@@ -55,12 +58,14 @@ module _ {S : Type 0} (how : Search S) (order links : List ℕ) where
   walk-looked (suc d) node s e = simp e
 
   -- right child first: the left one goes on from what the right one kept
-  pub pair-right : (d l r : ℕ) (s : Sought S) → how .rightFirst l r ≡ true → pairWalk how order links d l r s ≡ nodeWalk how order links d l (nodeWalk how order links d r s)
+  pub pair-right : (d l r : ℕ) (s : Sought S) → how .rightFirst l r ≡ true
+      → pairWalk how order links d l r s ≡ nodeWalk how order links d l (nodeWalk how order links d r s)
   unfolding pairWalk
   pair-right d l r s e = simp e
 
   -- left child first: the right one goes on from what the left one kept
-  pub pair-left : (d l r : ℕ) (s : Sought S) → how .rightFirst l r ≡ false → pairWalk how order links d l r s ≡ nodeWalk how order links d r (nodeWalk how order links d l s)
+  pub pair-left : (d l r : ℕ) (s : Sought S) → how .rightFirst l r ≡ false
+      → pairWalk how order links d l r s ≡ nodeWalk how order links d r (nodeWalk how order links d l s)
   unfolding pairWalk
   pair-left d l r s e = simp e
 
@@ -123,17 +128,20 @@ module _ {S : Type 0} (how : Search S) (boxAt : ℕ → Box) (order links : List
   in-turn-most true walk a b l r s h k = omega (arith, k s, h (walk r s))
   in-turn-most false walk a b l r s h k = omega (arith, h s, k (walk l s))
 
-  visited-most : (over : Bool) (pair : ℕ → ℕ → Sought S → Sought S) (node most : ℕ) (s : Sought S) → (lookedAt how order links (isLeaf links node) pair node s) .measured ≤ s .measured + most
+  visited-most : (over : Bool) (pair : ℕ → ℕ → Sought S → Sought S) (node most : ℕ) (s : Sought S)
+      → (lookedAt how order links (isLeaf links node) pair node s) .measured ≤ s .measured + most
       → (visited how order links over pair node s) .measured ≤ s .measured + most
   visited-most true pair node most s h = omega arith
   visited-most false pair node most s h = h
 
   looked-leaf : (slice : List ℕ) (pair : ℕ → ℕ → Sought S → Sought S) (node : ℕ) (s : Sought S) → Hangs boxAt order links boxes (leaf slice) node
       → (lookedAt how order links (isLeaf links node) pair node s) .measured ≤ s .measured + length slice
-  looked-leaf slice pair node s h = rw (leaf-kind boxAt order links boxes node slice h, ← h .slice-is) (omega (arith, counted-all (how .took) (leafSlice order links node) s))
+  looked-leaf slice pair node s h =
+      rw (leaf-kind boxAt order links boxes node slice h, ← h .slice-is) (omega (arith, counted-all (how .took) (leafSlice order links node) s))
 
   -- a walk measures at most the triangles of the tree that hangs at its node, so the count does not overflow
-  pub counted-most : (t : Tree) (d node : ℕ) (s : Sought S) → Hangs boxAt order links boxes t node → levels t ≤ suc d → (nodeWalk how order links d node s) .measured ≤ s .measured + length (numbers t)
+  pub counted-most : (t : Tree) (d node : ℕ) (s : Sought S) → Hangs boxAt order links boxes t node → levels t ≤ suc d
+      → (nodeWalk how order links d node s) .measured ≤ s .measured + length (numbers t)
   unfolding nodeWalk numbers levels
   counted-most (leaf slice) zero node s h deep = visited-most (how .skipped node (s .best)) _ node (length slice) s (looked-leaf slice _ node s h)
   counted-most (leaf slice) (suc d) node s h deep = visited-most (how .skipped node (s .best)) _ node (length slice) s (looked-leaf slice _ node s h)
@@ -141,6 +149,7 @@ module _ {S : Type 0} (how : Search S) (boxAt : ℕ → Box) (order links : List
   counted-most (branch l r) (suc d) node s h deep =
       visited-most (how .skipped node (s .best)) _ node (length (numbers (branch l r))) s
       (rw (branch-kind boxAt order links boxes node l r h, length-append (numbers l) (numbers r))
-      (in-turn-most (how .rightFirst (leftAt links node) (rightAt links node)) (nodeWalk how order links d) (length (numbers l)) (length (numbers r)) (leftAt links node) (rightAt links node) s
+      (in-turn-most (how .rightFirst (leftAt links node) (rightAt links node)) (nodeWalk how order links d) (length (numbers l)) (length (numbers r))
+      (leftAt links node) (rightAt links node) s
       (λ s′. counted-most l d (leftAt links node) s′ (h .left) (omega (arith, le-max-left (levels l) (levels r))))
       (λ s′. counted-most r d (rightAt links node) s′ (h .right) (omega (arith, le-max-right (levels l) (levels r))))))

@@ -72,7 +72,8 @@ module _ (a b : Box) where
     union-proper = record {
       min = smallest-finite _ _ (A .min) (B .min);
       max = largest-finite _ _ (A .max) (B .max);
-      ordered = λ i. transitive _ _ _ (smallest-under-first _ _ (A .min) (B .min) i) (transitive _ _ _ (A .ordered i) (first-under-largest _ _ (A .max) (B .max) i));
+      ordered =
+          λ i. transitive _ _ _ (smallest-under-first _ _ (A .min) (B .min) i) (transitive _ _ _ (A .ordered i) (first-under-largest _ _ (A .max) (B .max) i));
     }
 
 -- ---- a triangle's box

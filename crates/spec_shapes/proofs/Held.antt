@@ -39,7 +39,8 @@ module _ (b : Box) (B : Proper b) (q : Point) (Q : Finite (at q)) where
   held-in-nearest : (f : Format) (h : Point) → Inside b h → T (le (heldSquared f b q) (squaredDistance f h q))
   unfolding heldSquared squaredDistance dot minus heldIn
   held-in-nearest f h s =
-      held-is-nearest-of-three f (at q) Q (at (b .min)) (at (b .max)) (at h) (B .min) (B .max) (λ i. finite-between _ _ _ (B .min i) (B .max i) (s .low i) (s .high i)) (s .low) (s .high)
+      held-is-nearest-of-three f (at q) Q (at (b .min)) (at (b .max)) (at h) (B .min) (B .max)
+      (λ i. finite-between _ _ _ (B .min i) (B .max i) (s .low i) (s .high i)) (s .low) (s .high)
 
   -- the squared distance to a box is no NaN, so it compares with the smallest so far
   pub held-squared-number : (f : Format) → Number (heldSquared f b q)

@@ -31,11 +31,13 @@ module _ (f : Format) where
   module _ (a b c : Point) (A : PlainPoint f a) (B : PlainPoint f b) (C : PlainPoint f c) where
     smallest-assoc : smallest (smallest a b) c ≡ smallest a (smallest b c)
     smallest-assoc =
-        same-on-each _ _ (λ i. rw (smallest-on (smallest a b) c i, smallest-on a b i, smallest-on a (smallest b c) i, smallest-on b c i) (smaller-assoc f _ _ _ (A i) (B i) (C i)))
+        same-on-each _ _ (λ i.
+        rw (smallest-on (smallest a b) c i, smallest-on a b i, smallest-on a (smallest b c) i, smallest-on b c i) (smaller-assoc f _ _ _ (A i) (B i) (C i)))
 
     largest-assoc : largest (largest a b) c ≡ largest a (largest b c)
     largest-assoc =
-        same-on-each _ _ (λ i. rw (largest-on (largest a b) c i, largest-on a b i, largest-on a (largest b c) i, largest-on b c i) (larger-assoc f _ _ _ (A i) (B i) (C i)))
+        same-on-each _ _
+        (λ i. rw (largest-on (largest a b) c i, largest-on a b i, largest-on a (largest b c) i, largest-on b c i) (larger-assoc f _ _ _ (A i) (B i) (C i)))
 
   -- ---- boxes
   module _ (a b : Box) (A : PlainBox f a) (B : PlainBox f b) where

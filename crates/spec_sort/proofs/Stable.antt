@@ -13,7 +13,8 @@ neither false true h = absurd (true≢false (sym h))
 neither false false h = (refl, refl)
 
 -- two that are not both picked may change places
-pick-swaps : (p q : Bool) (x y : ℕ) (ys : List ℕ) → (p ≡ true → q ≡ true → ⊥) → cond q (y ∷ cond p (x ∷ ys) ys) (cond p (x ∷ ys) ys) ≡ cond p (x ∷ cond q (y ∷ ys) ys) (cond q (y ∷ ys) ys)
+pick-swaps : (p q : Bool) (x y : ℕ) (ys : List ℕ) → (p ≡ true → q ≡ true → ⊥)
+    → cond q (y ∷ cond p (x ∷ ys) ys) (cond p (x ∷ ys) ys) ≡ cond p (x ∷ cond q (y ∷ ys) ys) (cond q (y ∷ ys) ys)
 pick-swaps true true x y ys h = absurd (h refl refl)
 pick-swaps true false x y ys h = refl
 pick-swaps false true x y ys h = refl

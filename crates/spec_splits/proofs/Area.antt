@@ -106,7 +106,8 @@ pub from-eleven : (x : Float) → T (le eleven x) → 11 ≡ upTo11 x
 unfolding toUnsigned le
 from-eleven (inf false) h = refl
 from-eleven (fin true m e) h = absurd (omega (arith, compared eleven (fin true m e) tt tt .le→at-most h, down-pos e))
-from-eleven (fin false m e) h = capped (m * up e / down e) (le-div-iff-mul-le (down-pos e) .1 (omega (arith, compared eleven (fin false m e) tt tt .le→at-most h)))
+from-eleven (fin false m e) h =
+    capped (m * up e / down e) (le-div-iff-mul-le (down-pos e) .1 (omega (arith, compared eleven (fin false m e) tt tt .le→at-most h)))
 
 -- the second test: below zero, and for a NaN, the bucket is 0
 pub below-zero : (x : Float) → T (not (le Values.zero x)) → 0 ≡ upTo11 x
@@ -183,7 +184,8 @@ module _ (bucket : Box → ℕ) (last : ℕ) (box : ℕ → Box) (l : List ℕ) 
   looking-finds h e inv = sym (ap picks e) ∙ look-here 0 remaining l i whole h inv
 
   -- any other object leaves the answer to those that remain
-  pub looking-goes-on : i < length l → ltb last (bucket (box (getD l i 0))) ≡ false → firstLater bucket last (map box (drop i l)) i ≡ whole → firstLater bucket last (map box (drop (i + 1) l)) (i + 1) ≡ whole
+  pub looking-goes-on : i < length l → ltb last (bucket (box (getD l i 0))) ≡ false → firstLater bucket last (map box (drop i l)) i ≡ whole
+      → firstLater bucket last (map box (drop (i + 1) l)) (i + 1) ≡ whole
   unfolding remaining firstLater picks
   looking-goes-on h e inv = look-on 0 remaining l i whole h (ap picks e) inv
 

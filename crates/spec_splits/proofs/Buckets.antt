@@ -41,9 +41,11 @@ module _ (f : Format) where
     counts-put : (b : Box) (buckets : List Bucket) (n : ℕ) → CountsAtMost f buckets n → CountsAtMost f (putBox f bucket buckets b) (n + 1)
     unfolding putBox putIn withBox
     counts-put b buckets n h j =
-        stored (λ (s : Bucket). s .count ≤ n + 1) buckets (bucket b) j (withBox (bucketAt f buckets (bucket b)) b) (emptyBucket f) (omega (arith, h (bucket b))) (omega (arith, h j))
+        stored (λ (s : Bucket). s .count ≤ n + 1) buckets (bucket b) j (withBox (bucketAt f buckets (bucket b)) b) (emptyBucket f) (omega (arith, h (bucket b)))
+        (omega (arith, h j))
 
-    counts-all : (bs : List Box) (buckets : List Bucket) (n : ℕ) → CountsAtMost f buckets n → CountsAtMost f (foldl (putBox f bucket) buckets bs) (n + length bs)
+    counts-all : (bs : List Box) (buckets : List Bucket) (n : ℕ) → CountsAtMost f buckets n
+        → CountsAtMost f (foldl (putBox f bucket) buckets bs) (n + length bs)
     counts-all [] buckets n h j = omega (arith, h j)
     counts-all (b ∷ bs) buckets n h j = omega (arith, counts-all bs (putBox f bucket buckets b) (n + 1) (counts-put b buckets n h) j)
 
@@ -96,18 +98,22 @@ module _ {A : Type 0} (g : A → Bucket) (f : Format) (bucket : Box → ℕ) (bo
   module _ (each : List A) (i k : ℕ) (d : A) (now : Filling each i) (below : k < bucketCount) where
     -- what a turn needs: the bucket that is taken out counts few enough for one more
     pub filling-small : i < length slice → length slice < 2 ^ 28 → g (getD each k d) .count < 2 ^ 28
-    filling-small h small = let at = ap (λ (s : Bucket). s .count) (at-map g each k d (emptyBucket f) (rw (now .full) below)) in omega (arith, at, now .counts k)
+    filling-small h small =
+        let at = ap (λ (s : Bucket). s .count) (at-map g each k d (emptyBucket f) (rw (now .full) below)) in
+        omega (arith, at, now .counts k)
 
     -- the bucket that the next box falls into, with that box, stored in its place
     put-stored : (v : A) (b c : Box) → k ≡ bucket b → g v ≡ withBox (g (getD each k d)) c → c ≡ b → map g (set each k v) ≡ putBox f bucket (map g each) b
     unfolding putBox putIn
     put-stored v b c e w same =
         map-set g each k v
-        ∙ ap (set (map g each) k) (w ∙ ap (withBox (g (getD each k d))) same ∙ ap (λ (s : Bucket). withBox s b) (sym (at-map g each k d (emptyBucket f) (rw (now .full) below))))
+        ∙ ap (set (map g each) k)
+        (w ∙ ap (withBox (g (getD each k d))) same ∙ ap (λ (s : Bucket). withBox s b) (sym (at-map g each k d (emptyBucket f) (rw (now .full) below))))
         ∙ ap (λ (n : ℕ). set (map g each) n (withBox (bucketAt f (map g each) n) b)) e
 
     -- after a turn, which stores the bucket of the next box with that box in it
-    pub filling-goes-on : (v : A) (c : Box) → i < length slice → k ≡ bucket (box (getD slice i 0)) → g v ≡ withBox (g (getD each k d)) c → c ≡ box (getD slice i 0) → Filling (set each k v) (i + 1)
+    pub filling-goes-on : (v : A) (c : Box) → i < length slice → k ≡ bucket (box (getD slice i 0)) → g v ≡ withBox (g (getD each k d)) c
+        → c ≡ box (getD slice i 0) → Filling (set each k v) (i + 1)
     filling-goes-on v c h e w same =
         let put = put-stored v (box (getD slice i 0)) c e w same in
         record {

@@ -40,7 +40,8 @@ picked-first false s k e = cc
 
 -- ---- the median rule
 -- a median cut of two boxes or more leaves boxes on both sides: no child of a node is empty
-pub median-inside : (f : Format) (axis : Axis) (parent : Box) (bs : List Box) (k : ℕ) → 2 ≤ length bs → medianSplit f axis parent bs ≡ cutAt k → CutsInside k (length bs)
+pub median-inside : (f : Format) (axis : Axis) (parent : Box) (bs : List Box) (k : ℕ) → 2 ≤ length bs → medianSplit f axis parent bs ≡ cutAt k
+    → CutsInside k (length bs)
 unfolding medianSplit
 median-inside f axis parent bs k h e =
     let half = picked-last (allMeetAt f axis bs (length bs / 2)) (areBothLarge f parent bs (length bs / 2)) (length bs / 2) k e in
@@ -53,7 +54,8 @@ module _ (bucket : Box → ℕ) (last : ℕ) where
   later-within [] n k e = absurd (let no : _≡_ {A = ℕ} 0 1 = cc in omega arith)
   later-within (b ∷ bs) n k e = by-test (ltb last (bucket b)) (later-within bs (suc n) k) e
     where
-      by-test : (t : Bool) → (firstLater bucket last bs (suc n) ≡ cutAt k → (suc n ≤ k) × (k < suc n + length bs)) → cond t (cutAt n) (firstLater bucket last bs (suc n)) ≡ cutAt k
+      by-test : (t : Bool) → (firstLater bucket last bs (suc n) ≡ cutAt k → (suc n ≤ k) × (k < suc n + length bs))
+          → cond t (cutAt n) (firstLater bucket last bs (suc n)) ≡ cutAt k
           → (n ≤ k) × (k < n + length (b ∷ bs))
       by-test true on q = let same : n ≡ k = cc in (omega arith, omega arith)
       by-test false on q = let r = on q in (omega (arith, r .0), omega (arith, r .1))
@@ -100,8 +102,11 @@ module _ (f : Format) (axis : Axis) where
   -- what is not below x is not below what is at most x
   none-below-less : (x y : Float) (bs : List Box) → T (le y x) → NoneBelow f axis x bs → NoneBelow f axis y bs
   none-below-less x y [] h n = tt
-  none-below-less x y (b ∷ bs) h n =
-      (is-false (lt (centreOf b) y) (not-T (lt (centreOf b) y) (λ (l : T (lt (centreOf b) y)). T-not (lt (centreOf b) x) (failed (n .0)) (lt-le-transitive (centreOf b) y x l h))), none-below-less x y bs h (n .1))
+  none-below-less x y (b ∷ bs) h n = (
+    is-false (lt (centreOf b) y)
+        (not-T (lt (centreOf b) y) (λ (l : T (lt (centreOf b) y)). T-not (lt (centreOf b) x) (failed (n .0)) (lt-le-transitive (centreOf b) y x l h))),
+    none-below-less x y bs h (n .1),
+  )
 
   -- ---- the offset of the first
   from-difference : (lo hi c : Float) → Nought (sub f c lo) → Nought (offsetOn f lo hi c)
@@ -127,7 +132,8 @@ module _ (f : Format) (axis : Axis) where
   start-largest c bs fin-c fit none e =
       let above : T (le (Values.largest f) c) = not-lt→le c (Values.largest f) (finite-number c fin-c) (finite-number (Values.largest f) tt) (failed e) in
       let below : T (le c (Values.largest f)) = at-most-largest f c fit fin-c in
-      let apart : Nought (sub f c (Values.largest f)) = nought-by-order (sub f c (Values.largest f)) (sub-not-below f c (Values.largest f) fin-c tt above) (sub-not-above f c (Values.largest f) fin-c tt below) in
+      let apart : Nought (sub f c (Values.largest f)) = nought-by-order (sub f c (Values.largest f)) (sub-not-below f c (Values.largest f) fin-c tt above)
+      (sub-not-above f c (Values.largest f) fin-c tt below) in
       rw (e, lower-stays (Values.largest f) bs (none-below-less c (Values.largest f) bs above none)) (from-difference (Values.largest f) (hiFrom c bs) c apart)
 
   start-finite : (c : Float) (bs : List Box) → T (finite c) → T (fits f c) → NoneBelow f axis c bs → AtStart c bs
@@ -152,7 +158,8 @@ module _ (f : Format) (axis : Axis) where
   first-bucket : (b : Box) (bs : List Box) → NoneBelow f axis (centreOf b) bs → bucketOf f axis (centreBounds f (b ∷ bs)) b ≡ 0
   unfolding bucketBetween bucketFor lowerEnd upperEnd
   first-bucket b bs none =
-      let ends : EndsOf axis (centreBounds f (b ∷ bs)) (loFrom (centreOf b) bs) (hiFrom (centreOf b) bs) = record { lo-is = lower-end f axis (b ∷ bs); hi-is = upper-end f axis (b ∷ bs) } in
+      let ends : EndsOf axis (centreBounds f (b ∷ bs)) (loFrom (centreOf b) bs) (hiFrom (centreOf b) bs) =
+      record { lo-is = lower-end f axis (b ∷ bs); hi-is = upper-end f axis (b ∷ bs) } in
       let share = start (centreOf b) bs (centre-fits b) none in
       ap (λ (bucket : Box → ℕ). bucket b) (sym (bucket-on-axis f axis (centreBounds f (b ∷ bs)) (loFrom (centreOf b) bs) (hiFrom (centreOf b) bs) ends))
       ∙ ap (λ (n : ℕ). min n 11) (cut-nought _ (times-nought f false 3 (pos 2) _ share))

@@ -30,7 +30,8 @@ module _ (f : Format) (plane : Plane) (g : ℕ → Box) (l : List ℕ) (i : ℕ)
   meeting-stops h e inv = sym (ap (λ (b : Bool). b && allMeet f plane (map g (drop (suc i) l))) e) ∙ look-here 0 remaining l i whole h inv
 
   -- a box that meets the plane leaves the answer to those that remain
-  pub meeting-goes-on : i < length l → meetsBox f plane (g (getD l i 0)) ≡ true → allMeet f plane (map g (drop i l)) ≡ whole → allMeet f plane (map g (drop (i + 1) l)) ≡ whole
+  pub meeting-goes-on : i < length l → meetsBox f plane (g (getD l i 0)) ≡ true → allMeet f plane (map g (drop i l)) ≡ whole
+      → allMeet f plane (map g (drop (i + 1) l)) ≡ whole
   unfolding remaining allMeet
   meeting-goes-on h e inv = look-on 0 remaining l i whole h (ap (λ (b : Bool). b && allMeet f plane (map g (drop (suc i) l))) e) inv
 

@@ -54,7 +54,8 @@ module _ (bounds : List Float) (slice : List ℕ) (all : AllInTable bounds slice
   in-table-after i k = rw (getD-drop n slice i 0) (all (n + i) (omega (arith, length-drop n slice)))
 
 -- the union of the boxes of a slice begins with its first: the loop starts there
-pub union-from-first : (f : Format) (g : ℕ → Box) (slice : List ℕ) → 0 < length slice → foldl union (g (getD slice 0 0)) (map g (drop 1 slice)) ≡ unionOf f (map g slice)
+pub union-from-first : (f : Format) (g : ℕ → Box) (slice : List ℕ) → 0 < length slice
+    → foldl union (g (getD slice 0 0)) (map g (drop 1 slice)) ≡ unionOf f (map g slice)
 unfolding unionOf
 union-from-first f g [] h = absurd (omega arith)
 union-from-first f g (t ∷ slice) h = refl
@@ -68,7 +69,8 @@ place-below Z = omega arith
 
 module _ (f : Format) (bounds : List Float) where
   -- the centre on one axis from two numbers of the table, as code works it out
-  pub centre-in : (t : ℕ) (axis : Axis) → div f (add f (getD bounds (6 * t + place axis) nan) (getD bounds (6 * t + place axis + 3) nan)) two ≡ on axis (centre f (boxIn bounds t))
+  pub centre-in : (t : ℕ) (axis : Axis)
+      → div f (add f (getD bounds (6 * t + place axis) nan) (getD bounds (6 * t + place axis + 3) nan)) two ≡ on axis (centre f (boxIn bounds t))
   unfolding centre boxIn plus dividedBy
   centre-in t X = ap (λ (k : ℕ). div f (add f (getD bounds k nan) (getD bounds (k + 3) nan)) two) (add-zero (6 * t))
   centre-in t Y = ap (λ (k : ℕ). div f (add f (getD bounds (6 * t + 1) nan) (getD bounds k nan)) two) (omega arith)

@@ -62,13 +62,15 @@ module _ {A : Type 0} where
   getD-concatMap d g (suc n) i h =
       let long : length (concatMap (λ j. g j ∷ []) n) ≡ n = length-singles g n in
       ⊎-elim
-      (λ (e : i ≡ n). ap (λ (k : ℕ). getD (concatMap (λ j. g j ∷ []) n ++ (g n ∷ [])) k d) (e ∙ sym long) ∙ getD-append-seam (concatMap (λ j. g j ∷ []) n) (g n) [] d ∙ ap g (sym e))
+      (λ (e : i ≡ n). ap (λ (k : ℕ). getD (concatMap (λ j. g j ∷ []) n ++ (g n ∷ [])) k d) (e ∙ sym long)
+      ∙ getD-append-seam (concatMap (λ j. g j ∷ []) n) (g n) [] d ∙ ap g (sym e))
       (λ (l : i < n). List·getD-append (concatMap (λ j. g j ∷ []) n) (g n ∷ []) d i (omega arith) ∙ getD-concatMap d g n i l)
       (eq-or-lt-of-le (le-of-suc-le-suc h))
 
   -- ---- what remains from a place on
   -- of pieces of equal size that remain, each is read at its place: how an entry of a table is found
-  pub remaining-concatMap : (f : ℕ → List A) (w n : ℕ) (s : List A) (at : ℕ) (rest : List A) → ((j : ℕ) → length (f j) ≡ w) → Remaining s at (concatMap f n ++ rest) → (i : ℕ) → i < n
+  pub remaining-concatMap : (f : ℕ → List A) (w n : ℕ) (s : List A) (at : ℕ) (rest : List A) → ((j : ℕ) → length (f j) ≡ w)
+      → Remaining s at (concatMap f n ++ rest) → (i : ℕ) → i < n
       → slice s (at + w * i) w ≡ f i
   remaining-concatMap f w n s at rest sized h i l =
       let long : length (concatMap f n) ≡ w * n = length-concatMap f w n sized in
@@ -86,5 +88,7 @@ module _ {A : Type 0} where
   pub remaining-slice : (s : List A) (at : ℕ) (a : List A) → at + length a ≤ length s → slice s at (length a) ≡ a → Remaining s at (a ++ drop (at + length a) s)
   remaining-slice s at a h e = record {
     within = omega arith;
-    remaining = sym (take-append-drop (length a) (drop at s)) ∙ ap (λ (l : List A). l ++ drop (length a) (drop at s)) e ∙ ap (λ (l : List A). a ++ l) (drop-drop (length a) at s);
+    remaining =
+        sym (take-append-drop (length a) (drop at s)) ∙ ap (λ (l : List A). l ++ drop (length a) (drop at s)) e
+        ∙ ap (λ (l : List A). a ++ l) (drop-drop (length a) at s);
   }

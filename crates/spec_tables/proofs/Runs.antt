@@ -39,7 +39,9 @@ module _ {A : Type 0} (f : ℕ → List A) (w at n : ℕ) (old : List A) where
       let fit : at + w * i + w ≤ length old = run-room i l room in
       record {
         within = omega arith;
-        filled = e ∙ ap (overwrite (at + w * i) (f i)) (r .filled) ∙ concatMap-more f w at i old sized fit ∙ ap (λ (k : ℕ). overwrite at (concatMap f k) old) (sym (add-one i));
+        filled =
+            e ∙ ap (overwrite (at + w * i) (f i)) (r .filled) ∙ concatMap-more f w at i old sized fit
+            ∙ ap (λ (k : ℕ). overwrite at (concatMap f k) old) (sym (add-one i));
         long = ap length e ∙ length-overwrite (at + w * i) (f i) out (omega arith) ∙ long;
       }
 
@@ -83,7 +85,8 @@ module _ {A : Type 0} (f : ℕ → List A) (w at n : ℕ) where
   puts-start old room = record { within = omega arith; put = put-none at old (omega arith); behind = omega arith; long = refl }
 
   -- turn: the next piece is put at the place that was kept
-  pub puts-more : {old mid out : List A} {next end i : ℕ} → i < n → Puts f w at n old mid next i → Put next (f i) mid out end → end ≡ next + w → Puts f w at n old out end (i + 1)
+  pub puts-more : {old mid out : List A} {next end i : ℕ} → i < n → Puts f w at n old mid next i → Put next (f i) mid out end → end ≡ next + w
+      → Puts f w at n old out end (i + 1)
   puts-more {old} {out = out} {end = end} {i} l r p e =
       let here : Put at (concatMap f (i + 1)) old out end = put-more f i (r .put) p in
       let turn : w * (i + 1) ≡ w * i + w = rw (add-one, mul-suc) in

@@ -37,7 +37,8 @@ run-store-front {A} g n old out i v room l r e =
     subst (λ (k : ℕ). Run (λ j. g j ∷ []) 0 n old (set out k v) (i + 1)) (zero-add i) (run-store g 0 n old out i v (omega arith) l r e)
 
 -- a list that is stored to from its front to its end is what was stored, whatever it was before
-pub run-whole : {A : Type 0} (g : ℕ → A) (old out : List A) (i : ℕ) → length old ≤ i → Run (λ j. g j ∷ []) 0 (length old) old out i → out ≡ concatMap (λ j. g j ∷ []) (length old)
+pub run-whole : {A : Type 0} (g : ℕ → A) (old out : List A) (i : ℕ) → length old ≤ i → Run (λ j. g j ∷ []) 0 (length old) old out i
+    → out ≡ concatMap (λ j. g j ∷ []) (length old)
 run-whole g old out i l r =
     sym (take-all (length old) out (omega (arith, r .long)))
     ∙ ap (take (length old)) (run-end (λ j. g j ∷ []) 0 (length old) old out i l r)

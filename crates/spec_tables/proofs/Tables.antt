@@ -30,7 +30,8 @@ module _ {A : Type 0} where
   overwrite-none at old = rw add-zero (take-append-drop at old)
 
   -- a write right behind another is one write of both: how all that a loop writes becomes one overwrite
-  overwrite-overwrite : (at : ℕ) (a b old : List A) → at + length a + length b ≤ length old → overwrite (at + length a) b (overwrite at a old) ≡ overwrite at (a ++ b) old
+  overwrite-overwrite : (at : ℕ) (a b old : List A) → at + length a + length b ≤ length old
+      → overwrite (at + length a) b (overwrite at a old) ≡ overwrite at (a ++ b) old
   unfolding overwrite
   overwrite-overwrite at a b old h =
       let room : at ≤ length old = omega arith in
@@ -42,7 +43,8 @@ module _ {A : Type 0} where
       ∙ ap (drop (length b)) (drop-at (p ++ a) rest (at + length a) e)
       ∙ drop-drop (length b) (at + length a) old
       ∙ ap (λ (n : ℕ). drop n old) (add-assoc at (length a) (length b) ∙ ap (λ (n : ℕ). at + n) (sym (length-append a b)))) in
-      rw (d, ← append-assoc p a rest, take-at (p ++ a) rest (at + length a) e) (append-assoc p a (b ++ drop (at + length (a ++ b)) old) ∙ ap (λ (l : List A). p ++ l) (sym (append-assoc a b (drop (at + length (a ++ b)) old))))
+      rw (d, ← append-assoc p a rest, take-at (p ++ a) rest (at + length a) e)
+      (append-assoc p a (b ++ drop (at + length (a ++ b)) old) ∙ ap (λ (l : List A). p ++ l) (sym (append-assoc a b (drop (at + length (a ++ b)) old))))
 
   -- how long pieces of equal size are together: the room that writing them needs
   pub length-concatMap : (f : ℕ → List A) (w n : ℕ) → ((i : ℕ) → length (f i) ≡ w) → length (concatMap f n) ≡ w * n
@@ -117,7 +119,8 @@ module _ {A : Type 0} where
       }
 
   -- one write, and then another right behind it, are one overwrite
-  pub then-overwrite : (at place : ℕ) (a b old mid out : List A) → mid ≡ overwrite at a old → out ≡ overwrite place b mid → place ≡ at + length a → place + length b ≤ length old
+  pub then-overwrite : (at place : ℕ) (a b old mid out : List A) → mid ≡ overwrite at a old → out ≡ overwrite place b mid → place ≡ at + length a
+      → place + length b ≤ length old
       → out ≡ overwrite at (a ++ b) old
   then-overwrite at place a b old mid out p q e room =
       q ∙ ap (overwrite place b) p ∙ ap (λ (k : ℕ). overwrite k b (overwrite at a old)) e ∙ overwrite-overwrite at a b old (omega arith)
@@ -147,7 +150,8 @@ module _ {A : Type 0} where
       }
 
   -- turn of a loop that puts pieces one behind the other
-  pub put-more : {at next end : ℕ} {old mid out : List A} (f : ℕ → List A) (i : ℕ) → Put at (concatMap f i) old mid next → Put next (f i) mid out end → Put at (concatMap f (i + 1)) old out end
+  pub put-more : {at next end : ℕ} {old mid out : List A} (f : ℕ → List A) (i : ℕ) → Put at (concatMap f i) old mid next → Put next (f i) mid out end
+      → Put at (concatMap f (i + 1)) old out end
   unfolding concatMap
   put-more f i p q = rw add-one (put-then p q)
 

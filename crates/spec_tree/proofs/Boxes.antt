@@ -62,7 +62,9 @@ module _ (boxAt : ℕ → Box) where
         proper = union-proper lb rb (left .proper) (right .proper);
         each = λ k m.
             ⊎-elim
-            (λ (m′ : List·Memᴰ k (numbers l)). contains-transitive (union lb rb) lb (boxAt k) (union-holds-first lb rb (left .proper) (right .proper)) (left .each k m′))
-            (λ (m′ : List·Memᴰ k (numbers r)). contains-transitive (union lb rb) rb (boxAt k) (union-holds-second lb rb (left .proper) (right .proper)) (right .each k m′))
+            (λ (m′ : List·Memᴰ k (numbers l)).
+            contains-transitive (union lb rb) lb (boxAt k) (union-holds-first lb rb (left .proper) (right .proper)) (left .each k m′))
+            (λ (m′ : List·Memᴰ k (numbers r)).
+            contains-transitive (union lb rb) rb (boxAt k) (union-holds-second lb rb (left .proper) (right .proper)) (right .each k m′))
             (List·Memᴰ·append-cases (numbers l) m);
       }

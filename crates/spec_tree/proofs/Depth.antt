@@ -32,7 +32,8 @@ module _ (over : ℕ → Box) (order links : List ℕ) (boxes : List Float) wher
       rw (h .kind-is) (rw (left, right))
 
 -- the depth that is read off the links of a listing is the number of levels of its tree
-pub listing-depth : (over : ℕ → Box) (n : ℕ) (order links : List ℕ) (boxes : List Float) (nodes : ℕ) (t : Tree) → Listing over n order links boxes nodes t → depthOf links nodes ≡ levels t
+pub listing-depth : (over : ℕ → Box) (n : ℕ) (order links : List ℕ) (boxes : List Float) (nodes : ℕ) (t : Tree) → Listing over n order links boxes nodes t
+    → depthOf links nodes ≡ levels t
 listing-depth over n order links boxes nodes t s =
     hangs-depth over order links boxes t deepest (nodes - 1) (s .shallow) (listing-hangs over n order links boxes nodes t s)
 
@@ -63,7 +64,8 @@ module _ (links : List ℕ) where
     depth-leaf p = opened ∙ rw (ne-eqb (kindAt links node) 2 p)
 
     -- a branch is one level more than the deeper of its children
-    pub depth-branch : kindAt links node ≡ 2 → depthAt links most node ≡ max (depthAt links (most - 1) (leftAt links node)) (depthAt links (most - 1) (rightAt links node)) + 1
+    pub depth-branch : kindAt links node ≡ 2
+        → depthAt links most node ≡ max (depthAt links (most - 1) (leftAt links node)) (depthAt links (most - 1) (rightAt links node)) + 1
     depth-branch p = opened ∙ rw p
 
   -- what the depth needs at a branch holds at its children

@@ -58,7 +58,8 @@ module _ (boxAt : ℕ → Box) (order links : List ℕ) (boxes : List Float) whe
       }
 
   -- a branch, of what is found below it
-  branch-found : (most node last first entry first′ entry′ : ℕ) (leftBox rightBox : Box) → 3 * node + 3 ≤ length links → 6 * node + 6 ≤ length boxes → last ≤ length order
+  branch-found : (most node last first entry first′ entry′ : ℕ) (leftBox rightBox : Box) → 3 * node + 3 ≤ length links → 6 * node + 6 ≤ length boxes
+      → last ≤ length order
       → kindAt links node ≡ 2 → rightAt links node + 1 ≡ node → leftAt links node + 1 ≡ first′ → union leftBox rightBox ≡ nodeBox boxes node
       → Found most (rightAt links node) last first′ entry′ rightBox → Found most (leftAt links node) entry′ first entry leftBox
       → Found (suc most) node last first entry (union leftBox rightBox)
@@ -78,10 +79,12 @@ module _ (boxAt : ℕ → Box) (order links : List ℕ) (boxes : List Float) whe
         ends = omega (arith, length-append (numbers lt) (numbers rt), right .ends);
         under = λ i. union (left .under i) (right .under i);
         links-stand =
-            stands-three 0 links (linksFrom first entry lt) (linksFrom (first + nodeCount lt) (entry + length (numbers lt)) rt) _ (3 * first) (3 * first′) (3 * node)
+            stands-three 0 links (linksFrom first entry lt) (linksFrom (first + nodeCount lt) (entry + length (numbers lt)) rt) _ (3 * first)
+            (3 * first′) (3 * node)
             (omega (arith, links-length first entry lt)) (omega (arith, links-length (first + nodeCount lt) (entry + length (numbers lt)) rt))
             (left .links-stand) (rw (left-count, left-end) (right .links-stand))
-            (links-stand links node 2 (rootFrom first lt) (rootFrom (first + nodeCount lt) rt) wl k (sym (left .root)) (sym (right .root) ∙ ap (λ (i : ℕ). rootFrom i rt) (sym left-count)));
+            (links-stand links node 2 (rootFrom first lt) (rootFrom (first + nodeCount lt) rt) wl k (sym (left .root))
+            (sym (right .root) ∙ ap (λ (i : ℕ). rootFrom i rt) (sym left-count)));
         boxes-stand =
             stands-three nan boxes (boxesOf boxAt lt) (boxesOf boxAt rt) _ (6 * first) (6 * first′) (6 * node)
             (omega (arith, boxes-length boxAt lt)) (omega (arith, boxes-length boxAt rt)) (left .boxes-stand) (right .boxes-stand)
@@ -89,7 +92,8 @@ module _ (boxAt : ℕ → Box) (order links : List ℕ) (boxes : List Float) whe
       }
 
   -- the check, step by step: each finding keeps its promise
-  leaf-says : (most node last : ℕ) → Room order links boxes node last → kindAt links node ≡ 1 → Says (suc most) node last (leafFinding boxAt order links boxes node last)
+  leaf-says : (most node last : ℕ) → Room order links boxes node last → kindAt links node ≡ 1
+      → Says (suc most) node last (leafFinding boxAt order links boxes node last)
   unfolding leafFinding boxed
   leaf-says most node last w k = in-range (ltb entry last && eqb (rightAt links node) last) refl
     where
@@ -99,7 +103,8 @@ module _ (boxAt : ℕ → Box) (order links : List ℕ) (boxes : List Float) whe
       box : Box
       box = joined boxAt (Tables.slice order entry (last - entry))
 
-      same-boxes : (b : Bool) → sameBox box (nodeBox boxes node) ≡ b → entry < last → rightAt links node ≡ last → Says (suc most) node last (cond b (spans node entry box) wrong)
+      same-boxes : (b : Bool) → sameBox box (nodeBox boxes node) ≡ b → entry < last → rightAt links node ≡ last
+          → Says (suc most) node last (cond b (spans node entry box) wrong)
       same-boxes true p h r = leaf-found most node last (w .links-there) (w .boxes-there) (w .order-there) k h r (same-box box (nodeBox boxes node) p)
       same-boxes false p h r = tt
 
@@ -111,13 +116,15 @@ module _ (boxAt : ℕ → Box) (order links : List ℕ) (boxes : List Float) whe
 
   module _ (most node last : ℕ) (w : Room order links boxes node last) (k : kindAt links node ≡ 2) (r : rightAt links node + 1 ≡ node)
       (below : ℕ → ℕ → Finding) (says : (node′ last′ : ℕ) → Room order links boxes node′ last′ → Says most node′ last′ (below node′ last′)) where
-    left-says : (first entry : ℕ) (rightBox : Box) → Found most (rightAt links node) last first entry rightBox → leftAt links node + 1 ≡ first → (f : Finding) → Says most (leftAt links node) entry f
+    left-says : (first entry : ℕ) (rightBox : Box) → Found most (rightAt links node) last first entry rightBox → leftAt links node + 1 ≡ first → (f : Finding)
+        → Says most (leftAt links node) entry f
         → Says (suc most) node last (leftFound boxes node rightBox f)
     unfolding boxed
     left-says first entry rightBox right l wrong s = tt
     left-says first entry rightBox right l (spans first′ entry′ leftBox) s = at (sameBox (union leftBox rightBox) (nodeBox boxes node)) refl
       where
-        at : (b : Bool) → sameBox (union leftBox rightBox) (nodeBox boxes node) ≡ b → Says (suc most) node last (cond b (spans first′ entry′ (union leftBox rightBox)) wrong)
+        at : (b : Bool) → sameBox (union leftBox rightBox) (nodeBox boxes node) ≡ b
+            → Says (suc most) node last (cond b (spans first′ entry′ (union leftBox rightBox)) wrong)
         at true p =
             branch-found most node last first′ entry′ first entry leftBox rightBox (w .links-there) (w .boxes-there) (w .order-there) k r l
             (same-box (union leftBox rightBox) (nodeBox boxes node) p) right s
@@ -136,7 +143,8 @@ module _ (boxAt : ℕ → Box) (order links : List ℕ) (boxes : List Float) whe
             left-says first entry rightBox s l (below (leftAt links node) entry) (says (leftAt links node) entry left-room)
         at false p = tt
 
-  branch-says : (most node last : ℕ) → Room order links boxes node last → kindAt links node ≡ 2 → (below : ℕ → ℕ → Finding) → ((node′ last′ : ℕ) → Room order links boxes node′ last′ → Says most node′ last′ (below node′ last′))
+  branch-says : (most node last : ℕ) → Room order links boxes node last → kindAt links node ≡ 2 → (below : ℕ → ℕ → Finding)
+      → ((node′ last′ : ℕ) → Room order links boxes node′ last′ → Says most node′ last′ (below node′ last′))
       → (b : Bool) → eqb (rightAt links node + 1) node ≡ b → Says (suc most) node last (rightTried boxAt order links boxes b below node last)
   branch-says most node last w k below says true p =
       let r : rightAt links node + 1 ≡ node = eqb-true (rightAt links node + 1) node p in
@@ -144,8 +152,10 @@ module _ (boxAt : ℕ → Box) (order links : List ℕ) (boxes : List Float) whe
       right-says most node last w k r below says (below (rightAt links node) last) (says (rightAt links node) last right-room)
   branch-says most node last w k below says false p = tt
 
-  kind-says : (most node last : ℕ) → Room order links boxes node last → (below : ℕ → ℕ → Finding) → ((node′ last′ : ℕ) → Room order links boxes node′ last′ → Says most node′ last′ (below node′ last′))
-      → (a b : Bool) → eqb (kindAt links node) 1 ≡ a → eqb (kindAt links node) 2 ≡ b → Says (suc most) node last (byKind boxAt order links boxes a b below node last)
+  kind-says : (most node last : ℕ) → Room order links boxes node last → (below : ℕ → ℕ → Finding)
+      → ((node′ last′ : ℕ) → Room order links boxes node′ last′ → Says most node′ last′ (below node′ last′))
+      → (a b : Bool) → eqb (kindAt links node) 1 ≡ a → eqb (kindAt links node) 2 ≡ b
+      → Says (suc most) node last (byKind boxAt order links boxes a b below node last)
   kind-says most node last w below says true b p q = leaf-says most node last w (eqb-true (kindAt links node) 1 p)
   kind-says most node last w below says false true p q =
       branch-says most node last w (eqb-true (kindAt links node) 2 q) below says (eqb (rightAt links node + 1) node) refl

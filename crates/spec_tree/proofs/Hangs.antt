@@ -19,7 +19,8 @@ use Rattle.spec_tree.proofs.Accepted.{listing-stands, listing-some, lis
 use Rattle.spec_tree.proofs.Order.{permutes-entries}
 
 module _ (boxAt : ℕ → Box) (order links : List ℕ) (boxes : List Float) where
-  leaf-hangs : (slice : List ℕ) (entry node last : ℕ) → 0 < length slice → Listed boxAt order links boxes node entry node last (leaf slice) → There links boxes node
+  leaf-hangs : (slice : List ℕ) (entry node last : ℕ) → 0 < length slice → Listed boxAt order links boxes node entry node last (leaf slice)
+      → There links boxes node
       → LeafAt order links boxes slice (joined boxAt slice) node
   unfolding numbers linksFrom boxesOf
   leaf-hangs slice entry node last f s w =
@@ -49,8 +50,12 @@ module _ (boxAt : ℕ → Box) (order links : List ℕ) (boxes : List Float) whe
         left-before = omega (arith, h .own .left-is, h .left-next, h .right-next, count-least r);
         right-before = omega (arith, h .own .right-is, h .right-next);
         box-is = h .box;
-        left = rw (h .own .left-is) (listed-hangs l first entry (rootFrom first l) (entry + length (numbers l)) (f .0) (h .left) (omega (arith, h .left-next, h .right-next, count-least r)) (omega (arith, h .left-next, h .right-next, count-least r)));
-        right = rw (h .own .right-is) (listed-hangs r (first + nodeCount l) (entry + length (numbers l)) (rootFrom (first + nodeCount l) r) last (f .1) (h .right) (omega (arith, h .right-next)) (omega (arith, h .right-next)));
+        left =
+            rw (h .own .left-is) (listed-hangs l first entry (rootFrom first l) (entry + length (numbers l)) (f .0) (h .left)
+            (omega (arith, h .left-next, h .right-next, count-least r)) (omega (arith, h .left-next, h .right-next, count-least r)));
+        right =
+            rw (h .own .right-is) (listed-hangs r (first + nodeCount l) (entry + length (numbers l)) (rootFrom (first + nodeCount l) r) last (f .1) (h .right)
+            (omega (arith, h .right-next)) (omega (arith, h .right-next)));
       }
 
   -- ---- what holds of every node of a listing
@@ -78,10 +83,13 @@ module _ (boxAt : ℕ → Box) (order links : List ℕ) (boxes : List Float) whe
       let h : Halves boxAt order links boxes first entry node last l r = halves boxAt order links boxes first entry node last l r s in
       let left-before : rootFrom first l < node = omega (arith, h .left-next, h .right-next, root-last (first + nodeCount l) r) in
       let right-before : rootFrom (first + nodeCount l) r < node = omega (arith, h .right-next) in
-      let here : ChildrenBefore links node = record { is-branch = h .own .kind-is; left-before = rw (h .own .left-is) left-before; right-before = rw (h .own .right-is) right-before } in
+      let here : ChildrenBefore links node =
+      record { is-branch = h .own .kind-is; left-before = rw (h .own .left-is) left-before; right-before = rw (h .own .right-is) right-before } in
       one-of-three first (first + nodeCount l) node k a b
-      (λ p q. listed-node l first entry (rootFrom first l) (entry + length (numbers l)) (f .0) (h .left) (omega arith) (omega arith) k p (omega (arith, h .left-next)))
-      (λ p q. listed-node r (first + nodeCount l) (entry + length (numbers l)) (rootFrom (first + nodeCount l) r) last (f .1) (h .right) (omega arith) (omega arith) k p (omega (arith, h .right-next)))
+      (λ p q. listed-node l first entry (rootFrom first l) (entry + length (numbers l)) (f .0) (h .left) (omega arith) (omega arith) k p
+      (omega (arith, h .left-next)))
+      (λ p q. listed-node r (first + nodeCount l) (entry + length (numbers l)) (rootFrom (first + nodeCount l) r) last (f .1) (h .right) (omega arith)
+      (omega arith) k p (omega (arith, h .right-next)))
       (inr here)
 
 -- ---- of a whole listing

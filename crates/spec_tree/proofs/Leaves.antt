@@ -68,10 +68,12 @@ leaves-boxed boxAt node entry (branch l r) =
     ∙ sym (map-append (joined boxAt) (leaves l) (leaves r))
 
 -- and its slice of an order list in which the tree's triangle numbers stand
-leaves-slices : (boxAt : ℕ → Box) (order : List ℕ) (node entry : ℕ) (t : Tree) → Stands 0 order entry (numbers t) → map (sliceOf order) (leavesFrom boxAt node entry t) ≡ leaves t
+leaves-slices : (boxAt : ℕ → Box) (order : List ℕ) (node entry : ℕ) (t : Tree) → Stands 0 order entry (numbers t)
+    → map (sliceOf order) (leavesFrom boxAt node entry t) ≡ leaves t
 unfolding leavesFrom leaves numbers
 leaves-slices boxAt order node entry (leaf slice) s =
-    let cut : Tables.slice order entry (entry + length slice - entry) ≡ slice = stands-slice 0 order slice entry (entry + length slice - entry) (omega arith) s in
+    let cut : Tables.slice order entry (entry + length slice - entry) ≡ slice =
+    stands-slice 0 order slice entry (entry + length slice - entry) (omega arith) s in
     ap (λ (p : List ℕ). p ∷ []) cut
 leaves-slices boxAt order node entry (branch l r) s =
     let mid : ℕ = entry + length (numbers l) in
@@ -113,7 +115,8 @@ module _ (k : ℕ) where
   slices-one : (slices : List (List ℕ)) → distinct (flatten slices) ≡ true → occurs k (flatten slices) ≡ true → slicesWith k slices ≡ 1
   unfolding slicesWith flatten occurs
   slices-one [] d h = absurd (true≢false (sym h))
-  slices-one (slice ∷ slices) d h = at (occurs k slice) refl (slices-one slices (distinct-behind slice (flatten slices) d)) (sym (occurs-append k slice (flatten slices)) ∙ h)
+  slices-one (slice ∷ slices) d h = at (occurs k slice) refl (slices-one slices (distinct-behind slice (flatten slices) d))
+      (sym (occurs-append k slice (flatten slices)) ∙ h)
     where
       at : (b : Bool) → occurs k slice ≡ b → (occurs k (flatten slices) ≡ true → slicesWith k slices ≡ 1) → (occurs k slice || occurs k (flatten slices)) ≡ true
           → oneIf (occurs k slice) + slicesWith k slices ≡ 1
@@ -196,7 +199,8 @@ module _ (boxAt : ℕ → Box) (n : ℕ) (order links : List ℕ) (boxes : List 
   count-read : leafCount links nodes ≡ length (leaves t)
   unfolding leafCount
   count-read =
-      sym (length-map (leafNodes links 0 nodes) (leafAt links boxes)) ∙ ap length leaves-read ∙ sym (length-map (leavesFrom boxAt 0 0 t) (sliceOf order)) ∙ ap length slices-read
+      sym (length-map (leafNodes links 0 nodes) (leafAt links boxes)) ∙ ap length leaves-read ∙ sym (length-map (leavesFrom boxAt 0 0 t) (sliceOf order))
+      ∙ ap length slices-read
 
   count-some : 1 ≤ leafCount links nodes
   count-some = omega (arith, count-read, leaves-least t)
@@ -211,7 +215,8 @@ module _ (boxAt : ℕ → Box) (n : ℕ) (order links : List ℕ) (boxes : List 
 
   -- past the last there is nothing
   leaf-none : (k : ℕ) → leafCount links nodes ≤ k → leafFrom links boxes nodes 0 k ≡ nothing
-  leaf-none k h = leaf-is k ∙ kth-none (leavesFrom boxAt 0 0 t) k (omega (arith, count-read, ap length slices-read, length-map (leavesFrom boxAt 0 0 t) (sliceOf order)))
+  leaf-none k h =
+      leaf-is k ∙ kth-none (leavesFrom boxAt 0 0 t) k (omega (arith, count-read, ap length slices-read, length-map (leavesFrom boxAt 0 0 t) (sliceOf order)))
 
   -- up to the last, it has the k-th leaf's slice, and the box that its triangles give it
   leaf-some : (k : ℕ) → k < leafCount links nodes → TheLeaf boxAt order (leafFrom links boxes nodes 0 k) (getD (leaves t) k [])
@@ -305,27 +310,32 @@ module _ (triangles : List Float) (order links : List ℕ) (boxes : List Float) 
 -- ---- what the calls answer
 module _ (triangles : List Float) (order links : List ℕ) (boxes : List Float) (nodes : ℕ) where
   -- where the lists are refused, so is the k-th leaf, with the same number and place
-  pub leaf-refused : (k number place : ℕ) → checkRefusal triangles order links boxes nodes ≡ refused number place → notSought number place ≡ leafAnswer triangles order links boxes nodes k
+  pub leaf-refused : (k number place : ℕ) → checkRefusal triangles order links boxes nodes ≡ refused number place
+      → notSought number place ≡ leafAnswer triangles order links boxes nodes k
   unfolding leafAnswer
   leaf-refused k number place p = rw p
 
   -- where the lists pass, the k-th leaf is looked for from node 0 on
-  pub leaf-sought : (k : ℕ) (f : LeafFound) → checkRefusal triangles order links boxes nodes ≡ passes → f ≡ leafFrom links boxes nodes 0 k → f ≡ leafAnswer triangles order links boxes nodes k
+  pub leaf-sought : (k : ℕ) (f : LeafFound) → checkRefusal triangles order links boxes nodes ≡ passes → f ≡ leafFrom links boxes nodes 0 k
+      → f ≡ leafAnswer triangles order links boxes nodes k
   unfolding leafAnswer
   leaf-sought k f p q = rw p q
 
   -- where the lists are refused, so is the count of leaves, with the same number and place
-  pub count-refused : (number place : ℕ) → checkRefusal triangles order links boxes nodes ≡ refused number place → notCounted number place ≡ countAnswer triangles order links boxes nodes
+  pub count-refused : (number place : ℕ) → checkRefusal triangles order links boxes nodes ≡ refused number place
+      → notCounted number place ≡ countAnswer triangles order links boxes nodes
   unfolding countAnswer
   count-refused number place p = rw p
 
   -- where the lists pass, the leaves are counted
-  pub count-made : (n : ℕ) → checkRefusal triangles order links boxes nodes ≡ passes → n ≡ leafCount links nodes → counted n ≡ countAnswer triangles order links boxes nodes
+  pub count-made : (n : ℕ) → checkRefusal triangles order links boxes nodes ≡ passes → n ≡ leafCount links nodes
+      → counted n ≡ countAnswer triangles order links boxes nodes
   unfolding countAnswer
   count-made n p q = rw p (ap counted q)
 
   -- where a leaf is refused, so is each of its triangles, with the same number and place
-  pub entry-refused : (k i number place : ℕ) → leafAnswer triangles order links boxes nodes k ≡ notSought number place → entryRefused number place ≡ entryAnswer triangles order links boxes nodes k i
+  pub entry-refused : (k i number place : ℕ) → leafAnswer triangles order links boxes nodes k ≡ notSought number place
+      → entryRefused number place ≡ entryAnswer triangles order links boxes nodes k i
   unfolding entryAnswer
   entry-refused k i number place p = rw p
 
@@ -335,7 +345,8 @@ module _ (triangles : List Float) (order links : List ℕ) (boxes : List Float) 
   entry-none k i p = rw p
 
   -- where the k-th leaf is found, its i-th triangle is read from its slice
-  pub entry-read : (k i : ℕ) (l : Leaf) (e : EntryFound) → leafAnswer triangles order links boxes nodes k ≡ found l → e ≡ entryAt (sliceOf order l) i → e ≡ entryAnswer triangles order links boxes nodes k i
+  pub entry-read : (k i : ℕ) (l : Leaf) (e : EntryFound) → leafAnswer triangles order links boxes nodes k ≡ found l → e ≡ entryAt (sliceOf order l) i
+      → e ≡ entryAnswer triangles order links boxes nodes k i
   unfolding entryAnswer
   entry-read k i l e p q = rw p q
 

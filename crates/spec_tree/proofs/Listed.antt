@@ -20,14 +20,16 @@ module _ (boxAt : ℕ → Box) (order links : List ℕ) (boxes : List Float) whe
   unfolding boxed
   boxed-as node first entry box p = rw (box-same box (nodeBox boxes node) (sym p))
 
-  leaf-listed : (node last entry : ℕ) (slice : List ℕ) → NodeLinks links node 1 entry last → entry < last → Tables.slice order entry (last - entry) ≡ slice → nodeBox boxes node ≡ joined boxAt slice
+  leaf-listed : (node last entry : ℕ) (slice : List ℕ) → NodeLinks links node 1 entry last → entry < last → Tables.slice order entry (last - entry) ≡ slice
+      → nodeBox boxes node ≡ joined boxAt slice
       → leafFinding boxAt order links boxes node last ≡ spans node entry (joined boxAt slice)
   unfolding leafFinding
   leaf-listed node last entry slice l h p b =
       rw (l .left-is, l .right-is, lt-ltb entry last h, eq-eqb last last refl, p) (boxed-as node node entry (joined boxAt slice) b)
 
   branch-listed : (below : ℕ → ℕ → Finding) (node last entry left right first′ entry′ first : ℕ) (leftBox rightBox : Box) → NodeLinks links node 2 left right
-      → right + 1 ≡ node → left + 1 ≡ first′ → below right last ≡ spans first′ entry′ rightBox → below left entry′ ≡ spans first entry leftBox → nodeBox boxes node ≡ union leftBox rightBox
+      → right + 1 ≡ node → left + 1 ≡ first′ → below right last ≡ spans first′ entry′ rightBox → below left entry′ ≡ spans first entry leftBox
+      → nodeBox boxes node ≡ union leftBox rightBox
       → rightTried boxAt order links boxes (eqb (rightAt links node + 1) node) below node last ≡ spans first entry (union leftBox rightBox)
   branch-listed below node last entry left right first′ entry′ first leftBox rightBox l r q rightward leftward b =
       rw (l .right-is, eq-eqb (right + 1) node r)
@@ -70,8 +72,22 @@ module _ (boxAt : ℕ → Box) (order links : List ℕ) (boxes : List Float) whe
       (omega (arith, boxes-length boxAt l)) (omega (arith, boxes-length boxAt r)) (s .boxes-stand) in
       let both : length (numbers l ++ numbers r) ≡ length (numbers l) + length (numbers r) = length-append (numbers l) (numbers r) in
       record {
-        left = record { root = refl; slice = stands-first 0 order (numbers l) (numbers r) entry (s .slice); ends = refl; within = omega (arith, s .ends, s .within); links-stand = three .0; boxes-stand = six .0 };
-        right = record { root = refl; slice = stands-second 0 order (numbers l) (numbers r) entry mid refl (s .slice); ends = omega (arith, s .ends); within = s .within; links-stand = three .1; boxes-stand = six .1 };
+        left = record {
+          root = refl;
+          slice = stands-first 0 order (numbers l) (numbers r) entry (s .slice);
+          ends = refl;
+          within = omega (arith, s .ends, s .within);
+          links-stand = three .0;
+          boxes-stand = six .0;
+        };
+        right = record {
+          root = refl;
+          slice = stands-second 0 order (numbers l) (numbers r) entry mid refl (s .slice);
+          ends = omega (arith, s .ends);
+          within = s .within;
+          links-stand = three .1;
+          boxes-stand = six .1;
+        };
         right-next = next;
         left-next = root-last first l;
         own = links-read links node 2 (rootFrom first l) (rootFrom (first + nodeCount l) r) (three .2);
@@ -87,14 +103,18 @@ module _ (boxAt : ℕ → Box) (order links : List ℕ) (boxes : List Float) whe
       let own : NodeLinks links first 1 entry (entry + length slice) = links-read links first 1 entry (entry + length slice) (s .links-stand) in
       let box : nodeBox boxes first ≡ joined boxAt slice = box-read boxes first (joined boxAt slice) (s .boxes-stand) in
       let end : entry + length slice ≡ last = s .ends in
-      let cut : Tables.slice order entry (entry + length slice - entry) ≡ slice = stands-slice 0 order slice entry (entry + length slice - entry) (omega arith) (s .slice) in
+      let cut : Tables.slice order entry (entry + length slice - entry) ≡ slice =
+      stands-slice 0 order slice entry (entry + length slice - entry) (omega arith) (s .slice) in
       rw (← s .root, ← end)
-      (by-kind most first (entry + length slice) 1 entry (entry + length slice) _ own (leaf-listed first (entry + length slice) entry slice own (omega arith) cut box))
+      (by-kind most first (entry + length slice) 1 entry (entry + length slice) _ own
+      (leaf-listed first (entry + length slice) entry slice own (omega arith) cut box))
   listed-found (branch l r) zero first entry node last f h s = absurd (omega arith)
   listed-found (branch l r) (suc most) first entry node last f h s =
       let h′ : Halves first entry node last l r = halves first entry node last l r s in
-      let rightward = listed-found r most (first + nodeCount l) (entry + length (numbers l)) (rootFrom (first + nodeCount l) r) last (f .1) (omega arith) (h′ .right) in
+      let rightward = listed-found r most (first + nodeCount l) (entry + length (numbers l)) (rootFrom (first + nodeCount l) r) last (f .1)
+      (omega arith) (h′ .right) in
       let leftward = listed-found l most first entry (rootFrom first l) (entry + length (numbers l)) (f .0) (omega arith) (h′ .left) in
       by-kind most node last 2 (rootFrom first l) (rootFrom (first + nodeCount l) r) _ (h′ .own)
-      (branch-listed (finding boxAt order links boxes most) node last entry (rootFrom first l) (rootFrom (first + nodeCount l) r) (first + nodeCount l) (entry + length (numbers l)) first
+      (branch-listed (finding boxAt order links boxes most) node last entry (rootFrom first l) (rootFrom (first + nodeCount l) r) (first + nodeCount l)
+      (entry + length (numbers l)) first
       (boxOver boxAt l) (boxOver boxAt r) (h′ .own) (h′ .right-next) (h′ .left-next) rightward leftward (h′ .box))

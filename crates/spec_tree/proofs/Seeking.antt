@@ -34,7 +34,8 @@ module _ (links : List ℕ) where
       let q : node + suc a ≡ suc node + a = omega arith in
       rw (p, q, leaf-nodes-then (suc node) a b) (at (eqb (kindAt links node) 1))
     where
-      at : (is : Bool) → withLeaf is node (leafNodes links (suc node) a ++ leafNodes links (suc node + a) b) ≡ withLeaf is node (leafNodes links (suc node) a) ++ leafNodes links (suc node + a) b
+      at : (is : Bool) → withLeaf is node (leafNodes links (suc node) a ++ leafNodes links (suc node + a) b)
+          ≡ withLeaf is node (leafNodes links (suc node) a) ++ leafNodes links (suc node + a) b
       at true = refl
       at false = refl
 
@@ -88,9 +89,12 @@ module _ (links : List ℕ) (boxes : List Float) (nodes : ℕ) where
     seek-here left p none = ap (leafFrom links boxes nodes node) none ∙ rw (on-leaf links nodes node h p)
 
     -- at a leaf, with a remaining count above 0, the search goes on with one less
-    pub seek-past : (left : ℕ) → kindAt links node ≡ 1 → (left ≡ 0 → ⊥) → leafFrom links boxes nodes (node + 1) (left - 1) ≡ leafFrom links boxes nodes node left
+    pub seek-past : (left : ℕ) → kindAt links node ≡ 1 → (left ≡ 0 → ⊥)
+        → leafFrom links boxes nodes (node + 1) (left - 1) ≡ leafFrom links boxes nodes node left
     unfolding leafFrom kth
-    seek-past left p some = let more : left ≡ suc (left - 1) = omega arith in sym (ap (leafFrom links boxes nodes node) more ∙ rw (on-leaf links nodes node h p))
+    seek-past left p some =
+        let more : left ≡ suc (left - 1) = omega arith in
+        sym (ap (leafFrom links boxes nodes node) more ∙ rw (on-leaf links nodes node h p))
 
     -- at a node that is no leaf the search goes on
     pub seek-on : (left : ℕ) → (kindAt links node ≡ 1 → ⊥) → leafFrom links boxes nodes (node + 1) left ≡ leafFrom links boxes nodes node left
@@ -136,7 +140,8 @@ module _ (links : List ℕ) (boxes : List Float) where
               rw (rest, next-node, more, leaf-node links node count p);
         }
 
-    found-behind : (k k′ : ℕ) → ((j : ℕ) → kth (among (suc node) count) (k′ + j + 1) ≡ kth (among node (suc count)) (k + j + 1)) → FoundAt (suc node) count k′ l → FoundAt node (suc count) k l
+    found-behind : (k k′ : ℕ) → ((j : ℕ) → kth (among (suc node) count) (k′ + j + 1) ≡ kth (among node (suc count)) (k + j + 1)) → FoundAt (suc node) count k′ l
+        → FoundAt node (suc count) k l
     found-behind k k′ same f =
         record {
           within = omega (arith, f .within);
@@ -149,7 +154,8 @@ module _ (links : List ℕ) (boxes : List Float) where
     found-by true p zero rest q = let kind : kindAt links node ≡ 1 = eqb-true _ 1 p in found-here kind (rw (leaf-node links node count kind) at q)
     found-by true p (suc k) rest q =
         let kind : kindAt links node ≡ 1 = eqb-true _ 1 p in
-        found-behind (suc k) k (λ j. let more : suc k + j + 1 ≡ suc (k + j + 1) = omega arith in rw (more, leaf-node links node count kind)) (rest k (rw (leaf-node links node count kind) at q))
+        found-behind (suc k) k (λ j. let more : suc k + j + 1 ≡ suc (k + j + 1) = omega arith in
+        rw (more, leaf-node links node count kind)) (rest k (rw (leaf-node links node count kind) at q))
     found-by false p k rest q =
         let same : leafNodes links node (suc count) ≡ leafNodes links (suc node) count = other-node links node count (eqb-false _ 1 p) in
         found-behind k k (λ j. rw same) (rest k (rw same at q))

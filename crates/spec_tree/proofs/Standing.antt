@@ -69,7 +69,8 @@ pub slice-join : {A : Type 0} (l : List A) (a b c : ℕ) → a ≤ b → b ≤ c
 slice-join {A} l a b c h k =
     let sizes : c - a ≡ (b - a) + (c - b) = omega arith in
     let start : a + (b - a) ≡ b = omega arith in
-    sym (ap (slice l a) sizes ∙ take-add (b - a) (c - b) (drop a l) ∙ ap (λ (x : List A). slice l a (b - a) ++ take (c - b) x) (drop-drop (b - a) a l ∙ ap (λ (n : ℕ). drop n l) start))
+    sym (ap (slice l a) sizes ∙ take-add (b - a) (c - b) (drop a l)
+    ∙ ap (λ (x : List A). slice l a (b - a) ++ take (c - b) x) (drop-drop (b - a) a l ∙ ap (λ (n : ℕ). drop n l) start))
 
 -- a slice within the list has the length it was given
 pub slice-length : {A : Type 0} (l : List A) (s n : ℕ) → s + n ≤ length l → length (slice l s n) ≡ n

@@ -47,7 +47,8 @@ module _ (boxAt : ℕ → Box) (order links : List ℕ) (boxes : List Float) whe
     leaf-misses h = rw (ne-eqb (rightAt links node) last h, and-false (ltb (leftAt links node) last))
 
     -- a leaf with a right range is decided by its box
-    pub leaf-fits : entry < last → rightAt links node ≡ last → leafFinding boxAt order links boxes node last ≡ boxed boxes node node entry (joined boxAt (slice order entry (last - entry)))
+    pub leaf-fits : entry < last → rightAt links node ≡ last
+        → leafFinding boxAt order links boxes node last ≡ boxed boxes node node entry (joined boxAt (slice order entry (last - entry)))
     unfolding leafFinding
     leaf-fits h q = rw (← p, lt-ltb entry last h, eq-eqb (rightAt links node) last q)
 
@@ -82,15 +83,18 @@ module _ (boxAt : ℕ → Box) (order links : List ℕ) (boxes : List Float) whe
         node-apart q = branched ∙ rw q
 
         -- a branch whose right child stands just before it is decided by what is found there
-        pub node-goes-on : eqb (rightAt links node + 1) node ≡ true → (right : ℕ) (f : Finding) → right ≡ rightAt links node → finding boxAt order links boxes (levels - 1) right last ≡ f
+        pub node-goes-on : eqb (rightAt links node + 1) node ≡ true → (right : ℕ) (f : Finding) → right ≡ rightAt links node
+            → finding boxAt order links boxes (levels - 1) right last ≡ f
             → finding boxAt order links boxes levels node last ≡ rightFound boxAt order links boxes (finding boxAt order links boxes (levels - 1)) node f
         node-goes-on q right f e r = branched ∙ rw (q, ← e, r)
 
   -- a found subtree begins no later than its node and than its end, so the look at its sibling stays within the lists
-  pub found-within : (levels node last first entry : ℕ) (box : Box) → Room order links boxes node last → finding boxAt order links boxes levels node last ≡ spans first entry box
+  pub found-within : (levels node last first entry : ℕ) (box : Box) → Room order links boxes node last
+      → finding boxAt order links boxes levels node last ≡ spans first entry box
       → (first ≤ node) × (entry ≤ last)
   found-within levels node last first entry box w p =
-      let it : Found boxAt order links boxes levels node last first entry box = subst (Says boxAt order links boxes levels node last) p (found boxAt order links boxes levels node last w) in
+      let it : Found boxAt order links boxes levels node last first entry box = subst (Says boxAt order links boxes levels node last) p
+      (found boxAt order links boxes levels node last w) in
       (omega (arith, root-last first (it .tree), it .root, count-least (it .tree)), omega (arith, it .ends))
 
 -- ---- the whole

@@ -21,7 +21,9 @@ use shapes::vec3::Axis;
 // Cuts before the first entry whose box lies in a bucket later than k.
 fn first_later(bounds: &[f32], slice: &[u32], axis: Axis, within: Span, k: usize) -> Split
     requires { ⌜ Splits.AllInTable (now bounds) (now slice) ⌝ }
-    ensures { λ r. ⌜ Values.asSplit r ≡ Area.firstLater (Area.bucketBetween binary32 (Shapes.asAxis axis) (within .lo) (within .hi)) k (Splits.boxesIn (now (bounds .entry)) (now (slice .entry))) 0 ⌝ }
+    ensures { λ r. ⌜ Values.asSplit r
+        ≡ Area.firstLater (Area.bucketBetween binary32 (Shapes.asAxis axis) (within .lo) (within .hi)) k
+        (Splits.boxesIn (now (bounds .entry)) (now (slice .entry))) 0 ⌝ }
 {
     let mut i = 0;
     while i < slice.len() {
@@ -37,7 +39,9 @@ fn first_later(bounds: &[f32], slice: &[u32], axis: Axis, within: Span, k: usize
 fn cut_by(bounds: &[f32], slice: &[u32], axis: Axis, within: Span, best: Cheapest) -> Split
     requires { ⌜ length (now slice) < 2 ^ 28 ⌝ }
     requires { ⌜ Splits.AllInTable (now bounds) (now slice) ⌝ }
-    ensures { λ r. ⌜ Values.asSplit r ≡ Area.cutBy binary32 (Area.bucketBetween binary32 (Shapes.asAxis axis) (within .lo) (within .hi)) (Values.asCheapest best) (Splits.boxesIn (now (bounds .entry)) (now (slice .entry))) ⌝ }
+    ensures { λ r. ⌜ Values.asSplit r
+        ≡ Area.cutBy binary32 (Area.bucketBetween binary32 (Shapes.asAxis axis) (within .lo) (within .hi)) (Values.asCheapest best)
+        (Splits.boxesIn (now (bounds .entry)) (now (slice .entry))) ⌝ }
 {
     let leaf_cost = std::num::nearest_u32_to_f32(slice.len() as u32);
     if best.are_numbers & (best.cost < leaf_cost) {
@@ -50,7 +54,8 @@ fn cut_by(bounds: &[f32], slice: &[u32], axis: Axis, within: Span, best: Cheapes
 pub fn area_split(bounds: &[f32], slice: &[u32], axis: Axis, parent: Box3) -> Split
     requires { ⌜ length (now slice) < 2 ^ 28 ⌝ }
     requires { ⌜ Splits.Boxed binary32 (now bounds) (now slice) ⌝ }
-    ensures { λ r. ⌜ Values.asSplit r ≡ Area.areaSplit binary32 (Shapes.asAxis axis) (Shapes.asBox parent) (Splits.boxesIn (now (bounds .entry)) (now (slice .entry))) ⌝ }
+    ensures { λ r. ⌜ Values.asSplit r
+        ≡ Area.areaSplit binary32 (Shapes.asAxis axis) (Shapes.asBox parent) (Splits.boxesIn (now (bounds .entry)) (now (slice .entry))) ⌝ }
 {
     let within = centre_span(bounds, slice, axis);
     let buckets = fill(bounds, slice, axis, within);

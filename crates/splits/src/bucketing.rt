@@ -45,7 +45,8 @@ pub fn bucket_of(bounds: &[f32], t: u32, axis: Axis, within: Span) -> usize
 // The lowest and the highest centre of the slice's boxes on the axis. The rule needs one axis only.
 pub fn centre_span(bounds: &[f32], slice: &[u32], axis: Axis) -> Span
     requires { ⌜ Splits.AllInTable (now bounds) (now slice) ⌝ }
-    ensures { λ r. ⌜ Area.EndsOf (Shapes.asAxis axis) (Area.centreBounds binary32 (Splits.boxesIn (now (bounds .entry)) (now (slice .entry)))) (r .lo) (r .hi) ⌝ }
+    ensures { λ r. ⌜ Area.EndsOf (Shapes.asAxis axis) (Area.centreBounds binary32 (Splits.boxesIn (now (bounds .entry)) (now (slice .entry))))
+        (r .lo) (r .hi) ⌝ }
 {
     let none = Box3::empty();
     let mut lo = none.min.x;
@@ -64,7 +65,9 @@ pub fn centre_span(bounds: &[f32], slice: &[u32], axis: Axis) -> Span
 pub fn fill(bounds: &[f32], slice: &[u32], axis: Axis, within: Span) -> Buckets
     requires { ⌜ length (now slice) < 2 ^ 28 ⌝ }
     requires { ⌜ Splits.AllInTable (now bounds) (now slice) ⌝ }
-    ensures { λ r. ⌜ Costs.asBuckets r ≡ Area.filled binary32 (Area.bucketBetween binary32 (Shapes.asAxis axis) (within .lo) (within .hi)) (Splits.boxesIn (now (bounds .entry)) (now (slice .entry))) ⌝ }
+    ensures { λ r. ⌜ Costs.asBuckets r
+        ≡ Area.filled binary32 (Area.bucketBetween binary32 (Shapes.asAxis axis) (within .lo) (within .hi))
+        (Splits.boxesIn (now (bounds .entry)) (now (slice .entry))) ⌝ }
 {
     let mut buckets = Buckets::empty();
     let mut i = 0;

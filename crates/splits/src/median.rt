@@ -20,7 +20,8 @@ use shapes::vec3::Axis;
 fn plane_between(bounds: &[f32], axis: Axis, above: u32, below: u32) -> Plane3
     requires { ⌜ Splits.InTable (now bounds) above ⌝ }
     requires { ⌜ Splits.InTable (now bounds) below ⌝ }
-    ensures { λ r. ⌜ Shapes.asPlane r ≡ Median.planeBetween binary32 (Shapes.asAxis axis) (Splits.boxIn (now (bounds .entry)) above) (Splits.boxIn (now (bounds .entry)) below) ⌝ }
+    ensures { λ r. ⌜ Shapes.asPlane r
+        ≡ Median.planeBetween binary32 (Shapes.asAxis axis) (Splits.boxIn (now (bounds .entry)) above) (Splits.boxIn (now (bounds .entry)) below) ⌝ }
 {
     let mean = (centre_on(bounds, above, axis) + centre_on(bounds, below, axis)) * 0.5;
     Plane3 {
@@ -84,7 +85,8 @@ fn are_both_large(bounds: &[f32], slice: &[u32], cut: usize, parent: Box3) -> bo
 pub fn median_split(bounds: &[f32], slice: &[u32], axis: Axis, parent: Box3) -> Split
     requires { ⌜ 2 ≤ length (now slice) ⌝ }
     requires { ⌜ Splits.Boxed binary32 (now bounds) (now slice) ⌝ }
-    ensures { λ r. ⌜ Cuts.asSplit r ≡ Median.medianSplit binary32 (Shapes.asAxis axis) (Shapes.asBox parent) (Splits.boxesIn (now (bounds .entry)) (now (slice .entry))) ⌝ }
+    ensures { λ r. ⌜ Cuts.asSplit r
+        ≡ Median.medianSplit binary32 (Shapes.asAxis axis) (Shapes.asBox parent) (Splits.boxesIn (now (bounds .entry)) (now (slice .entry))) ⌝ }
 {
     let cut = slice.len() / 2;
     if all_meet_at(bounds, slice, axis, cut) {

@@ -35,13 +35,15 @@ depthAnswered (made nodes depth) = depth
 depthAnswered (notMade number place) = 0
 
 -- a build, of whose answer the call returns one number
-pub record BuildAnswered (answered : Built → ℕ) (f : Format) (triangles : List Float) (s : Settings) (order links : List ℕ) (boxes : List Float) (r : ℕ) (order′ links′ : List ℕ) (boxes′ : List Float) : Type 0 where
+pub record BuildAnswered (answered : Built → ℕ) (f : Format) (triangles : List Float) (s : Settings) (order links : List ℕ) (boxes : List Float) (r : ℕ)
+    (order′ links′ : List ℕ) (boxes′ : List Float) : Type 0 where
   pub answer : Built
   pub built : BuildIs f triangles s order links boxes answer order′ links′ boxes′
   pub answered-is : r ≡ answered answer
 
 -- how many triangles the sure search measures for the first point; 0 where the lists do not pass or there is no point
-unfoldable pub measuredFirst : Format → (triangles : List Float) (order links : List ℕ) (boxes : List Float) (nodes : ℕ) (points : List Float) (distance : Float) → ℕ
+unfoldable pub measuredFirst : Format
+    → (triangles : List Float) (order links : List ℕ) (boxes : List Float) (nodes : ℕ) (points : List Float) (distance : Float) → ℕ
 measuredFirst f triangles order links boxes nodes points distance =
     cond (refuses (trianglesRefusal triangles)) 0
     (cond (accepted (boxAt triangles) (triangleCount triangles) order links boxes nodes)

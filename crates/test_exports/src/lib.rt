@@ -74,7 +74,11 @@ pub extern "C" fn timing_build(
     links: &mut [u32],
     boxes: &mut [f32],
 ) -> usize
-    ensures { λ r. ⌜ Answered.BuildAnswered Answered.nodesAnswered binary32 (now (triangles .entry)) (record { strategy = strategy; leafMinimum = «leaf_minimum»; maximumDepth = «maximum_depth» }) (now (order .entry)) (now (links .entry)) (now (boxes .entry)) r (now (order .exit)) (now (links .exit)) (now (boxes .exit)) ⌝ }
+    ensures { λ r. ⌜ Answered.BuildAnswered Answered.nodesAnswered binary32 (now (triangles .entry)) (record {
+      strategy = strategy;
+      leafMinimum = «leaf_minimum»;
+      maximumDepth = «maximum_depth»;
+    }) (now (order .entry)) (now (links .entry)) (now (boxes .entry)) r (now (order .exit)) (now (links .exit)) (now (boxes .exit)) ⌝ }
 {
     let built = build::calls::build(
         triangles,
@@ -99,7 +103,11 @@ pub extern "C" fn timing_depth(
     links: &mut [u32],
     boxes: &mut [f32],
 ) -> usize
-    ensures { λ r. ⌜ Answered.BuildAnswered Answered.depthAnswered binary32 (now (triangles .entry)) (record { strategy = strategy; leafMinimum = «leaf_minimum»; maximumDepth = «maximum_depth» }) (now (order .entry)) (now (links .entry)) (now (boxes .entry)) r (now (order .exit)) (now (links .exit)) (now (boxes .exit)) ⌝ }
+    ensures { λ r. ⌜ Answered.BuildAnswered Answered.depthAnswered binary32 (now (triangles .entry)) (record {
+      strategy = strategy;
+      leafMinimum = «leaf_minimum»;
+      maximumDepth = «maximum_depth»;
+    }) (now (order .entry)) (now (links .entry)) (now (boxes .entry)) r (now (order .exit)) (now (links .exit)) (now (boxes .exit)) ⌝ }
 {
     let built = build::calls::build(
         triangles,
@@ -125,8 +133,12 @@ pub extern "C" fn timing_sure(
     distance: f32,
     answers: &mut [u32],
 ) -> u32
-    ensures passed { λ r. ⌜ r ≡ Answered.onePassed (Calls.queryRefusal (now (triangles .entry)) (now (order .entry)) (now (links .entry)) (now (boxes .entry)) nodes (now (points .entry)) distance (length (now (answers .entry)))) ⌝ }
-    ensures answers { λ _. ⌜ now (answers .exit) ≡ Calls.afterQuery binary32 (Calls.sureAnswer binary32 (now (triangles .entry)) distance) (now (points .entry)) (Calls.queryRefusal (now (triangles .entry)) (now (order .entry)) (now (links .entry)) (now (boxes .entry)) nodes (now (points .entry)) distance (length (now (answers .entry)))) (now (answers .entry)) ⌝ }
+    ensures passed { λ r. ⌜ r ≡ Answered.onePassed (Calls.queryRefusal (now (triangles .entry)) (now (order .entry)) (now (links .entry))
+        (now (boxes .entry)) nodes (now (points .entry)) distance (length (now (answers .entry)))) ⌝ }
+    ensures answers { λ _. ⌜ now (answers .exit)
+        ≡ Calls.afterQuery binary32 (Calls.sureAnswer binary32 (now (triangles .entry)) distance) (now (points .entry))
+        (Calls.queryRefusal (now (triangles .entry)) (now (order .entry)) (now (links .entry)) (now (boxes .entry)) nodes (now (points .entry)) distance
+        (length (now (answers .entry)))) (now (answers .entry)) ⌝ }
 {
     let verdict = queries::calls::sure_query(
         triangles,
@@ -153,8 +165,12 @@ pub extern "C" fn timing_source(
     distance: f32,
     answers: &mut [u32],
 ) -> u32
-    ensures passed { λ r. ⌜ r ≡ Answered.onePassed (Calls.queryRefusal (now (triangles .entry)) (now (order .entry)) (now (links .entry)) (now (boxes .entry)) nodes (now (points .entry)) distance (length (now (answers .entry)))) ⌝ }
-    ensures answers { λ _. ⌜ now (answers .exit) ≡ Calls.afterQuery binary32 (Calls.sourceAnswer binary32 (now (triangles .entry)) (now (order .entry)) (now (links .entry)) (now (boxes .entry)) nodes distance) (now (points .entry)) (Calls.queryRefusal (now (triangles .entry)) (now (order .entry)) (now (links .entry)) (now (boxes .entry)) nodes (now (points .entry)) distance (length (now (answers .entry)))) (now (answers .entry)) ⌝ }
+    ensures passed { λ r. ⌜ r ≡ Answered.onePassed (Calls.queryRefusal (now (triangles .entry)) (now (order .entry)) (now (links .entry))
+        (now (boxes .entry)) nodes (now (points .entry)) distance (length (now (answers .entry)))) ⌝ }
+    ensures answers { λ _. ⌜ now (answers .exit)
+        ≡ Calls.afterQuery binary32 (Calls.sourceAnswer binary32 (now (triangles .entry)) (now (order .entry)) (now (links .entry))
+        (now (boxes .entry)) nodes distance) (now (points .entry)) (Calls.queryRefusal (now (triangles .entry)) (now (order .entry)) (now (links .entry))
+        (now (boxes .entry)) nodes (now (points .entry)) distance (length (now (answers .entry)))) (now (answers .entry)) ⌝ }
 {
     let verdict = queries::calls::source_query(
         triangles,
@@ -178,7 +194,8 @@ pub extern "C" fn timing_check(
     boxes: &[f32],
     nodes: usize,
 ) -> u32
-    ensures { λ r. ⌜ r ≡ Answered.onePassed (Trees.checkRefusal (now (triangles .entry)) (now (order .entry)) (now (links .entry)) (now (boxes .entry)) nodes) ⌝ }
+    ensures { λ r. ⌜ r
+        ≡ Answered.onePassed (Trees.checkRefusal (now (triangles .entry)) (now (order .entry)) (now (links .entry)) (now (boxes .entry)) nodes) ⌝ }
 {
     let verdict = tree::calls::check(triangles, order, links, boxes, nodes);
     one_passed(verdict)
@@ -193,7 +210,8 @@ pub extern "C" fn timing_depth_read(
     boxes: &[f32],
     nodes: usize,
 ) -> usize
-    ensures { λ r. ⌜ r ≡ Answered.depthRead (Depth.depthAnswer (now (triangles .entry)) (now (order .entry)) (now (links .entry)) (now (boxes .entry)) nodes) ⌝ }
+    ensures { λ r. ⌜ r
+        ≡ Answered.depthRead (Depth.depthAnswer (now (triangles .entry)) (now (order .entry)) (now (links .entry)) (now (boxes .entry)) nodes) ⌝ }
 {
     let found = tree::calls::depth(triangles, order, links, boxes, nodes);
     depth_read(found)
@@ -210,7 +228,8 @@ fn measured_at(
     distance: f32,
 ) -> usize
     requires { ⌜ Calls.Searchable (now triangles) (now order) (now links) (now boxes) nodes ⌝ }
-    ensures { λ r. ⌜ r ≡ Sure.sureWalk binary32 (now (triangles .entry)) (now (order .entry)) (now (links .entry)) (now (boxes .entry)) nodes (Shapes.asPoint p) (Sure.limitOf binary32 distance) .measured ⌝ }
+    ensures { λ r. ⌜ r ≡ Sure.sureWalk binary32 (now (triangles .entry)) (now (order .entry)) (now (links .entry)) (now (boxes .entry)) nodes (Shapes.asPoint p)
+        (Sure.limitOf binary32 distance) .measured ⌝ }
 {
     let probe = Probe {
         point: p,
@@ -231,7 +250,8 @@ pub extern "C" fn timing_measured(
     points: &[f32],
     distance: f32,
 ) -> usize
-    ensures { λ r. ⌜ r ≡ Answered.measuredFirst binary32 (now (triangles .entry)) (now (order .entry)) (now (links .entry)) (now (boxes .entry)) nodes (now (points .entry)) distance ⌝ }
+    ensures { λ r. ⌜ r ≡ Answered.measuredFirst binary32 (now (triangles .entry)) (now (order .entry)) (now (links .entry)) (now (boxes .entry)) nodes
+        (now (points .entry)) distance ⌝ }
 {
     let verdict = triangles_refusal(triangles);
     if verdict.refuses() {

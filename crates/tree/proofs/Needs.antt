@@ -19,7 +19,8 @@ use Rattle.tree.specs.Needs.{Subtree, LeftSubtree}
 
 module _ (triangles : List Float) (order links : List ℕ) (boxes : List Float) where
   -- the right subtree has what its check needs
-  pub right-needs : (node last right : ℕ) → Subtree triangles order links boxes node last → right ≡ rightAt links node → eqb (rightAt links node + 1) node ≡ true
+  pub right-needs : (node last right : ℕ) → Subtree triangles order links boxes node last → right ≡ rightAt links node
+      → eqb (rightAt links node + 1) node ≡ true
       → Subtree triangles order links boxes right last
   right-needs node last right s p q =
       let next : rightAt links node + 1 ≡ node = eqb-true (rightAt links node + 1) node q in
@@ -27,7 +28,8 @@ module _ (triangles : List Float) (order links : List ℕ) (boxes : List Float) 
       record { room = omega arith; entries = s .entries }
 
   -- the left subtree has what its check needs
-  pub left-needs : (node first entry left : ℕ) → LeftSubtree triangles order links boxes node first entry → left ≡ leftAt links node → eqb (leftAt links node + 1) first ≡ true
+  pub left-needs : (node first entry left : ℕ) → LeftSubtree triangles order links boxes node first entry → left ≡ leftAt links node
+      → eqb (leftAt links node + 1) first ≡ true
       → Subtree triangles order links boxes left entry
   left-needs node first entry left s p q =
       let next : leftAt links node + 1 ≡ first = eqb-true (leftAt links node + 1) first q in
@@ -36,7 +38,8 @@ module _ (triangles : List Float) (order links : List ℕ) (boxes : List Float) 
       record { room = omega arith; entries = s .entries }
 
   -- once the right subtree is found to be a listing, the left one can be checked in front of it
-  pub then-left-needs : (levels node last right first entry : ℕ) (box : Box) (f : Finding) → Subtree triangles order links boxes node last → right ≡ rightAt links node
+  pub then-left-needs : (levels node last right first entry : ℕ) (box : Box) (f : Finding) → Subtree triangles order links boxes node last
+      → right ≡ rightAt links node
       → eqb (rightAt links node + 1) node ≡ true → f ≡ finding (boxAt triangles) order links boxes levels right last → f ≡ spans first entry box
       → LeftSubtree triangles order links boxes node first entry
   then-left-needs levels node last right first entry box f s p q g h =
@@ -46,7 +49,8 @@ module _ (triangles : List Float) (order links : List ℕ) (boxes : List Float) 
       record { room = omega arith; entries = s .entries; before = omega arith }
 
   -- the root has what its check needs, once the order list and the lengths passed
-  pub root-needs : (n nodes : ℕ) → n ≡ triangleCount triangles → permutes n order ≡ true → present links boxes nodes ≡ true → Subtree triangles order links boxes (nodes - 1) n
+  pub root-needs : (n nodes : ℕ) → n ≡ triangleCount triangles → permutes n order ≡ true → present links boxes nodes ≡ true
+      → Subtree triangles order links boxes (nodes - 1) n
   root-needs n nodes p q r =
       record {
         room = root-room (boxAt triangles) n order links boxes nodes q r;

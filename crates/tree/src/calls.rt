@@ -22,7 +22,8 @@ pub fn tree_refusal(
     nodes: usize,
 ) -> Verdict
     requires { ⌜ Reading.triangleCount (now triangles) ≤ Limits.maxTriangles ⌝ }
-    ensures { λ r. ⌜ Verdicts.asVerdict r ≡ Refusals.treeRefusal (now (triangles .entry)) (now (order .entry)) (now (links .entry)) (now (boxes .entry)) nodes ⌝ }
+    ensures { λ r. ⌜ Verdicts.asVerdict r
+        ≡ Refusals.treeRefusal (now (triangles .entry)) (now (order .entry)) (now (links .entry)) (now (boxes .entry)) nodes ⌝ }
 {
     refused_if(!is_accepted(triangles, order, links, boxes, nodes), 7, 0)
 }
@@ -35,7 +36,8 @@ pub fn check(
     boxes: &[f32],
     nodes: usize,
 ) -> Verdict
-    ensures { λ r. ⌜ Verdicts.asVerdict r ≡ Refusals.checkRefusal (now (triangles .entry)) (now (order .entry)) (now (links .entry)) (now (boxes .entry)) nodes ⌝ }
+    ensures { λ r. ⌜ Verdicts.asVerdict r
+        ≡ Refusals.checkRefusal (now (triangles .entry)) (now (order .entry)) (now (links .entry)) (now (boxes .entry)) nodes ⌝ }
 {
     let bad_triangles = triangles_refusal(triangles);
     if bad_triangles.refuses() {

@@ -86,7 +86,8 @@ fn check_leaf(
     last: usize,
 ) -> Finding
     requires { ⌜ Needs.Subtree (now triangles) (now order) (now links) (now boxes) node last ⌝ }
-    ensures { λ r. ⌜ Values.asFinding r ≡ Accepted.leafFinding (Reading.boxAt (now (triangles .entry))) (now (order .entry)) (now (links .entry)) (now (boxes .entry)) node last ⌝ }
+    ensures { λ r. ⌜ Values.asFinding r
+        ≡ Accepted.leafFinding (Reading.boxAt (now (triangles .entry))) (now (order .entry)) (now (links .entry)) (now (boxes .entry)) node last ⌝ }
 {
     let entry = left_at(links, node);
     if entry >= last {
@@ -110,7 +111,8 @@ fn check_node(
     last: usize,
 ) -> Finding
     requires { ⌜ Needs.Subtree (now triangles) (now order) (now links) (now boxes) node last ⌝ }
-    ensures { λ r. ⌜ Values.asFinding r ≡ Accepted.finding (Reading.boxAt (now (triangles .entry))) (now (order .entry)) (now (links .entry)) (now (boxes .entry)) levels node last ⌝ }
+    ensures { λ r. ⌜ Values.asFinding r
+        ≡ Accepted.finding (Reading.boxAt (now (triangles .entry))) (now (order .entry)) (now (links .entry)) (now (boxes .entry)) levels node last ⌝ }
 {
     if levels == 0 {
         return Finding::Wrong;
@@ -163,7 +165,10 @@ fn check_left(
     right: Box3,
 ) -> Finding
     requires { ⌜ Needs.LeftSubtree (now triangles) (now order) (now links) (now boxes) node first entry ⌝ }
-    ensures { λ r. ⌜ Values.asFinding r ≡ Accepted.leftTried (Reading.boxAt (now (triangles .entry))) (now (order .entry)) (now (links .entry)) (now (boxes .entry)) (eqb (Trees.leftAt (now (links .entry)) node + 1) first) (Accepted.finding (Reading.boxAt (now (triangles .entry))) (now (order .entry)) (now (links .entry)) (now (boxes .entry)) levels) node entry (Shapes.asBox right) ⌝ }
+    ensures { λ r. ⌜ Values.asFinding r
+        ≡ Accepted.leftTried (Reading.boxAt (now (triangles .entry))) (now (order .entry)) (now (links .entry)) (now (boxes .entry))
+        (eqb (Trees.leftAt (now (links .entry)) node + 1) first) (Accepted.finding (Reading.boxAt (now (triangles .entry))) (now (order .entry))
+        (now (links .entry)) (now (boxes .entry)) levels) node entry (Shapes.asBox right) ⌝ }
 {
     if !is_left_before(links, node, first) {
         return Finding::Wrong;
@@ -212,7 +217,8 @@ pub fn is_accepted(
     nodes: usize,
 ) -> bool
     requires { ⌜ Reading.triangleCount (now triangles) ≤ Limits.maxTriangles ⌝ }
-    ensures { λ r. ⌜ r ≡ Accepted.accepted (Reading.boxAt (now (triangles .entry))) (Reading.triangleCount (now (triangles .entry))) (now (order .entry)) (now (links .entry)) (now (boxes .entry)) nodes ⌝ }
+    ensures { λ r. ⌜ r ≡ Accepted.accepted (Reading.boxAt (now (triangles .entry))) (Reading.triangleCount (now (triangles .entry))) (now (order .entry))
+        (now (links .entry)) (now (boxes .entry)) nodes ⌝ }
 {
     let n = triangle_count(triangles);
     if !is_permutation(n, order) {

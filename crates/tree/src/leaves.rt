@@ -96,7 +96,8 @@ pub fn leaf(
     nodes: usize,
     k: usize,
 ) -> LeafFound
-    ensures { λ r. ⌜ Values.asLeafFound r ≡ Leaves.leafAnswer (now (triangles .entry)) (now (order .entry)) (now (links .entry)) (now (boxes .entry)) nodes k ⌝ }
+    ensures { λ r. ⌜ Values.asLeafFound r
+        ≡ Leaves.leafAnswer (now (triangles .entry)) (now (order .entry)) (now (links .entry)) (now (boxes .entry)) nodes k ⌝ }
 {
     let verdict = check(triangles, order, links, boxes, nodes);
     match verdict {
@@ -113,7 +114,8 @@ pub fn leaves(
     boxes: &[f32],
     nodes: usize,
 ) -> LeavesCounted
-    ensures { λ r. ⌜ Values.asLeavesCounted r ≡ Leaves.countAnswer (now (triangles .entry)) (now (order .entry)) (now (links .entry)) (now (boxes .entry)) nodes ⌝ }
+    ensures { λ r. ⌜ Values.asLeavesCounted r
+        ≡ Leaves.countAnswer (now (triangles .entry)) (now (order .entry)) (now (links .entry)) (now (boxes .entry)) nodes ⌝ }
 {
     let verdict = check(triangles, order, links, boxes, nodes);
     match verdict {
@@ -133,7 +135,8 @@ pub fn leaf_entry(
     k: usize,
     i: usize,
 ) -> EntryFound
-    ensures { λ r. ⌜ Values.asEntryFound r ≡ Leaves.entryAnswer (now (triangles .entry)) (now (order .entry)) (now (links .entry)) (now (boxes .entry)) nodes k i ⌝ }
+    ensures { λ r. ⌜ Values.asEntryFound r
+        ≡ Leaves.entryAnswer (now (triangles .entry)) (now (order .entry)) (now (links .entry)) (now (boxes .entry)) nodes k i ⌝ }
 {
     let found = leaf(triangles, order, links, boxes, nodes, k);
     match found {

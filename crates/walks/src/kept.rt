@@ -52,7 +52,8 @@ pub fn is_skipped(limit: f32, squared: f32, best: &[f32; 4], number: u32) -> boo
 
 // Keeps the hit where it counts and is nearer. The sure query uses it.
 pub fn offer(limit: f32, hit: Hit, best: &mut [f32; 4], number: &mut u32)
-    ensures { λ _. ⌜ Kept.kept (Values.hitOf (now (best .exit)) (now (number .exit))) ≡ Sure.offered limit (Values.asHit hit) (Kept.kept (Values.hitOf (now (best .entry)) (now (number .entry)))) ⌝ }
+    ensures { λ _. ⌜ Kept.kept (Values.hitOf (now (best .exit)) (now (number .exit)))
+        ≡ Sure.offered limit (Values.asHit hit) (Kept.kept (Values.hitOf (now (best .entry)) (now (number .entry)))) ⌝ }
 {
     if does_count(limit, hit.squared) & is_nearer(hit, best, *number) {
         keep(hit, best, number);
@@ -62,7 +63,8 @@ pub fn offer(limit: f32, hit: Hit, best: &mut [f32; 4], number: &mut u32)
 
 // Keeps the hit where it is strictly smaller. The source query uses it.
 pub fn keep_smaller(hit: Hit, best: &mut [f32; 4], number: &mut u32)
-    ensures { λ _. ⌜ Kept.kept (Values.hitOf (now (best .exit)) (now (number .exit))) ≡ Source.keepSmaller (Values.asHit hit) (Kept.kept (Values.hitOf (now (best .entry)) (now (number .entry)))) ⌝ }
+    ensures { λ _. ⌜ Kept.kept (Values.hitOf (now (best .exit)) (now (number .exit)))
+        ≡ Source.keepSmaller (Values.asHit hit) (Kept.kept (Values.hitOf (now (best .entry)) (now (number .entry)))) ⌝ }
 {
     if hit.squared < best[3] {
         keep(hit, best, number);

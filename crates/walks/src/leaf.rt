@@ -21,7 +21,8 @@ use tree::nodes::wide;
 
 // A triangle's point, with its squared distance from p.
 fn hit_at(point: Vec3, p: Vec3, t: u32) -> Hit
-    ensures { λ r. ⌜ Values.asHit r ≡ record { point = Shapes.asPoint point; squared = Points.squaredDistance binary32 (Shapes.asPoint point) (Shapes.asPoint p); triangle = t } ⌝ }
+    ensures { λ r. ⌜ Values.asHit r
+        ≡ record { point = Shapes.asPoint point; squared = Points.squaredDistance binary32 (Shapes.asPoint point) (Shapes.asPoint p); triangle = t } ⌝ }
 {
     Hit {
         point,
@@ -40,7 +41,9 @@ fn measure(
     number: &mut u32,
 )
     requires { ⌜ 9 * t + 9 ≤ length (now triangles) ⌝ }
-    ensures { λ _. ⌜ Kept.kept (Values.hitOf (now (best .exit)) (now (number .exit))) ≡ Kept.tookBy sure binary32 (now (triangles .entry)) (Values.pointOf (now (probe .entry))) (Values.fourthOf (now (probe .entry))) t (Kept.kept (Values.hitOf (now (best .entry)) (now (number .entry)))) ⌝ }
+    ensures { λ _. ⌜ Kept.kept (Values.hitOf (now (best .exit)) (now (number .exit)))
+        ≡ Kept.tookBy sure binary32 (now (triangles .entry)) (Values.pointOf (now (probe .entry))) (Values.fourthOf (now (probe .entry))) t
+        (Kept.kept (Values.hitOf (now (best .entry)) (now (number .entry)))) ⌝ }
 {
     let p = point_of(probe);
     let triangle = triangle_at(triangles, wide(t));
@@ -69,7 +72,9 @@ fn measure_slice(
 ) -> usize
     requires { ⌜ Order.EntriesBelow (Reading.triangleCount (now triangles)) (now slice) ⌝ }
     requires { ⌜ measured + length (now slice) < 2 ^ 64 ⌝ }
-    ensures { λ r. ⌜ Values.soughtOf (now (best .exit)) (now (number .exit)) r ≡ Walk.tookAll (Kept.tookBy sure binary32 (now (triangles .entry)) (Values.pointOf (now (probe .entry))) (Values.fourthOf (now (probe .entry)))) (now (slice .entry)) (Values.soughtOf (now (best .entry)) (now (number .entry)) measured) ⌝ }
+    ensures { λ r. ⌜ Values.soughtOf (now (best .exit)) (now (number .exit)) r
+        ≡ Walk.tookAll (Kept.tookBy sure binary32 (now (triangles .entry)) (Values.pointOf (now (probe .entry))) (Values.fourthOf (now (probe .entry))))
+        (now (slice .entry)) (Values.soughtOf (now (best .entry)) (now (number .entry)) measured) ⌝ }
 {
     let mut i = 0;
     while i < slice.len() {
@@ -94,7 +99,9 @@ pub fn measure_leaf(
     requires { ⌜ Order.EntriesBelow (Reading.triangleCount (now triangles)) (now order) ⌝ }
     requires { ⌜ (first ≤ last) × (last ≤ length (now order)) ⌝ }
     requires { ⌜ measured + (last - first) < 2 ^ 64 ⌝ }
-    ensures { λ r. ⌜ Values.soughtOf (now (best .exit)) (now (number .exit)) r ≡ Walk.tookAll (Kept.tookBy sure binary32 (now (triangles .entry)) (Values.pointOf (now (probe .entry))) (Values.fourthOf (now (probe .entry)))) (Tables.slice (now (order .entry)) first (last - first)) (Values.soughtOf (now (best .entry)) (now (number .entry)) measured) ⌝ }
+    ensures { λ r. ⌜ Values.soughtOf (now (best .exit)) (now (number .exit)) r
+        ≡ Walk.tookAll (Kept.tookBy sure binary32 (now (triangles .entry)) (Values.pointOf (now (probe .entry))) (Values.fourthOf (now (probe .entry))))
+        (Tables.slice (now (order .entry)) first (last - first)) (Values.soughtOf (now (best .entry)) (now (number .entry)) measured) ⌝ }
 {
     measure_slice(
         triangles,

@@ -43,7 +43,9 @@ pub fn look(
     number: &mut u32,
 ) -> usize
     requires { ⌜ Safe.NodeSafe (now triangles) (now order) (now links) (now boxes) depth node measured ⌝ }
-    ensures { λ r. ⌜ Values.soughtOf (now (best .exit)) (now (number .exit)) r ≡ Walk.rootWalk (Source.sourceSearch binary32 (now (triangles .entry)) (now (boxes .entry)) (Values.pointOf (now (probe .entry))) (Values.fourthOf (now (probe .entry)))) (now (order .entry)) (now (links .entry)) depth node (Values.soughtOf (now (best .entry)) (now (number .entry)) measured) ⌝ }
+    ensures { λ r. ⌜ Values.soughtOf (now (best .exit)) (now (number .exit)) r
+        ≡ Walk.rootWalk (Source.sourceSearch binary32 (now (triangles .entry)) (now (boxes .entry)) (Values.pointOf (now (probe .entry))) (Values.fourthOf
+        (now (probe .entry)))) (now (order .entry)) (now (links .entry)) depth node (Values.soughtOf (now (best .entry)) (now (number .entry)) measured) ⌝ }
 {
     let here = links_of(links, node);
     if here.kind == 1 {
@@ -100,7 +102,9 @@ pub fn look_if_entered(
     number: &mut u32,
 ) -> usize
     requires { ⌜ Safe.NodeSafe (now triangles) (now order) (now links) (now boxes) depth node measured ⌝ }
-    ensures { λ r. ⌜ Values.soughtOf (now (best .exit)) (now (number .exit)) r ≡ Walk.nodeWalk (Source.sourceSearch binary32 (now (triangles .entry)) (now (boxes .entry)) (Values.pointOf (now (probe .entry))) (Values.fourthOf (now (probe .entry)))) (now (order .entry)) (now (links .entry)) depth node (Values.soughtOf (now (best .entry)) (now (number .entry)) measured) ⌝ }
+    ensures { λ r. ⌜ Values.soughtOf (now (best .exit)) (now (number .exit)) r
+        ≡ Walk.nodeWalk (Source.sourceSearch binary32 (now (triangles .entry)) (now (boxes .entry)) (Values.pointOf (now (probe .entry))) (Values.fourthOf
+        (now (probe .entry)))) (now (order .entry)) (now (links .entry)) depth node (Values.soughtOf (now (best .entry)) (now (number .entry)) measured) ⌝ }
 {
     if does_enter(boxes, node, probe) {
         return look(
@@ -129,7 +133,9 @@ pub fn search(
     probe: Probe,
 ) -> Sought
     requires { ⌜ Calls.Searchable (now triangles) (now order) (now links) (now boxes) nodes ⌝ }
-    ensures { λ r. ⌜ Values.asSought r ≡ Source.sourceWalk binary32 (now (triangles .entry)) (now (order .entry)) (now (links .entry)) (now (boxes .entry)) nodes (Shapes.asPoint (probe .point)) (probe .limit) ⌝ }
+    ensures { λ r. ⌜ Values.asSought r
+        ≡ Source.sourceWalk binary32 (now (triangles .entry)) (now (order .entry)) (now (links .entry)) (now (boxes .entry)) nodes
+        (Shapes.asPoint (probe .point)) (probe .limit) ⌝ }
 {
     let four = [probe.point.x, probe.point.y, probe.point.z, probe.limit];
     let mut best = [0.0, 0.0, 0.0, 1.0 / 0.0];

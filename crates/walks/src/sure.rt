@@ -45,7 +45,10 @@ pub fn node_walk(
 ) -> usize
     requires { ⌜ Safe.NodeSafe (now (now triangles)) (now (now order)) (now (now links)) (now (now boxes)) depth node measured ⌝ }
     requires { ⌜ squared ≡ Sure.nodeSquared binary32 (now (now boxes)) (Values.pointOf (now probe)) node ⌝ }
-    ensures { λ r. ⌜ Values.soughtOf (now (best .exit)) (now (number .exit)) r ≡ Walk.nodeWalk (Sure.sureSearch binary32 (now (now (triangles .entry))) (now (now (boxes .entry))) (Values.pointOf (now (probe .entry))) (Values.fourthOf (now (probe .entry)))) (now (now (order .entry))) (now (now (links .entry))) depth node (Values.soughtOf (now (best .entry)) (now (number .entry)) measured) ⌝ }
+    ensures { λ r. ⌜ Values.soughtOf (now (best .exit)) (now (number .exit)) r
+        ≡ Walk.nodeWalk (Sure.sureSearch binary32 (now (now (triangles .entry))) (now (now (boxes .entry))) (Values.pointOf (now (probe .entry)))
+        (Values.fourthOf (now (probe .entry)))) (now (now (order .entry))) (now (now (links .entry))) depth node
+        (Values.soughtOf (now (best .entry)) (now (number .entry)) measured) ⌝ }
 {
     if is_skipped(probe[3], squared, best, *number) {
         return measured;
@@ -96,7 +99,10 @@ pub fn pair_walk(
     number: &mut u32,
 ) -> usize
     requires { ⌜ Safe.PairSafe (now (now triangles)) (now (now order)) (now (now links)) (now (now boxes)) depth left right measured ⌝ }
-    ensures { λ r. ⌜ Values.soughtOf (now (best .exit)) (now (number .exit)) r ≡ Walk.pairWalk (Sure.sureSearch binary32 (now (now (triangles .entry))) (now (now (boxes .entry))) (Values.pointOf (now (probe .entry))) (Values.fourthOf (now (probe .entry)))) (now (now (order .entry))) (now (now (links .entry))) depth left right (Values.soughtOf (now (best .entry)) (now (number .entry)) measured) ⌝ }
+    ensures { λ r. ⌜ Values.soughtOf (now (best .exit)) (now (number .exit)) r
+        ≡ Walk.pairWalk (Sure.sureSearch binary32 (now (now (triangles .entry))) (now (now (boxes .entry))) (Values.pointOf (now (probe .entry)))
+        (Values.fourthOf (now (probe .entry)))) (now (now (order .entry))) (now (now (links .entry))) depth left right
+        (Values.soughtOf (now (best .entry)) (now (number .entry)) measured) ⌝ }
 {
     let to_left = node_squared(*boxes, left, probe);
     let to_right = node_squared(*boxes, right, probe);
@@ -196,7 +202,9 @@ pub fn search(
     probe: Probe,
 ) -> Sought
     requires { ⌜ Calls.Searchable (now triangles) (now order) (now links) (now boxes) nodes ⌝ }
-    ensures { λ r. ⌜ Values.asSought r ≡ Sure.sureWalk binary32 (now (triangles .entry)) (now (order .entry)) (now (links .entry)) (now (boxes .entry)) nodes (Shapes.asPoint (probe .point)) (probe .limit) ⌝ }
+    ensures { λ r. ⌜ Values.asSought r
+        ≡ Sure.sureWalk binary32 (now (triangles .entry)) (now (order .entry)) (now (links .entry)) (now (boxes .entry)) nodes (Shapes.asPoint (probe .point))
+        (probe .limit) ⌝ }
 {
     let root = nodes - 1;
     let four = [probe.point.x, probe.point.y, probe.point.z, probe.limit];

@@ -36,7 +36,8 @@ slice-aggregate-winding c =
     let after-numbers-from = c .before .before in
     let after-place2 = after-numbers-from .before .before in
     let start = after-place2 .before .before .before in
-    sym (length-take-le (9 * start .args .triangles) (after-numbers-from .numbers-from .result) (omega (arith, after-numbers-from .numbers-from .ensures .1, start .pre)))
+    sym (length-take-le (9 * start .args .triangles) (after-numbers-from .numbers-from .result)
+    (omega (arith, after-numbers-from .numbers-from .ensures .1, start .pre)))
 
 array-share-prefix-asked : tie.Need-array-share-prefix-asked
 array-share-prefix-asked c = search needs
@@ -46,7 +47,8 @@ slice-aggregate-winding-2 c =
     let after-numbers-from2 = c .before .before in
     let after-place2 = after-numbers-from2 .before .before .before in
     let start = after-place2 .before .before .before in
-    sym (length-take-le (3 * start .args .points) (after-numbers-from2 .numbers-from2 .result) (omega (arith, after-numbers-from2 .numbers-from2 .ensures .1, start .pre)))
+    sym (length-take-le (3 * start .args .points) (after-numbers-from2 .numbers-from2 .result)
+    (omega (arith, after-numbers-from2 .numbers-from2 .ensures .1, start .pre)))
 
 slice-aggregate-winding-3 : tie.Need-slice-aggregate-winding-3
 slice-aggregate-winding-3 c = search needs

@@ -26,7 +26,8 @@ unfolding measuredFirst
 returns c = when _ _ _ (tested _ _ _ _ (c .before .before .triangles-refusal .ensures) (c .before .refuses .ensures) (c .if1 .taken))
 
 is-accepted-requires : tie.Need-is-accepted-requires
-is-accepted-requires c κs = triangles-passed _ (did-pass _ _ _ (c .before .before .triangles-refusal .ensures) (c .before .refuses .ensures) (c .if1 .left)) .few
+is-accepted-requires c κs =
+    triangles-passed _ (did-pass _ _ _ (c .before .before .triangles-refusal .ensures) (c .before .refuses .ensures) (c .if1 .left)) .few
 
 point-at-requires : tie.Need-point-at-requires
 point-at-requires c κs = search needs
@@ -39,7 +40,8 @@ measured-at-requires c κs =
     let after-refuses = chosen .before in
     let after-triangles-refusal = after-refuses .before in
     record {
-      triangles-good = triangles-passed _ (did-pass _ _ _ (after-triangles-refusal .triangles-refusal .ensures) (after-refuses .refuses .ensures) (chosen .if1 .left));
+      triangles-good =
+          triangles-passed _ (did-pass _ _ _ (after-triangles-refusal .triangles-refusal .ensures) (after-refuses .refuses .ensures) (chosen .if1 .left));
       tree-accepted = sym (after-is-accepted .is-accepted .ensures) ∙ chosen2 .if2 .taken;
     }
 
@@ -72,7 +74,8 @@ returns-4 : tie.Need-returns-4
 unfolding measuredFirst
 returns-4 c =
     unless _ _ _ (sym (c .before .is-accepted .ensures) ∙ c .if2 .left)
-    ∙ unless _ _ _ (tested _ _ _ _ (c .before .before .before .before .triangles-refusal .ensures) (c .before .before .before .refuses .ensures) (c .before .before .if1 .left))
+    ∙ unless _ _ _ (tested _ _ _ _ (c .before .before .before .before .triangles-refusal .ensures) (c .before .before .before .refuses .ensures)
+    (c .before .before .if1 .left))
 
 pub timing-measured-spec : {M : Type 1} → statement M
 timing-measured-spec =

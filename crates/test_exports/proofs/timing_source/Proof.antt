@@ -16,8 +16,10 @@ same-length c = search needs
 
 returns : tie.Need-returns
 returns c =
-    let after-source-query = c .before .before .before in
-    (c .one-passed .ensures ∙ ap onePassed (after-source-query .source-query .ensures .0), rw (after-source-query .source-query .ensures .0) at (after-source-query .source-query .ensures .1))
+    let after-source-query = c .before .before .before in (
+      c .one-passed .ensures ∙ ap onePassed (after-source-query .source-query .ensures .0),
+      rw (after-source-query .source-query .ensures .0) at (after-source-query .source-query .ensures .1),
+    )
 
 pub timing-source-spec : {M : Type 1} → statement M
 timing-source-spec =

@@ -16,8 +16,10 @@ same-length c = search needs
 
 returns : tie.Need-returns
 returns c =
-    let after-sure-query = c .before .before .before in
-    (c .one-passed .ensures ∙ ap onePassed (after-sure-query .sure-query .ensures .0), rw (after-sure-query .sure-query .ensures .0) at (after-sure-query .sure-query .ensures .1))
+    let after-sure-query = c .before .before .before in (
+      c .one-passed .ensures ∙ ap onePassed (after-sure-query .sure-query .ensures .0),
+      rw (after-sure-query .sure-query .ensures .0) at (after-sure-query .sure-query .ensures .1),
+    )
 
 pub timing-sure-spec : {M : Type 1} → statement M
 timing-sure-spec = tie.close (tie.spec sure-query-requires one-passed-requires same-length returns)

@@ -64,7 +64,10 @@ write-again-requires c κs =
     let chosen = chosen2 .before in
     let at-boxes2 = chosen .before .before .before .before in
     let after-read-image = at-boxes2 .before .before .before .before in
-    simp length-take ((omega (arith, after-read-image .«read-image» .kept), omega (arith, after-read-image .«read-image» .kept)), (omega (arith, after-read-image .«read-image» .kept), omega (arith, after-read-image .«read-image» .kept), omega arith))
+    simp length-take (
+      (omega (arith, after-read-image .«read-image» .kept), omega (arith, after-read-image .«read-image» .kept)),
+      (omega (arith, after-read-image .«read-image» .kept), omega (arith, after-read-image .«read-image» .kept), omega arith),
+    )
 
 returns : tie.Need-returns
 returns c = search needs

@@ -22,7 +22,8 @@ put-count-requires : tie.Need-put-count-requires
 put-count-requires c κs = search needs
 
 put-leaves-requires : tie.Need-put-leaves-requires
-put-leaves-requires c κs = counted-there _ _ _ _ _ _ (sym (c .before .before .before .before .leaves .ensures) ∙ ap asLeavesCounted (c .before .before .counted2 .given .1))
+put-leaves-requires c κs =
+    counted-there _ _ _ _ _ _ (sym (c .before .before .before .before .leaves .ensures) ∙ ap asLeavesCounted (c .before .before .counted2 .given .1))
 
 returns : tie.Need-returns
 returns c = search needs

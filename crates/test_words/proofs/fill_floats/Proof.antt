@@ -49,7 +49,8 @@ loop-again c =
     let after-more = c .before .before in
     let tested = after-more .before in
     let turn = tested .before in
-    run-store-front _ _ _ _ _ _ (omega arith) (omega (arith, tested .loop-test .taken, turn .loop .inv .long)) (turn .loop .inv) (rw (c .before .pattern-at .ensures, after-more .more .ensures) at (c .from-bits .ensures))
+    run-store-front _ _ _ _ _ _ (omega arith) (omega (arith, tested .loop-test .taken, turn .loop .inv .long)) (turn .loop .inv)
+    (rw (c .before .pattern-at .ensures, after-more .more .ensures) at (c .from-bits .ensures))
 
 same-length : tie.Need-same-length Inv-loop μ-loop
 same-length c = c .before .loop .inv .long

@@ -44,7 +44,8 @@ loop-again : tie.Need-loop-again Inv-loop μ-loop
 loop-again c =
     let tested = c .before .before in
     let turn = tested .before in
-    run-store-front _ _ _ _ _ _ (omega arith) (omega (arith, tested .loop-test .taken, turn .loop .inv .long)) (turn .loop .inv) (rw (c .before .more .ensures) at (c .pattern-at .ensures))
+    run-store-front _ _ _ _ _ _ (omega arith) (omega (arith, tested .loop-test .taken, turn .loop .inv .long)) (turn .loop .inv)
+    (rw (c .before .more .ensures) at (c .pattern-at .ensures))
 
 same-length : tie.Need-same-length Inv-loop μ-loop
 same-length c = c .before .loop .inv .long

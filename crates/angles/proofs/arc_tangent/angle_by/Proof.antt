@@ -34,7 +34,11 @@ returns : tie.Need-returns
 unfolding ofBits angleOrNan
 returns c =
     let start = c .before .before .before .before in
-    rw (c .arc-tangent .ensures, tested (start .args .n) (start .args .d) _ _ _ (c .before .before .before .is-finite .ensures) (c .before .before .is-finite2 .ensures) (c .before .if1 .taken)) refl
+    rw (
+      c .arc-tangent .ensures,
+      tested (start .args .n) (start .args .d) _ _ _ (c .before .before .before .is-finite .ensures) (c .before .before .is-finite2 .ensures)
+          (c .before .if1 .taken),
+    ) refl
 
 returns-2 : tie.Need-returns-2
 unfolding ofBits angleOrNan div

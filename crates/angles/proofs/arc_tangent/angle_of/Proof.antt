@@ -60,14 +60,16 @@ mirrored-requires c κs =
 mirrored-requires-2 : tie.Need-mirrored-requires-2
 mirrored-requires-2 c κs =
     let arc = c .before .before .before in
-    in-half _ _ _ (arc .before .before .before .pre .1) (arc .before .before .ratio-of .ensures) _ (arc .before .units-of .ensures) _ (arc .arc-of .ensures) _ _ (c .mirrored .ensures)
+    in-half _ _ _ (arc .before .before .before .pre .1) (arc .before .before .ratio-of .ensures) _ (arc .before .units-of .ensures) _ (arc .arc-of .ensures) _ _
+    (c .mirrored .ensures)
 
 returns : tie.Need-returns
 unfolding ofBits
 returns c =
     let sizes = c .before .before in
     let arc = sizes .before .before in
-    all _ _ _ (arc .before .before .before .pre .1) (arc .before .before .ratio-of .ensures) _ (arc .before .units-of .ensures) _ (arc .arc-of .ensures) _ _ (c .before .mirrored .ensures)
+    all _ _ _ (arc .before .before .before .pre .1) (arc .before .before .ratio-of .ensures) _ (arc .before .units-of .ensures) _ (arc .arc-of .ensures) _ _
+    (c .before .mirrored .ensures)
     _ _ _ (sizes .before .absolute .ensures) (sizes .absolute2 .ensures) refl (c .mirrored2 .ensures)
 
 pub angle-of-spec : {M : Type 1} → statement M

@@ -24,7 +24,9 @@ sub-result c =
 mul-result : tie.Need-mul-result
 mul-result c =
     let read = c .before in
-    record { fits = product-fits _ _ _ (read .before .before .pre .1) (read .before .if1 .left) (read .entries-at2 .ensures .0) (read .entries-at2 .ensures .1) }
+    record {
+      fits = product-fits _ _ _ (read .before .before .pre .1) (read .before .if1 .left) (read .entries-at2 .ensures .0) (read .entries-at2 .ensures .1);
+    }
 
 add-result : tie.Need-add-result
 add-result c =

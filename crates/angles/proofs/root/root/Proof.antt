@@ -83,7 +83,8 @@ returns-2 c =
     let x = start .args .x in
     determined start _
     (rw (ofBits-toBits binary32 x (held start)) at
-    (bits-root (toBits binary32 x) (scaled .result .digits) (scaled .result .scale) (nearest .result) (unsigned-bits x (held start) (unsigned-x (c .before .before .before))) (scaled .ensures)
+    (bits-root (toBits binary32 x) (scaled .result .digits) (scaled .result .scale) (nearest .result)
+    (unsigned-bits x (held start) (unsigned-x (c .before .before .before))) (scaled .ensures)
     (near _ _ _ _ (scaled .ensures) (nearest .ensures))))
 
 pub root-spec : {M : Type 1} → statement M

@@ -25,7 +25,8 @@ module _ (t : Triangle) (l m n : Float) (L : l ≡ norm binary32 (t .a)) (M : m 
   unfolding originAngle
   here h = rw (rw (L, M, N) at h)
 
-  away : (p q s : Point) (r : Float) → p ≡ dividedBy binary32 (t .a) l → q ≡ dividedBy binary32 (t .b) m → s ≡ dividedBy binary32 (t .c) n → r ≡ unitAngle binary32 record { a = p; b = q; c = s }
+  away : (p q s : Point) (r : Float) → p ≡ dividedBy binary32 (t .a) l → q ≡ dividedBy binary32 (t .b) m → s ≡ dividedBy binary32 (t .c) n
+      → r ≡ unitAngle binary32 record { a = p; b = q; c = s }
       → (eq l zero || eq m zero || eq n zero) ≡ false → r ≡ originAngle binary32 t
   unfolding originAngle
   away p q s r P Q S R h = rw (rw (L, M, N) at h, R, P, Q, S, L, M, N)
@@ -51,7 +52,8 @@ unfolding ofBits
 returns-2 c =
     let test = c .before .before .before .before in
     away _ _ _ _ (test .before .before .before .norm-of .ensures) (test .before .before .norm-of2 .ensures) (test .before .norm-of3 .ensures)
-    _ _ _ _ (c .before .before .before .over .ensures) (c .before .before .over2 .ensures) (c .before .over3 .ensures) (c .unit-angle .ensures) (test .if1 .left)
+    _ _ _ _ (c .before .before .before .over .ensures) (c .before .before .over2 .ensures) (c .before .over3 .ensures) (c .unit-angle .ensures)
+    (test .if1 .left)
 
 pub origin-angle-spec : {M : Type 1} → statement M
 origin-angle-spec =

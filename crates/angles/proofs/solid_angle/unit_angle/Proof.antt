@@ -23,7 +23,12 @@ unfolding unitAngle ofBits
 returns-2 c =
     let chosen = c .before .before in
     let after-numerator-of = chosen .before in
-    rw (c .angle-by .ensures, c .before .denominator-of .ensures, rw (after-numerator-of .numerator-of .ensures) at (chosen .if1 .left), after-numerator-of .numerator-of .ensures)
+    rw (
+      c .angle-by .ensures,
+      c .before .denominator-of .ensures,
+      rw (after-numerator-of .numerator-of .ensures) at (chosen .if1 .left),
+      after-numerator-of .numerator-of .ensures,
+    )
 
 pub unit-angle-spec : {M : Type 1} → statement M
 unit-angle-spec =

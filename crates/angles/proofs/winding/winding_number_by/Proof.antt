@@ -37,7 +37,9 @@ loop-less : tie.Need-loop-less Inv-loop μ-loop
 loop-less c = omega arith
 
 loop-again : tie.Need-loop-again Inv-loop μ-loop
-loop-again c = sum-more _ _ _ _ _ _ _ _ (c .before .before .loop-test .taken) (c .before .before .before .loop .inv) (c .before .triangle-at .ensures) (c .solid-angle-by .ensures)
+loop-again c =
+    sum-more _ _ _ _ _ _ _ _ (c .before .before .loop-test .taken) (c .before .before .before .loop .inv) (c .before .triangle-at .ensures)
+    (c .solid-angle-by .ensures)
 
 returns : tie.Need-returns Inv-loop μ-loop
 unfolding ofBits

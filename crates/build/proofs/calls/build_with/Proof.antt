@@ -24,7 +24,8 @@ put-centres-requires c κs =
     let known4 = after-triangle-count .before .before .before in
     let known = known4 .before .before .before .before in
     let start = known .before in
-    centres-needs binary32 _ _ _ _ _ _ _ _ (start .pre) (λ i k. known .shared-slice-known .given i) _ (after-triangle-count .triangle-count .ensures) _ (after-put-bounds .put-bounds .ensures)
+    centres-needs binary32 _ _ _ _ _ _ _ _ (start .pre) (λ i k. known .shared-slice-known .given i) _ (after-triangle-count .triangle-count .ensures) _
+    (after-put-bounds .put-bounds .ensures)
 
 put-order-requires : tie.Need-put-order-requires
 put-order-requires c κs =
@@ -50,7 +51,8 @@ slice-relend-prefix-grow c =
     let known4 = after-triangle-count .before .before .before in
     let known = known4 .before .before .before .before in
     let start = known .before in
-    count-within binary32 _ _ _ _ _ _ _ _ (start .pre) (λ i k. known .shared-slice-known .given i) _ (after-triangle-count .triangle-count .ensures) _ (after-put-bounds .put-bounds .ensures) _ (after-put-centres .put-centres .ensures) _ (after-put-order .put-order .ensures)
+    count-within binary32 _ _ _ _ _ _ _ _ (start .pre) (λ i k. known .shared-slice-known .given i) _ (after-triangle-count .triangle-count .ensures) _
+    (after-put-bounds .put-bounds .ensures) _ (after-put-centres .put-centres .ensures) _ (after-put-order .put-order .ensures)
 
 slice-aggregate-grow : tie.Need-slice-aggregate-grow
 slice-aggregate-grow c =
@@ -63,7 +65,8 @@ slice-aggregate-grow c =
     let known4 = after-triangle-count .before .before .before in
     let known = known4 .before .before .before .before in
     let start = known .before in
-    sym (front-long binary32 _ _ _ _ _ _ _ _ (start .pre) (λ i k. known .shared-slice-known .given i) _ (after-triangle-count .triangle-count .ensures) _ (after-put-bounds .put-bounds .ensures) _ (after-put-centres .put-centres .ensures) _ (after-put-order .put-order .ensures))
+    sym (front-long binary32 _ _ _ _ _ _ _ _ (start .pre) (λ i k. known .shared-slice-known .given i) _ (after-triangle-count .triangle-count .ensures) _
+    (after-put-bounds .put-bounds .ensures) _ (after-put-centres .put-centres .ensures) _ (after-put-order .put-order .ensures))
 
 grow-requires : tie.Need-grow-requires
 grow-requires c κs =
@@ -77,7 +80,9 @@ grow-requires c κs =
     let known4 = after-triangle-count .before .before .before in
     let known = known4 .before .before .before .before in
     let start = known .before in
-    grow-needs binary32 _ _ _ _ _ _ _ _ (start .pre) (λ i k. known .shared-slice-known .given i) _ (after-triangle-count .triangle-count .ensures) _ (after-put-bounds .put-bounds .ensures) _ (after-put-centres .put-centres .ensures) _ (after-put-order .put-order .ensures) _ (after-levels-below .levels-below .ensures)
+    grow-needs binary32 _ _ _ _ _ _ _ _ (start .pre) (λ i k. known .shared-slice-known .given i) _ (after-triangle-count .triangle-count .ensures) _
+    (after-put-bounds .put-bounds .ensures) _ (after-put-centres .put-centres .ensures) _ (after-put-order .put-order .ensures) _
+    (after-levels-below .levels-below .ensures)
 
 add-t24 : tie.Need-add-t24
 add-t24 c =
@@ -95,7 +100,12 @@ add-t24 c =
     let known4 = after-triangle-count .before .before .before in
     let known = known4 .before .before .before .before in
     let start = known .before in
-    omega (arith, root-few binary32 _ _ _ _ _ _ _ _ (start .pre) (λ i k. known .shared-slice-known .given i) _ (after-triangle-count .triangle-count .ensures) _ (after-put-bounds .put-bounds .ensures) _ (after-put-centres .put-centres .ensures) _ (after-put-order .put-order .ensures) _ (after-levels-below .levels-below .ensures) _ _ _ _ _ _ (after-grow .grow .ensures))
+    omega (
+      arith,
+      root-few binary32 _ _ _ _ _ _ _ _ (start .pre) (λ i k. known .shared-slice-known .given i) _ (after-triangle-count .triangle-count .ensures) _
+          (after-put-bounds .put-bounds .ensures) _ (after-put-centres .put-centres .ensures) _ (after-put-order .put-order .ensures) _
+          (after-levels-below .levels-below .ensures) _ _ _ _ _ _ (after-grow .grow .ensures),
+    )
 
 same-length : tie.Need-same-length
 same-length c =
@@ -146,7 +156,9 @@ returns c =
     let known4 = after-triangle-count .before .before .before in
     let known = known4 .before .before .before .before in
     let start = known .before in
-    build-gives binary32 _ _ _ _ _ _ _ _ (start .pre) (λ i k. known .shared-slice-known .given i) _ (after-triangle-count .triangle-count .ensures) _ (after-put-bounds .put-bounds .ensures) _ (after-put-centres .put-centres .ensures) _ (after-put-order .put-order .ensures) _ (after-levels-below .levels-below .ensures) _ _ _ _ _ _ (after-grow .grow .ensures)
+    build-gives binary32 _ _ _ _ _ _ _ _ (start .pre) (λ i k. known .shared-slice-known .given i) _ (after-triangle-count .triangle-count .ensures) _
+    (after-put-bounds .put-bounds .ensures) _ (after-put-centres .put-centres .ensures) _ (after-put-order .put-order .ensures) _
+    (after-levels-below .levels-below .ensures) _ _ _ _ _ _ (after-grow .grow .ensures)
 
 pub build-with-spec : {M : Type 1} → statement M
 build-with-spec =

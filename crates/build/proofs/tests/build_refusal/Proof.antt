@@ -26,7 +26,8 @@ returns : tie.Need-returns
 unfolding buildRefusal
 returns c =
     let early = c .before .before in
-    row-stops _ _ _ _ (or-test _ _ _ _ _ (ends _ _ (early .before .before .triangles-refusal .ensures)) (early .before .settings-refusal .ensures) (early .or .ensures))
+    row-stops _ _ _ _
+    (or-test _ _ _ _ _ (ends _ _ (early .before .before .triangles-refusal .ensures)) (early .before .settings-refusal .ensures) (early .or .ensures))
     (c .before .refuses .ensures) (c .if1 .taken)
 
 triangle-count-requires : tie.Need-triangle-count-requires
@@ -37,7 +38,8 @@ mul-max-nodes c =
     let counted = c in
     let tested = counted .before in
     let early = tested .before .before in
-    let good = triangles-passed _ (row-passed _ _ _ (or-test _ _ _ _ _ (ends _ _ (early .before .before .triangles-refusal .ensures)) (early .before .settings-refusal .ensures) (early .or .ensures)) (tested .before .refuses .ensures) (tested .if1 .left) .0) in
+    let good = triangles-passed _ (row-passed _ _ _ (or-test _ _ _ _ _ (ends _ _ (early .before .before .triangles-refusal .ensures))
+    (early .before .settings-refusal .ensures) (early .or .ensures)) (tested .before .refuses .ensures) (tested .if1 .left) .0) in
     omega (arith, good .few, counted .triangle-count .ensures)
 
 sub-max-nodes : tie.Need-sub-max-nodes
@@ -45,7 +47,8 @@ sub-max-nodes c =
     let counted = c in
     let tested = counted .before in
     let early = tested .before .before in
-    let good = triangles-passed _ (row-passed _ _ _ (or-test _ _ _ _ _ (ends _ _ (early .before .before .triangles-refusal .ensures)) (early .before .settings-refusal .ensures) (early .or .ensures)) (tested .before .refuses .ensures) (tested .if1 .left) .0) in
+    let good = triangles-passed _ (row-passed _ _ _ (or-test _ _ _ _ _ (ends _ _ (early .before .before .triangles-refusal .ensures))
+    (early .before .settings-refusal .ensures) (early .or .ensures)) (tested .before .refuses .ensures) (tested .if1 .left) .0) in
     omega (arith, good .some, counted .triangle-count .ensures)
 
 room-refusal-requires : tie.Need-room-refusal-requires
@@ -56,7 +59,8 @@ mul-room-refusal c =
     let counted = c .before .before in
     let tested = counted .before in
     let early = tested .before .before in
-    let good = triangles-passed _ (row-passed _ _ _ (or-test _ _ _ _ _ (ends _ _ (early .before .before .triangles-refusal .ensures)) (early .before .settings-refusal .ensures) (early .or .ensures)) (tested .before .refuses .ensures) (tested .if1 .left) .0) in
+    let good = triangles-passed _ (row-passed _ _ _ (or-test _ _ _ _ _ (ends _ _ (early .before .before .triangles-refusal .ensures))
+    (early .before .settings-refusal .ensures) (early .or .ensures)) (tested .before .refuses .ensures) (tested .if1 .left) .0) in
     omega (arith, good .few, counted .triangle-count .ensures)
 
 room-refusal-requires-2 : tie.Need-room-refusal-requires-2
@@ -70,7 +74,8 @@ mul-room-refusal-2 c =
     let counted = c .before .before .before .before in
     let tested = counted .before in
     let early = tested .before .before in
-    let good = triangles-passed _ (row-passed _ _ _ (or-test _ _ _ _ _ (ends _ _ (early .before .before .triangles-refusal .ensures)) (early .before .settings-refusal .ensures) (early .or .ensures)) (tested .before .refuses .ensures) (tested .if1 .left) .0) in
+    let good = triangles-passed _ (row-passed _ _ _ (or-test _ _ _ _ _ (ends _ _ (early .before .before .triangles-refusal .ensures))
+    (early .before .settings-refusal .ensures) (early .or .ensures)) (tested .before .refuses .ensures) (tested .if1 .left) .0) in
     omega (arith, good .few, counted .triangle-count .ensures)
 
 room-refusal-requires-3 : tie.Need-room-refusal-requires-3
@@ -87,7 +92,8 @@ returns-2 c =
     let tested = counted .before in
     let early = tested .before .before in
     let a = early .before .before .before .args in
-    row-goes-on _ _ _ _ _ (or-test _ _ _ _ _ (ends _ _ (early .before .before .triangles-refusal .ensures)) (early .before .settings-refusal .ensures) (early .or .ensures))
+    row-goes-on _ _ _ _ _
+    (or-test _ _ _ _ _ (ends _ _ (early .before .before .triangles-refusal .ensures)) (early .before .settings-refusal .ensures) (early .or .ensures))
     (tested .before .refuses .ensures) (tested .if1 .left)
     (or-test _ _ _ _ _ (or-test _ _ _ _ _
     (ends _ _ (first .room-refusal .ensures ∙ ap (roomRefusal (a .order)) (counted .triangle-count .ensures)))

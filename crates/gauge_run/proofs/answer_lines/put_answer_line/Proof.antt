@@ -26,8 +26,10 @@ returns : tie.Need-returns
 returns c =
     let after-put-nothing = c .before .before in
     let chosen = after-put-nothing .before .before in
-    let start = chosen .before .before .before .before in
-    (put-same (nothing-words (now (start .args .answers)) (start .args .k) (chosen .if1 .taken)) (after-put-nothing .put-nothing .ensures .0), omega (arith, after-put-nothing .put-nothing .ensures .1))
+    let start = chosen .before .before .before .before in (
+      put-same (nothing-words (now (start .args .answers)) (start .args .k) (chosen .if1 .taken)) (after-put-nothing .put-nothing .ensures .0),
+      omega (arith, after-put-nothing .put-nothing .ensures .1),
+    )
 
 add-whole : tie.Need-add-whole
 add-whole c = search needs
@@ -89,8 +91,11 @@ returns-2 c =
     let known6 = after-put-found .before .before .before in
     let after-whole = known6 .before .before .before in
     let chosen = after-whole .before .before in
-    let start = chosen .before .before .before .before in
-    (put-same (found-words (now (start .args .answers)) (start .args .k) _ (chosen .if1 .left) (after-whole .whole .ensures)) (after-put-found .put-found .ensures .0), after-put-found .put-found .ensures .1)
+    let start = chosen .before .before .before .before in (
+      put-same (found-words (now (start .args .answers)) (start .args .k) _ (chosen .if1 .left) (after-whole .whole .ensures))
+          (after-put-found .put-found .ensures .0),
+      after-put-found .put-found .ensures .1,
+    )
 
 pub put-answer-line-spec : {M : Type 1} → statement M
 put-answer-line-spec =

@@ -21,8 +21,10 @@ loop-holds c =
 put-answer-line-requires : tie.Need-put-answer-line-requires Inv-loop μ-loop
 put-answer-line-requires c κs =
     let turn = c .before .before in
-    let start = turn .before .before .before in
-    (omega (arith, start .pre .0, c .before .loop-test .taken), omega (arith, start .pre .1, c .before .loop-test .taken, turn .loop .inv .room, turn .loop .inv .long))
+    let start = turn .before .before .before in (
+      omega (arith, start .pre .0, c .before .loop-test .taken),
+      omega (arith, start .pre .1, c .before .loop-test .taken, turn .loop .inv .room, turn .loop .inv .long),
+    )
 
 add-k : tie.Need-add-k Inv-loop μ-loop
 add-k c = omega arith
@@ -35,7 +37,8 @@ loop-again c =
     let after-put-answer-line = c .before .before in
     let tested = after-put-answer-line .before .before in
     let turn = tested .before in
-    lined-more _ _ _ _ _ _ _ _ _ (tested .loop-test .taken) (turn .loop .inv) (after-put-answer-line .put-answer-line .ensures .0) (after-put-answer-line .put-answer-line .ensures .1)
+    lined-more _ _ _ _ _ _ _ _ _ (tested .loop-test .taken) (turn .loop .inv) (after-put-answer-line .put-answer-line .ensures .0)
+    (after-put-answer-line .put-answer-line .ensures .1)
 
 same-length : tie.Need-same-length Inv-loop μ-loop
 same-length c = c .before .loop .inv .long

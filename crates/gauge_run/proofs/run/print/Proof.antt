@@ -50,7 +50,8 @@ returns-2 c =
     let at-at = after-put-refused2 .before .before .before in
     let after-gauge-layout = at-at .before .before in
     let chosen = after-gauge-layout .before in
-    put-same (wrong-printed _ (chosen .if1 .left) _ (sym (after-gauge-layout .gauge-layout .ensures) ∙ ap gaugeLaid (at-at .at .given .1))) (after-put-refused2 .put-refused2 .ensures .0)
+    put-same (wrong-printed _ (chosen .if1 .left) _ (sym (after-gauge-layout .gauge-layout .ensures) ∙ ap gaugeLaid (at-at .at .given .1)))
+    (after-put-refused2 .put-refused2 .ensures .0)
 
 same-length-3 : tie.Need-same-length-3
 same-length-3 c = search needs
@@ -61,7 +62,8 @@ returns-3 c =
     let at-count = after-print-sized .before .before .before in
     let after-gauge-layout = at-count .before .before in
     let chosen = after-gauge-layout .before in
-    put-same (right-printed _ (chosen .if1 .left) _ _ (sym (after-gauge-layout .gauge-layout .ensures) ∙ ap gaugeLaid (at-count .count .given .1))) (after-print-sized .print-sized .ensures)
+    put-same (right-printed _ (chosen .if1 .left) _ _ (sym (after-gauge-layout .gauge-layout .ensures) ∙ ap gaugeLaid (at-count .count .given .1)))
+    (after-print-sized .print-sized .ensures)
 
 pub print-spec : {M : Type 1} → statement M
 print-spec =

@@ -24,7 +24,8 @@ returns c =
     let after-put-refused = c .before .before in
     let at-verdict = after-put-refused .before .before .before in
     let after-request-refusal = at-verdict .before .before in
-    put-same (refused-printed _ _ _ (sym (after-request-refusal .request-refusal .ensures) ∙ ap asVerdict (at-verdict .verdict .given .1))) (after-put-refused .put-refused .ensures .0)
+    put-same (refused-printed _ _ _ (sym (after-request-refusal .request-refusal .ensures) ∙ ap asVerdict (at-verdict .verdict .given .1)))
+    (after-put-refused .put-refused .ensures .0)
 
 enum-told : tie.Need-enum-told
 enum-told c = search needs
@@ -43,7 +44,8 @@ returns-2 c =
     let after-put-run = c .before .before in
     let at-enum-told = after-put-run .before .before in
     let after-request-refusal = at-enum-told .before .before in
-    put-same (passed-printed _ (sym (after-request-refusal .request-refusal .ensures) ∙ ap asVerdict (at-enum-told .enum-told .given .1))) (after-put-run .put-run .ensures)
+    put-same (passed-printed _ (sym (after-request-refusal .request-refusal .ensures) ∙ ap asVerdict (at-enum-told .enum-told .given .1)))
+    (after-put-run .put-run .ensures)
 
 pub print-request-spec : {M : Type 1} → statement M
 print-request-spec =

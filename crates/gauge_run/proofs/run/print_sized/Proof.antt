@@ -101,7 +101,9 @@ returns c =
     let after-read-f32s = after-read-f32s2 .before .before .before in
     let start = after-read-f32s .before .before .before .before in
     put-same
-    (ap printedRun (request-is (now (start .args .input)) (start .args .count) (start .args .touched) _ _ _ _ _ _ (after-settings-of .settings-of .ensures) (after-read-f32s .read-f32s .ensures) (after-read-f32s2 .read-f32s2 .ensures) (after-from-bits .from-bits .ensures ∙ ap (ofBits binary32) (after-u32-at .u32-at .ensures))))
+    (ap printedRun (request-is (now (start .args .input)) (start .args .count) (start .args .touched) _ _ _ _ _ _
+    (after-settings-of .settings-of .ensures) (after-read-f32s .read-f32s .ensures) (after-read-f32s2 .read-f32s2 .ensures)
+    (after-from-bits .from-bits .ensures ∙ ap (ofBits binary32) (after-u32-at .u32-at .ensures))))
     (after-print-request .print-request .ensures)
 
 pub print-sized-spec : {M : Type 1} → statement M

@@ -38,7 +38,8 @@ returns c =
     let start = at-order .before .before .before .before in
     let a = start .args in
     let request : Request = record { settings = asSettings (a .settings); triangles = now (a .triangles); points = now (a .points); distance = a .distance } in
-    absurd (is-built request (all-passed request (start .pre .0)) _ _ _ (start .pre .1 .triangles-few) refl refl refl _ _ _ _ _ (rw (c .enum-told .given .1) at (after-build .build .ensures)))
+    absurd (is-built request (all-passed request (start .pre .0)) _ _ _ (start .pre .1 .triangles-few) refl refl refl _ _ _ _ _
+    (rw (c .enum-told .given .1) at (after-build .build .ensures)))
 
 triangle-count-requires : tie.Need-triangle-count-requires
 triangle-count-requires c κs = search needs
@@ -76,9 +77,17 @@ put-answers-requires c κs =
     let at-order = after-build .before .before .before in
     let start = at-order .before .before .before .before in
     let a = start .args in
-    let request : Request = record { settings = asSettings (a .settings); triangles = now (a .triangles); points = now (a .points); distance = a .distance } in (
-      query-passes request (all-passed request (start .pre .0)) _ _ _ (start .pre .1 .triangles-few) refl refl refl _ _ _ _ _ (rw (at-nodes .nodes .given .1) at (after-build .build .ensures)) _ (after-triangle-count .triangle-count .ensures) (start .pre .1 .points-few),
-      omega (arith, after-put-counts .put-counts .ensures .1, put-long (after-put-counts .put-counts .ensures .0), start .pre .1 .room, start .pre .1 .points-few),
+    let request : Request =
+    record { settings = asSettings (a .settings); triangles = now (a .triangles); points = now (a .points); distance = a .distance } in (
+      query-passes request (all-passed request (start .pre .0)) _ _ _ (start .pre .1 .triangles-few) refl refl refl _ _ _ _ _
+          (rw (at-nodes .nodes .given .1) at (after-build .build .ensures)) _ (after-triangle-count .triangle-count .ensures) (start .pre .1 .points-few),
+      omega (
+        arith,
+        after-put-counts .put-counts .ensures .1,
+        put-long (after-put-counts .put-counts .ensures .0),
+        start .pre .1 .room,
+        start .pre .1 .points-few,
+      ),
     )
 
 same-length : tie.Need-same-length
@@ -98,7 +107,9 @@ returns-2 c =
     let a = start .args in
     let request : Request = record { settings = asSettings (a .settings); triangles = now (a .triangles); points = now (a .points); distance = a .distance } in
     put-then
-    (put-same (tree-line request (all-passed request (start .pre .0)) _ _ _ (start .pre .1 .triangles-few) refl refl refl _ _ _ _ _ (rw (at-nodes .nodes .given .1) at (after-build .build .ensures)) _ (after-triangle-count .triangle-count .ensures)) (after-put-counts .put-counts .ensures .0))
+    (put-same (tree-line request (all-passed request (start .pre .0)) _ _ _ (start .pre .1 .triangles-few) refl refl refl _ _ _ _ _
+    (rw (at-nodes .nodes .given .1) at (after-build .build .ensures)) _ (after-triangle-count .triangle-count .ensures))
+    (after-put-counts .put-counts .ensures .0))
     (after-put-answers .put-answers .ensures)
 
 pub put-run-spec : {M : Type 1} → statement M

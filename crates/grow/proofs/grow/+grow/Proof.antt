@@ -27,7 +27,16 @@ abbrev grow-below : ℕ → In 6 grow-kinds.ps
 grow-below t = and 6 grow-kinds.ps (falls 6 grow-kinds.ps _<_ μ-grow t) grow.Pre
 
 abbrev calls : ℕ → grow-lts.Claims
-calls t = (put-leaf-reads.Asked, put-leaf-reads.Learnt, try-slice-reads.Asked, try-slice-reads.Learnt, grow-below t, grow.Post, put-branch-reads.Asked, put-branch-reads.Learnt)
+calls t = (
+  put-leaf-reads.Asked,
+  put-leaf-reads.Learnt,
+  try-slice-reads.Asked,
+  try-slice-reads.Learnt,
+  grow-below t,
+  grow.Post,
+  put-branch-reads.Asked,
+  put-branch-reads.Learnt,
+)
 
 grow-put-leaf-requires : (t : ℕ) → grow-lts.Need-put-leaf-requires (calls t) (grow-at t) grow.Post
 grow-put-leaf-requires t c κs =
@@ -74,7 +83,8 @@ grow-put-leaf-requires-2 t c κs =
     let chosen = after-try-slice .before .before .before in
     let known2 = chosen .before .before .before in
     let start = known2 .before .before .before .before in
-    uncut-needs binary32 _ _ (start .args .strategy) _ (start .pre .1) (chosen .if1 .left) _ (asSplit (after-try-slice .try-slice .result)) (after-try-slice .try-slice .ensures)
+    uncut-needs binary32 _ _ (start .args .strategy) _ (start .pre .1) (chosen .if1 .left) _ (asSplit (after-try-slice .try-slice .result))
+    (after-try-slice .try-slice .ensures)
 
 grow-same-length-4 : (t : ℕ) → grow-lts.Need-same-length-4 (calls t) (grow-at t) grow.Post
 grow-same-length-4 t c = search needs
@@ -97,7 +107,8 @@ grow-returns-2 t c =
     let chosen = after-try-slice .before .before .before in
     let known2 = chosen .before .before .before in
     let start = known2 .before .before .before .before in
-    uncut-gives binary32 _ _ _ _ (start .pre .1) (chosen .if1 .left) _ (asSplit (after-try-slice .try-slice .result)) (after-try-slice .try-slice .ensures) _ _ _ _ _ (ap asSplit (at-enum-told .enum-told .given .1)) (after-put-leaf2 .put-leaf2 .ensures)
+    uncut-gives binary32 _ _ _ _ (start .pre .1) (chosen .if1 .left) _ (asSplit (after-try-slice .try-slice .result))
+    (after-try-slice .try-slice .ensures) _ _ _ _ _ (ap asSplit (at-enum-told .enum-told .given .1)) (after-put-leaf2 .put-leaf2 .ensures)
 
 grow-sub-grow : (t : ℕ) → grow-lts.Need-sub-grow (calls t) (grow-at t) grow.Post
 grow-sub-grow t c =
@@ -115,7 +126,11 @@ grow-slice-relend-prefix-grow t c =
     let chosen = after-try-slice .before .before .before in
     let known2 = chosen .before .before .before in
     let start = known2 .before .before .before .before in
-    omega (arith, cut-within binary32 _ _ (start .args .strategy) _ (start .pre .1) (chosen .if1 .left) _ (asSplit (after-try-slice .try-slice .result)) (after-try-slice .try-slice .ensures) _ (ap asSplit (c .before .cut .given .1)))
+    omega (
+      arith,
+      cut-within binary32 _ _ (start .args .strategy) _ (start .pre .1) (chosen .if1 .left) _ (asSplit (after-try-slice .try-slice .result))
+          (after-try-slice .try-slice .ensures) _ (ap asSplit (c .before .cut .given .1)),
+    )
 
 grow-slice-aggregate-grow : (t : ℕ) → grow-lts.Need-slice-aggregate-grow (calls t) (grow-at t) grow.Post
 grow-slice-aggregate-grow t c =
@@ -125,7 +140,8 @@ grow-slice-aggregate-grow t c =
     let chosen = after-try-slice .before .before .before in
     let known2 = chosen .before .before .before in
     let start = known2 .before .before .before .before in
-    sym (left-long binary32 _ _ (start .args .strategy) _ (start .pre .1) (chosen .if1 .left) _ (asSplit (after-try-slice .try-slice .result)) (after-try-slice .try-slice .ensures) _ (ap asSplit (at-cut .cut .given .1)))
+    sym (left-long binary32 _ _ (start .args .strategy) _ (start .pre .1) (chosen .if1 .left) _ (asSplit (after-try-slice .try-slice .result))
+    (after-try-slice .try-slice .ensures) _ (ap asSplit (at-cut .cut .given .1)))
 
 grow-grow-requires : (t : ℕ) → grow-lts.Need-grow-requires (calls t) (grow-at t) grow.Post
 grow-grow-requires t c κs =
@@ -137,7 +153,8 @@ grow-grow-requires t c κs =
     let known2 = chosen .before .before .before in
     let start = known2 .before .before .before .before in (
       omega (arith, start .pre .0, some-remaining binary32 _ _ (start .args .strategy) _ (start .pre .1) (chosen .if1 .left)),
-      left-needs binary32 _ _ (start .args .strategy) _ (start .pre .1) (chosen .if1 .left) _ (asSplit (after-try-slice .try-slice .result)) (after-try-slice .try-slice .ensures) _ (ap asSplit (at-cut .cut .given .1)) _ (after-try-slice .try-slice .kept .1 .1 .1 .1 .0),
+      left-needs binary32 _ _ (start .args .strategy) _ (start .pre .1) (chosen .if1 .left) _ (asSplit (after-try-slice .try-slice .result))
+          (after-try-slice .try-slice .ensures) _ (ap asSplit (at-cut .cut .given .1)) _ (after-try-slice .try-slice .kept .1 .1 .1 .1 .0),
     )
 
 grow-sub-grow-2 : (t : ℕ) → grow-lts.Need-sub-grow-2 (calls t) (grow-at t) grow.Post
@@ -163,7 +180,11 @@ grow-mul-grow t c =
     let chosen = after-try-slice .before .before .before in
     let known2 = chosen .before .before .before in
     let start = known2 .before .before .before .before in
-    omega (arith, cut-ends binary32 _ _ (start .args .strategy) _ (start .pre .1) (chosen .if1 .left) _ (asSplit (after-try-slice .try-slice .result)) (after-try-slice .try-slice .ensures) _ (ap asSplit (at-cut .cut .given .1)))
+    omega (
+      arith,
+      cut-ends binary32 _ _ (start .args .strategy) _ (start .pre .1) (chosen .if1 .left) _ (asSplit (after-try-slice .try-slice .result))
+          (after-try-slice .try-slice .ensures) _ (ap asSplit (at-cut .cut .given .1)),
+    )
 
 grow-sub-grow-3 : (t : ℕ) → grow-lts.Need-sub-grow-3 (calls t) (grow-at t) grow.Post
 grow-sub-grow-3 t c =
@@ -176,7 +197,8 @@ grow-sub-grow-3 t c =
     let chosen = after-try-slice .before .before .before in
     let known2 = chosen .before .before .before in
     let start = known2 .before .before .before .before in
-    cut-within-now binary32 _ _ (start .args .strategy) _ (start .pre .1) (chosen .if1 .left) _ (asSplit (after-try-slice .try-slice .result)) (after-try-slice .try-slice .ensures) _ (ap asSplit (at-cut .cut .given .1)) _ _ _ _ _ _ (after-grow .grow .ensures)
+    cut-within-now binary32 _ _ (start .args .strategy) _ (start .pre .1) (chosen .if1 .left) _ (asSplit (after-try-slice .try-slice .result))
+    (after-try-slice .try-slice .ensures) _ (ap asSplit (at-cut .cut .given .1)) _ _ _ _ _ _ (after-grow .grow .ensures)
 
 grow-part-grow-start : (t : ℕ) → grow-lts.Need-part-grow-start (calls t) (grow-at t) grow.Post
 grow-part-grow-start t c =
@@ -189,7 +211,8 @@ grow-part-grow-start t c =
     let chosen = after-try-slice .before .before .before in
     let known2 = chosen .before .before .before in
     let start = known2 .before .before .before .before in
-    cut-within-now binary32 _ _ (start .args .strategy) _ (start .pre .1) (chosen .if1 .left) _ (asSplit (after-try-slice .try-slice .result)) (after-try-slice .try-slice .ensures) _ (ap asSplit (at-cut .cut .given .1)) _ _ _ _ _ _ (after-grow .grow .ensures)
+    cut-within-now binary32 _ _ (start .args .strategy) _ (start .pre .1) (chosen .if1 .left) _ (asSplit (after-try-slice .try-slice .result))
+    (after-try-slice .try-slice .ensures) _ (ap asSplit (at-cut .cut .given .1)) _ _ _ _ _ _ (after-grow .grow .ensures)
 
 grow-part-grow-end : (t : ℕ) → grow-lts.Need-part-grow-end (calls t) (grow-at t) grow.Post
 grow-part-grow-end t c = search needs
@@ -205,7 +228,11 @@ grow-add-grow t c =
     let chosen = after-try-slice .before .before .before in
     let known2 = chosen .before .before .before in
     let start = known2 .before .before .before .before in
-    omega (arith, cut-ends binary32 _ _ (start .args .strategy) _ (start .pre .1) (chosen .if1 .left) _ (asSplit (after-try-slice .try-slice .result)) (after-try-slice .try-slice .ensures) _ (ap asSplit (at-cut .cut .given .1)))
+    omega (
+      arith,
+      cut-ends binary32 _ _ (start .args .strategy) _ (start .pre .1) (chosen .if1 .left) _ (asSplit (after-try-slice .try-slice .result))
+          (after-try-slice .try-slice .ensures) _ (ap asSplit (at-cut .cut .given .1)),
+    )
 
 grow-add-grow-2 : (t : ℕ) → grow-lts.Need-add-grow-2 (calls t) (grow-at t) grow.Post
 grow-add-grow-2 t c =
@@ -220,7 +247,11 @@ grow-add-grow-2 t c =
     let chosen = after-try-slice .before .before .before in
     let known2 = chosen .before .before .before in
     let start = known2 .before .before .before .before in
-    omega (arith, left-root-few binary32 _ _ (start .args .strategy) _ (start .pre .1) (chosen .if1 .left) _ (asSplit (after-try-slice .try-slice .result)) (after-try-slice .try-slice .ensures) _ (ap asSplit (at-cut .cut .given .1)) _ _ _ _ _ _ (after-grow .grow .ensures))
+    omega (
+      arith,
+      left-root-few binary32 _ _ (start .args .strategy) _ (start .pre .1) (chosen .if1 .left) _ (asSplit (after-try-slice .try-slice .result))
+          (after-try-slice .try-slice .ensures) _ (ap asSplit (at-cut .cut .given .1)) _ _ _ _ _ _ (after-grow .grow .ensures),
+    )
 
 grow-grow-requires-2 : (t : ℕ) → grow-lts.Need-grow-requires-2 (calls t) (grow-at t) grow.Post
 grow-grow-requires-2 t c κs =
@@ -236,7 +267,9 @@ grow-grow-requires-2 t c κs =
     let known2 = chosen .before .before .before in
     let start = known2 .before .before .before .before in (
       omega (arith, start .pre .0, some-remaining binary32 _ _ (start .args .strategy) _ (start .pre .1) (chosen .if1 .left)),
-      right-needs binary32 _ _ (start .args .strategy) _ (start .pre .1) (chosen .if1 .left) _ (asSplit (after-try-slice .try-slice .result)) (after-try-slice .try-slice .ensures) _ (ap asSplit (at-cut .cut .given .1)) _ _ _ _ _ _ (after-grow .grow .ensures) _ (after-grow .grow .kept .1 .1 .1 .1 .1 .1 .0 ∙ after-try-slice .try-slice .kept .1 .1 .1 .1 .0),
+      right-needs binary32 _ _ (start .args .strategy) _ (start .pre .1) (chosen .if1 .left) _ (asSplit (after-try-slice .try-slice .result))
+          (after-try-slice .try-slice .ensures) _ (ap asSplit (at-cut .cut .given .1)) _ _ _ _ _ _ (after-grow .grow .ensures) _
+          (after-grow .grow .kept .1 .1 .1 .1 .1 .1 .0 ∙ after-try-slice .try-slice .kept .1 .1 .1 .1 .0),
     )
 
 grow-put-branch-requires : (t : ℕ) → grow-lts.Need-put-branch-requires (calls t) (grow-at t) grow.Post
@@ -255,7 +288,9 @@ grow-put-branch-requires t c κs =
     let chosen = after-try-slice .before .before .before in
     let known2 = chosen .before .before .before in
     let start = known2 .before .before .before .before in
-    branch-needs binary32 _ _ (start .args .strategy) _ (start .pre .1) (chosen .if1 .left) _ (asSplit (after-try-slice .try-slice .result)) (after-try-slice .try-slice .ensures) _ (ap asSplit (at-cut .cut .given .1)) _ _ _ _ _ _ (after-grow .grow .ensures) _ _ _ _ _ _ (after-grow2 .grow2 .ensures)
+    branch-needs binary32 _ _ (start .args .strategy) _ (start .pre .1) (chosen .if1 .left) _ (asSplit (after-try-slice .try-slice .result))
+    (after-try-slice .try-slice .ensures) _ (ap asSplit (at-cut .cut .given .1)) _ _ _ _ _ _ (after-grow .grow .ensures) _ _ _ _ _ _
+    (after-grow2 .grow2 .ensures)
 
 grow-same-length-8 : (t : ℕ) → grow-lts.Need-same-length-8 (calls t) (grow-at t) grow.Post
 grow-same-length-8 t c =
@@ -274,7 +309,9 @@ grow-same-length-8 t c =
     let chosen = after-try-slice .before .before .before in
     let known2 = chosen .before .before .before in
     let start = known2 .before .before .before .before in
-    order-long binary32 _ _ (start .args .strategy) _ (start .pre .1) (chosen .if1 .left) _ (asSplit (after-try-slice .try-slice .result)) (after-try-slice .try-slice .ensures) _ (ap asSplit (at-cut .cut .given .1)) _ _ _ _ _ _ (after-grow .grow .ensures) _ _ _ _ _ _ (after-grow2 .grow2 .ensures)
+    order-long binary32 _ _ (start .args .strategy) _ (start .pre .1) (chosen .if1 .left) _ (asSplit (after-try-slice .try-slice .result))
+    (after-try-slice .try-slice .ensures) _ (ap asSplit (at-cut .cut .given .1)) _ _ _ _ _ _ (after-grow .grow .ensures) _ _ _ _ _ _
+    (after-grow2 .grow2 .ensures)
 
 grow-same-length-9 : (t : ℕ) → grow-lts.Need-same-length-9 (calls t) (grow-at t) grow.Post
 grow-same-length-9 t c =
@@ -313,7 +350,8 @@ grow-same-length-11 t c =
     let at-boxes3 = at-grow-arg7 .before .before .before .before in
     let at-scratch2 = at-boxes3 .before .before .before .before in
     let after-grow = at-scratch2 .before .before .before in
-    after-put-branch .put-branch .kept .1 .1 .1 .0 ∙ after-grow2 .grow2 .kept .1 .1 .1 .1 .1 .1 .1 .1 .1 .0 ∙ after-grow .grow .kept .1 .1 .1 .1 .1 .1 .1 .1 .1 .0
+    after-put-branch .put-branch .kept .1 .1 .1 .0 ∙ after-grow2 .grow2 .kept .1 .1 .1 .1 .1 .1 .1 .1 .1 .0
+    ∙ after-grow .grow .kept .1 .1 .1 .1 .1 .1 .1 .1 .1 .0
 
 grow-returns-3 : (t : ℕ) → grow-lts.Need-returns-3 (calls t) (grow-at t) grow.Post
 grow-returns-3 t c =
@@ -332,7 +370,9 @@ grow-returns-3 t c =
     let chosen = after-try-slice .before .before .before in
     let known2 = chosen .before .before .before in
     let start = known2 .before .before .before .before in
-    branch-gives binary32 _ _ (start .args .strategy) _ (start .pre .1) (chosen .if1 .left) _ (asSplit (after-try-slice .try-slice .result)) (after-try-slice .try-slice .ensures) _ (ap asSplit (at-cut .cut .given .1)) _ _ _ _ _ _ (after-grow .grow .ensures) _ _ _ _ _ _ (after-grow2 .grow2 .ensures) _ _ _ _ _ (after-put-branch .put-branch .ensures)
+    branch-gives binary32 _ _ (start .args .strategy) _ (start .pre .1) (chosen .if1 .left) _ (asSplit (after-try-slice .try-slice .result))
+    (after-try-slice .try-slice .ensures) _ (ap asSplit (at-cut .cut .given .1)) _ _ _ _ _ _ (after-grow .grow .ensures) _ _ _ _ _ _
+    (after-grow2 .grow2 .ensures) _ _ _ _ _ (after-put-branch .put-branch .ensures)
 
 pub +grow-spec : {M : Type 1} → statement M
 +grow-spec = close μ-grow λ t. grow-lts.spec (calls t)

@@ -44,7 +44,14 @@ returns c =
     let after-put-links = after-put-box .before .before .before .before in
     let after-union-box = after-put-links .before .before .before .before in
     let start = after-union-box .before .before .before .before in
-    record { links-are = after-put-links .put-links .ensures; boxes-are = after-put-box .put-box .ensures ∙ ap (λ (b : Box). overwrite (6 * (start .args .right .root + 1)) (sixOf b) (start .args .boxes .now)) (after-union-box .union-box .ensures); root-is = refl; levels-are = ap (λ (n : ℕ). n + 1) (c .deeper .ensures); box-is = after-union-box .union-box .ensures }
+    record {
+      links-are = after-put-links .put-links .ensures;
+      boxes-are = after-put-box .put-box .ensures
+          ∙ ap (λ (b : Box). overwrite (6 * (start .args .right .root + 1)) (sixOf b) (start .args .boxes .now)) (after-union-box .union-box .ensures);
+      root-is = refl;
+      levels-are = ap (λ (n : ℕ). n + 1) (c .deeper .ensures);
+      box-is = after-union-box .union-box .ensures;
+    }
 
 pub put-branch-spec : {M : Type 1} → statement M
 put-branch-spec =

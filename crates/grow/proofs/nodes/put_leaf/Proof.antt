@@ -36,7 +36,8 @@ returns c =
     let after-union-of = after-put-links .before .before in
     let known = after-union-of .before .before in
     let start = known .before .before .before in
-    leaf-written binary32 _ _ _ _ _ _ _ _ _ (start .pre .some) (after-union-of .union-of .ensures) (after-put-links .put-links .ensures) (after-put-box .put-box .ensures)
+    leaf-written binary32 _ _ _ _ _ _ _ _ _ (start .pre .some) (after-union-of .union-of .ensures) (after-put-links .put-links .ensures)
+    (after-put-box .put-box .ensures)
 
 pub put-leaf-spec : {M : Type 1} → statement M
 put-leaf-spec =

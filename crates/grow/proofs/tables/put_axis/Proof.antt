@@ -40,7 +40,8 @@ returns c =
     let after-first-key = after-put-keys .before .before in
     let start = after-first-key .before .before .before in
     let first = after-first-key .first-key .result in
-    centres-put binary32 _ _ _ first (first + 4096 - first) _ _ (start .pre .1) (start .pre .0 .few) (after-first-key .first-key .ensures) (omega arith) (after-put-keys .put-keys .ensures) _ refl
+    centres-put binary32 _ _ _ first (first + 4096 - first) _ _ (start .pre .1) (start .pre .0 .few) (after-first-key .first-key .ensures) (omega arith)
+    (after-put-keys .put-keys .ensures) _ refl
 
 pub put-axis-spec : {M : Type 1} → statement M
 put-axis-spec =

@@ -43,7 +43,8 @@ loop-again : tie.Need-loop-again Inv-loop μ-loop
 loop-again c =
     let turn = c .before .before in
     let start = turn .before .before .before in
-    run-store-front (centreOn binary32 (boxIn (start .args .bounds .now)) (asAxis (start .args .axis))) _ _ _ _ _ (start .pre .room) (c .before .loop-test .taken) (turn .loop .inv) (c .centre-on .ensures)
+    run-store-front (centreOn binary32 (boxIn (start .args .bounds .now)) (asAxis (start .args .axis))) _ _ _ _ _ (start .pre .room)
+    (c .before .loop-test .taken) (turn .loop .inv) (c .centre-on .ensures)
 
 same-length : tie.Need-same-length Inv-loop μ-loop
 same-length c = c .before .loop .inv .long

@@ -44,7 +44,8 @@ same-length c = c .before .loop .inv .long
 returns : tie.Need-returns Inv-loop μ-loop
 returns c =
     let start = c .before .before in
-    run-end _ 0 _ _ _ _ (c .loop-test .left) (c .before .loop .inv) ∙ ap (λ (l : List ℕ). overwrite 0 l (start .args .order .now)) (range-concatMap (start .args .count))
+    run-end _ 0 _ _ _ _ (c .loop-test .left) (c .before .loop .inv)
+    ∙ ap (λ (l : List ℕ). overwrite 0 l (start .args .order .now)) (range-concatMap (start .args .count))
 
 pub put-order-spec : {M : Type 1} → statement M
 put-order-spec =

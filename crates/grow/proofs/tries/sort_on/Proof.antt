@@ -35,7 +35,8 @@ sort-by-key-requires c κs =
     let after-first-key = c .before .before .before in
     let start = after-first-key .before .before .before .before in
     let first = after-first-key .first-key .result in
-    sort-needs (asAxis (start .args .axis)) (start .args .centres .now) _ _ first (first + 4096 - first) (after-first-key .first-key .ensures) (omega arith) (start .pre)
+    sort-needs (asAxis (start .args .axis)) (start .args .centres .now) _ _ first (first + 4096 - first) (after-first-key .first-key .ensures)
+    (omega arith) (start .pre)
 
 same-length : tie.Need-same-length
 same-length c = search needs
@@ -49,7 +50,8 @@ returns c =
     let after-first-key = after-sort-by-key .before .before .before .before in
     let start = after-first-key .before .before .before .before in
     let first = after-first-key .first-key .result in
-    sort-gives (asAxis (start .args .axis)) (start .args .centres .now) _ (start .args .scratch .now) first (first + 4096 - first) (after-first-key .first-key .ensures) (omega arith) _ (after-sort-by-key .sort-by-key .ensures)
+    sort-gives (asAxis (start .args .axis)) (start .args .centres .now) _ (start .args .scratch .now) first (first + 4096 - first)
+    (after-first-key .first-key .ensures) (omega arith) _ (after-sort-by-key .sort-by-key .ensures)
 
 pub sort-on-spec : {M : Type 1} → statement M
 sort-on-spec =

@@ -46,7 +46,8 @@ try-on-requires-2 c κs =
     let after-axes-by-size = after-try-on .before .before .before in
     let known = after-axes-by-size .before .before .before in
     let start = known .before .before .before in
-    next-needs binary32 _ _ (start .pre) _ _ _ _ _ (asSplit (after-try-on .try-on .result)) (after-try-on .try-on .ensures) (after-try-on .try-on .kept .1 .1 .1 .1 .1 .1 .0)
+    next-needs binary32 _ _ (start .pre) _ _ _ _ _ (asSplit (after-try-on .try-on .result)) (after-try-on .try-on .ensures)
+    (after-try-on .try-on .kept .1 .1 .1 .1 .1 .1 .0)
 
 enum-known-twice : tie.Need-enum-known-twice
 enum-known-twice c = search needs
@@ -84,7 +85,8 @@ try-on-requires-3 c κs =
     let known = after-axes-by-size .before .before .before in
     let start = known .before .before .before in
     next-needs binary32 _ _
-    (next-needs binary32 _ _ (start .pre) _ _ _ _ (after-try-on .try-on .last .1 .1 .1 .1 .1 .1 .0) (asSplit (after-try-on .try-on .result)) (after-try-on .try-on .ensures) (after-try-on .try-on .kept .1 .1 .1 .1 .1 .1 .0))
+    (next-needs binary32 _ _ (start .pre) _ _ _ _ (after-try-on .try-on .last .1 .1 .1 .1 .1 .1 .0) (asSplit (after-try-on .try-on .result))
+    (after-try-on .try-on .ensures) (after-try-on .try-on .kept .1 .1 .1 .1 .1 .1 .0))
     _ _ _ _ _ (asSplit (after-try-on2 .try-on2 .result)) (after-try-on2 .try-on2 .ensures) (after-try-on2 .try-on2 .kept .1 .1 .1 .1 .1 .1 .0)
 
 same-length-5 : tie.Need-same-length-5

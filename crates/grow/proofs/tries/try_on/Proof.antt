@@ -18,7 +18,8 @@ rule-requires c κs =
     let after-sort-on = at-scratch .before .before .before in
     let known2 = after-sort-on .before .before .before in
     let start = known2 .before .before .before .before in
-    try-rule-needs binary32 _ _ (try-sorted binary32 _ _ (start .pre) (start .args .strategy) (asAxis (start .args .axis)) (asBox (start .args .parent)) _ (after-sort-on .sort-on .ensures))
+    try-rule-needs binary32 _ _ (try-sorted binary32 _ _ (start .pre) (start .args .strategy) (asAxis (start .args .axis)) (asBox (start .args .parent)) _
+    (after-sort-on .sort-on .ensures))
 
 same-length : tie.Need-same-length
 same-length c = search needs
@@ -32,7 +33,8 @@ returns c =
     let after-sort-on = at-scratch .before .before .before in
     let known2 = after-sort-on .before .before .before in
     let start = known2 .before .before .before .before in
-    try-gives binary32 _ _ (start .pre) (start .args .strategy) (asAxis (start .args .axis)) (asBox (start .args .parent)) _ (after-sort-on .sort-on .ensures) _ (c .rule .ensures)
+    try-gives binary32 _ _ (start .pre) (start .args .strategy) (asAxis (start .args .axis)) (asBox (start .args .parent)) _ (after-sort-on .sort-on .ensures) _
+    (c .rule .ensures)
 
 pub try-on-spec : {M : Type 1} → statement M
 try-on-spec = tie.close (tie.spec sort-on-requires rule-requires same-length same-length-2 returns)

@@ -45,8 +45,10 @@ returns-2 c =
     let start = after-image-layout .before .before .before .before in
     let a = start .args in
     let laid = sym (after-image-layout .image-layout .ensures) ∙ ap imageLaid (at-count .count .given .1) in (
-      inner-decides (a .image .now) _ _ laid (λ x. requestRefusal x (a .points .now) (a .distance) (length (a .answers .now))) _ (after-ask-sized .ask-sized .ensures .0),
-      after-ask-sized .ask-sized .ensures .1 ∙ ap (λ (x : Image). afterBytes (asVerdict (after-ask-sized .ask-sized .result)) (answerBytes (answerIn (asQuery (a .query)) x (a .distance)) (a .points .now)) (a .answers .now)) (sym (contents-are (a .image .now) _ _ laid)),
+      inner-decides (a .image .now) _ _ laid (λ x. requestRefusal x (a .points .now) (a .distance) (length (a .answers .now))) _
+          (after-ask-sized .ask-sized .ensures .0),
+      after-ask-sized .ask-sized .ensures .1 ∙ ap (λ (x : Image). afterBytes (asVerdict (after-ask-sized .ask-sized .result))
+          (answerBytes (answerIn (asQuery (a .query)) x (a .distance)) (a .points .now)) (a .answers .now)) (sym (contents-are (a .image .now) _ _ laid)),
     )
 
 pub ask-spec : {M : Type 1} → statement M

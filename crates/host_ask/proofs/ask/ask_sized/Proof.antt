@@ -20,8 +20,11 @@ unfolding requestRefusal
 returns c =
     let after-count-refusal = c .before .before in
     let start = after-count-refusal .before .before .before .before in
-    let a = start .args in
-    (count-stops _ (a .count) (triangles-long (a .image .now) (a .count) (a .nodes)) _ _ _ (after-count-refusal .count-refusal .ensures) (c .before .refuses .ensures) (c .if1 .taken), as-it-was _ _ _ (sym (c .before .refuses .ensures) ∙ c .if1 .taken))
+    let a = start .args in (
+      count-stops _ (a .count) (triangles-long (a .image .now) (a .count) (a .nodes)) _ _ _ (after-count-refusal .count-refusal .ensures)
+          (c .before .refuses .ensures) (c .if1 .taken),
+      as-it-was _ _ _ (sym (c .before .refuses .ensures) ∙ c .if1 .taken),
+    )
 
 mul-numbers : tie.Need-mul-numbers
 mul-numbers c = search needs

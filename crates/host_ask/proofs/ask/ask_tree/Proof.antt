@@ -25,8 +25,13 @@ slice-aggregate-read-tree-3 c = search needs
 read-tree-requires : tie.Need-read-tree-requires
 read-tree-requires c κs =
     let known = c .before .before .before in
-    let start = known .before .before .before .before in
-    (omega (arith, start .pre .0 .long), (omega (arith, loaded-count (start .pre .0), start .pre .1 .0 .triangles-good .few), (omega (arith, start .pre .1 .1), omega (arith, start .pre .1 .1))))
+    let start = known .before .before .before .before in (
+      omega (arith, start .pre .0 .long),
+      (
+        omega (arith, loaded-count (start .pre .0), start .pre .1 .0 .triangles-good .few),
+        (omega (arith, start .pre .1 .1), omega (arith, start .pre .1 .1)),
+      ),
+    )
 
 mul-links-end : tie.Need-mul-links-end
 mul-links-end c = search needs
@@ -89,7 +94,8 @@ returns c =
     let l = start .pre .0 in
     let t = tree-read (a .image .now) (a .count) (a .nodes) (after-read-tree .read-tree .ensures) in (
       after-ask-lists .ask-lists .ensures .0 ∙ late-same l t (a .points .now) (a .distance),
-      after-ask-lists .ask-lists .ensures .1 ∙ ap (λ (answer : Point → Answer). afterBytes (asVerdict (after-ask-lists .ask-lists .result)) (answerBytes answer (a .points .now)) (a .answers .now)) (answer-same l t (asQuery (a .query)) (a .distance)),
+      after-ask-lists .ask-lists .ensures .1 ∙ ap (λ (answer : Point → Answer). afterBytes (asVerdict (after-ask-lists .ask-lists .result))
+          (answerBytes answer (a .points .now)) (a .answers .now)) (answer-same l t (asQuery (a .query)) (a .distance)),
     )
 
 pub ask-tree-spec : {M : Type 1} → statement M

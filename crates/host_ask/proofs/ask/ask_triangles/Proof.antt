@@ -29,7 +29,8 @@ returns c =
     let start = known3 .before .before .before in
     let a = start .args in
     let x = imageIn version1 (a .image .now) (a .count) (a .nodes) in (
-      early-stops x (a .points .now) (a .distance) (length (a .answers .now)) _ _ (after-early-refusal .early-refusal .ensures ∙ early-same (start .pre) _ _ _ (after-settings-of .settings-of .ensures)) (c .before .refuses .ensures) (c .if1 .taken),
+      early-stops x (a .points .now) (a .distance) (length (a .answers .now)) _ _ (after-early-refusal .early-refusal .ensures
+          ∙ early-same (start .pre) _ _ _ (after-settings-of .settings-of .ensures)) (c .before .refuses .ensures) (c .if1 .taken),
       as-it-was _ _ _ (sym (c .before .refuses .ensures) ∙ c .if1 .taken),
     )
 
@@ -50,9 +51,13 @@ returns-2 c =
     let start = known3 .before .before .before in
     let a = start .args in
     let x = imageIn version1 (a .image .now) (a .count) (a .nodes) in
-    let ready = early-passed (a .triangles .now) (a .points .now) _ (length (a .answers .now)) (did-pass _ _ _ (after-early-refusal .early-refusal .ensures) (after-refuses .refuses .ensures) (chosen .if1 .left)) in (
+    let ready = early-passed (a .triangles .now) (a .points .now) _ (length (a .answers .now))
+    (did-pass _ _ _ (after-early-refusal .early-refusal .ensures) (after-refuses .refuses .ensures) (chosen .if1 .left)) in (
       nodes-stop (a .nodes) _ _ (after-nodes-refusal .nodes-refusal .ensures) (c .before .refuses2 .ensures) (c .if2 .taken)
-          ∙ tree-stops x (a .points .now) (a .distance) (length (a .answers .now)) _ _ (after-early-refusal .early-refusal .ensures ∙ early-same (start .pre) _ _ _ (after-settings-of .settings-of .ensures)) (after-refuses .refuses .ensures) (chosen .if1 .left) (nodes-refused (start .pre) (ready .triangles-good .few) (nodes-many (a .nodes) _ _ (after-nodes-refusal .nodes-refusal .ensures) (c .before .refuses2 .ensures) (c .if2 .taken))),
+          ∙ tree-stops x (a .points .now) (a .distance) (length (a .answers .now)) _ _
+          (after-early-refusal .early-refusal .ensures ∙ early-same (start .pre) _ _ _ (after-settings-of .settings-of .ensures))
+          (after-refuses .refuses .ensures) (chosen .if1 .left) (nodes-refused (start .pre) (ready .triangles-good .few)
+          (nodes-many (a .nodes) _ _ (after-nodes-refusal .nodes-refusal .ensures) (c .before .refuses2 .ensures) (c .if2 .taken))),
       as-it-was _ _ _ (sym (c .before .refuses2 .ensures) ∙ c .if2 .taken),
     )
 
@@ -65,8 +70,14 @@ ask-tree-requires c κs =
     let after-early-refusal = after-refuses .before in
     let known3 = after-early-refusal .before .before .before in
     let start = known3 .before .before .before in
-    let a = start .args in
-    (start .pre, (early-passed (a .triangles .now) (a .points .now) _ (length (a .answers .now)) (did-pass _ _ _ (after-early-refusal .early-refusal .ensures) (after-refuses .refuses .ensures) (chosen .if1 .left)), nodes-few (a .nodes) _ _ (after-nodes-refusal .nodes-refusal .ensures) (after-refuses2 .refuses2 .ensures) (c .before .if2 .left)))
+    let a = start .args in (
+      start .pre,
+      (
+        early-passed (a .triangles .now) (a .points .now) _ (length (a .answers .now))
+            (did-pass _ _ _ (after-early-refusal .early-refusal .ensures) (after-refuses .refuses .ensures) (chosen .if1 .left)),
+        nodes-few (a .nodes) _ _ (after-nodes-refusal .nodes-refusal .ensures) (after-refuses2 .refuses2 .ensures) (c .before .if2 .left),
+      ),
+    )
 
 same-length : tie.Need-same-length
 same-length c = search needs
@@ -83,7 +94,9 @@ returns-3 c =
     let start = known3 .before .before .before in
     let a = start .args in
     let x = imageIn version1 (a .image .now) (a .count) (a .nodes) in (
-      late-decides x (a .points .now) (a .distance) (length (a .answers .now)) _ _ (after-early-refusal .early-refusal .ensures ∙ early-same (start .pre) _ _ _ (after-settings-of .settings-of .ensures)) (after-refuses .refuses .ensures) (chosen .if1 .left) _ (after-ask-tree .ask-tree .ensures .0),
+      late-decides x (a .points .now) (a .distance) (length (a .answers .now)) _ _
+          (after-early-refusal .early-refusal .ensures ∙ early-same (start .pre) _ _ _ (after-settings-of .settings-of .ensures))
+          (after-refuses .refuses .ensures) (chosen .if1 .left) _ (after-ask-tree .ask-tree .ensures .0),
       after-ask-tree .ask-tree .ensures .1,
     )
 

@@ -29,14 +29,16 @@ encode-count-requires c κs =
     let after-ask = c .before .before in
     let known = after-ask .before .before .before in
     let start = known .before in
-    rw (after-ask .ask .ensures .0) (query-encodable (start .args .image .now) [] (record { below = λ i. omega (arith, known .shared-slice-known .given i) }) (omega arith) 1 zero)
+    rw (after-ask .ask .ensures .0)
+    (query-encodable (start .args .image .now) [] (record { below = λ i. omega (arith, known .shared-slice-known .given i) }) (omega arith) 1 zero)
 
 returns : tie.Need-returns
 unfolding ofBits
 returns c =
     let after-ask = c .before .before .before in
     let start = after-ask .before .before .before .before in
-    c .encode-count .ensures ∙ (λ i. status ((after-ask .ask .ensures .0 ∙ check-asks-nothing (start .args .image .now)) i) (c .before .triangles-held .ensures i))
+    c .encode-count .ensures
+    ∙ (λ i. status ((after-ask .ask .ensures .0 ∙ check-asks-nothing (start .args .image .now)) i) (c .before .triangles-held .ensures i))
 
 pub check-image-spec : {M : Type 1} → statement M
 check-image-spec =

@@ -16,7 +16,8 @@ returns : tie.Need-returns
 returns c =
     let after-refuses = c .before .before in
     let start = after-refuses .before in
-    c .encode .ensures ∙ status-refused (asVerdict (start .args .verdict)) 0 (start .args .count) (sym (after-refuses .refuses .ensures) ∙ c .before .if1 .taken)
+    c .encode .ensures
+    ∙ status-refused (asVerdict (start .args .verdict)) 0 (start .args .count) (sym (after-refuses .refuses .ensures) ∙ c .before .if1 .taken)
 
 returns-2 : tie.Need-returns-2
 returns-2 c =

@@ -22,7 +22,8 @@ encode-count-requires c κs =
     let known = after-ask .before .before .before .before in
     let start = known .before in
     let a = start .args in
-    rw (after-ask .ask .ensures .0) (query-encodable (a .image .now) (a .points .now) (record { below = λ i. omega (arith, known .shared-slice-known .given i) }) (omega arith) (length (a .answers .now)) (a .distance))
+    rw (after-ask .ask .ensures .0) (query-encodable (a .image .now) (a .points .now)
+    (record { below = λ i. omega (arith, known .shared-slice-known .given i) }) (omega arith) (length (a .answers .now)) (a .distance))
 
 same-length : tie.Need-same-length
 same-length c = search needs
@@ -34,7 +35,8 @@ returns c =
     let start = at-ask-arg .before .before .before .before in
     let a = start .args in (
       c .encode-count .ensures ∙ ap (λ (v : Verdict). status v (length (a .points .now) / 12)) (after-ask .ask .ensures .0),
-      after-ask .ask .ensures .1 ∙ ap (λ (v : Verdict). afterBytes v (answerBytes (answerIn (asQuery (a .query)) (contents (a .image .now)) (a .distance)) (a .points .now)) (a .answers .now)) (after-ask .ask .ensures .0),
+      after-ask .ask .ensures .1 ∙ ap (λ (v : Verdict). afterBytes v (answerBytes (answerIn (asQuery (a .query)) (contents (a .image .now)) (a .distance))
+          (a .points .now)) (a .answers .now)) (after-ask .ask .ensures .0),
     )
 
 pub query-points-spec : {M : Type 1} → statement M

@@ -16,7 +16,8 @@ enum-known-triangles : tie.Need-enum-known-triangles
 enum-known-triangles c = search needs
 
 returns : tie.Need-returns
-returns c = held-none (c .before .before .before .before .args .image .now) _ (sym (c .before .before .image-layout .ensures) ∙ ap imageLaid (c .enum-told .given .1))
+returns c =
+    held-none (c .before .before .before .before .args .image .now) _ (sym (c .before .before .image-layout .ensures) ∙ ap imageLaid (c .enum-told .given .1))
 
 returns-2 : tie.Need-returns-2
 returns-2 c =

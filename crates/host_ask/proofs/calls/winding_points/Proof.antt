@@ -21,7 +21,8 @@ encode-count-requires c κs =
     let known = after-winding-image .before .before .before .before in
     let start = known .before in
     let a = start .args in
-    rw (after-winding-image .winding-image .ensures .0) (winding-encodable (a .image .now) (a .points .now) (record { below = λ i. omega (arith, known .shared-slice-known .given i) }) (omega arith) (length (a .out .now)))
+    rw (after-winding-image .winding-image .ensures .0) (winding-encodable (a .image .now) (a .points .now)
+    (record { below = λ i. omega (arith, known .shared-slice-known .given i) }) (omega arith) (length (a .out .now)))
 
 same-length : tie.Need-same-length
 same-length c = search needs
@@ -33,7 +34,8 @@ returns c =
     let start = at-winding-image-arg .before .before .before .before in
     let a = start .args in (
       c .encode-count .ensures ∙ ap (λ (v : Verdict). status v (length (a .points .now) / 12)) (after-winding-image .winding-image .ensures .0),
-      after-winding-image .winding-image .ensures .1 ∙ ap (λ (v : Verdict). afterBytes v (windingBytes (contents (a .image .now) .triangles) (a .points .now)) (a .out .now)) (after-winding-image .winding-image .ensures .0),
+      after-winding-image .winding-image .ensures .1 ∙ ap (λ (v : Verdict).
+          afterBytes v (windingBytes (contents (a .image .now) .triangles) (a .points .now)) (a .out .now)) (after-winding-image .winding-image .ensures .0),
     )
 
 pub winding-points-spec : {M : Type 1} → statement M

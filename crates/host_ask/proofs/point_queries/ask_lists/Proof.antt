@@ -26,7 +26,8 @@ put-answers-requires c κs =
     let known4 = after-late-refusal .before .before .before in
     let start = known4 .before .before .before .before in
     let a = start .args in
-    let p = late-passed (a .triangles .now) (a .points .now) (a .order .now) (a .links .now) (a .boxes .now) (a .nodes) (a .distance) (start .pre .triangles-good) (did-pass _ _ _ (after-late-refusal .late-refusal .ensures) (after-refuses .refuses .ensures) (c .before .if1 .left)) in
+    let p = late-passed (a .triangles .now) (a .points .now) (a .order .now) (a .links .now) (a .boxes .now) (a .nodes) (a .distance)
+    (start .pre .triangles-good) (did-pass _ _ _ (after-late-refusal .late-refusal .ensures) (after-refuses .refuses .ensures) (c .before .if1 .left)) in
     (p .0, (p .1, start .pre .room-enough))
 
 same-length : tie.Need-same-length
@@ -37,8 +38,11 @@ returns-2 c =
     let after-put-answers = c .before .before in
     let chosen = after-put-answers .before .before in
     let after-refuses = chosen .before in
-    let after-late-refusal = after-refuses .before in
-    (after-late-refusal .late-refusal .ensures, as-written _ _ _ _ (after-late-refusal .late-refusal .ensures ∙ did-pass _ _ _ (after-late-refusal .late-refusal .ensures) (after-refuses .refuses .ensures) (chosen .if1 .left)) (after-put-answers .put-answers .ensures))
+    let after-late-refusal = after-refuses .before in (
+      after-late-refusal .late-refusal .ensures,
+      as-written _ _ _ _ (after-late-refusal .late-refusal .ensures ∙ did-pass _ _ _ (after-late-refusal .late-refusal .ensures)
+          (after-refuses .refuses .ensures) (chosen .if1 .left)) (after-put-answers .put-answers .ensures),
+    )
 
 pub ask-lists-spec : {M : Type 1} → statement M
 ask-lists-spec =

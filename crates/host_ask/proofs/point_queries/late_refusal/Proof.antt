@@ -24,7 +24,8 @@ returns : tie.Need-returns
 unfolding lateRefusal
 returns c =
     let first = c .before .before in
-    or-test _ _ _ _ _ (or-test _ _ _ _ _ (ends _ _ (first .before .before .tree-refusal .ensures)) (first .before .point-bytes-refusal .ensures) (first .or .ensures))
+    or-test _ _ _ _ _
+    (or-test _ _ _ _ _ (ends _ _ (first .before .before .tree-refusal .ensures)) (first .before .point-bytes-refusal .ensures) (first .or .ensures))
     (c .before .distance-refusal .ensures) (c .or2 .ensures)
 
 pub late-refusal-spec : {M : Type 1} → statement M

@@ -13,7 +13,8 @@ use Rattle.host_ask.proofs.point_queries.put_answers.Statement.{stateme
 use Rattle.host_ask.proofs.point_queries.put_answers.Tie as tie
 
 abbrev Inv-loop : tie.InvT-loop
-Inv-loop query triangles order links boxes nodes points distance answers₀ count k₀ answers k = Answered (answerBy binary32 (asQuery query) triangles order links boxes nodes distance) points answers₀ count answers k
+Inv-loop query triangles order links boxes nodes points distance answers₀ count k₀ answers k =
+    Answered (answerBy binary32 (asQuery query) triangles order links boxes nodes distance) points answers₀ count answers k
 
 abbrev μ-loop : tie.MeasureT-loop
 μ-loop query triangles order links boxes nodes points distance answers₀ count k₀ answers k = count - k
@@ -23,7 +24,8 @@ loop-holds c =
     let known3 = c .before .before .before in
     let start = known3 .before .before .before in
     let a = start .args in
-    answered-start (answerBy binary32 (asQuery (a .query)) (a .triangles .now) (a .order .now) (a .links .now) (a .boxes .now) (a .nodes) (a .distance)) (a .points .now) (a .answers .now) _
+    answered-start (answerBy binary32 (asQuery (a .query)) (a .triangles .now) (a .order .now) (a .links .now) (a .boxes .now) (a .nodes) (a .distance))
+    (a .points .now) (a .answers .now) _
 
 point-in-requires : tie.Need-point-in-requires Inv-loop μ-loop
 point-in-requires c κs = omega (arith, c .loop-test .taken)
@@ -32,8 +34,11 @@ answer-at-requires : tie.Need-answer-at-requires Inv-loop μ-loop
 answer-at-requires c κs =
     let turn = c .before .before in
     let known4 = turn .before .before .before in
-    let start = known4 .before .before .before .before in
-    (start .pre .0, rw (c .point-in .ensures) (point-finite (numbersOf (start .args .points .now)) (start .pre .1 .0 .coordinates) _ (rw (numbers-long (start .args .points .now)) (omega (arith, c .before .loop-test .taken)))))
+    let start = known4 .before .before .before .before in (
+      start .pre .0,
+      rw (c .point-in .ensures) (point-finite (numbersOf (start .args .points .now)) (start .pre .1 .0 .coordinates) _
+          (rw (numbers-long (start .args .points .now)) (omega (arith, c .before .loop-test .taken)))),
+    )
 
 mul-put-answer-bytes : tie.Need-mul-put-answer-bytes Inv-loop μ-loop
 mul-put-answer-bytes c = omega (arith, c .before .before .before .loop-test .taken)
@@ -74,7 +79,8 @@ returns c =
     let known4 = c .before .before .before .before in
     let start = known4 .before .before .before .before in
     let a = start .args in
-    answered-end (answerBy binary32 (asQuery (a .query)) (a .triangles .now) (a .order .now) (a .links .now) (a .boxes .now) (a .nodes) (a .distance)) (a .points .now) (a .answers .now) _ _ _ refl (c .loop-test .left) (c .before .loop .inv)
+    answered-end (answerBy binary32 (asQuery (a .query)) (a .triangles .now) (a .order .now) (a .links .now) (a .boxes .now) (a .nodes) (a .distance))
+    (a .points .now) (a .answers .now) _ _ _ refl (c .loop-test .left) (c .before .loop .inv)
 
 pub put-answers-spec : {M : Type 1} → statement M
 put-answers-spec =

@@ -23,7 +23,8 @@ put-windings-requires c κs =
     let after-winding-refusal = after-refuses .before in
     let start = after-winding-refusal .before .before .before .before in
     let a = start .args in
-    winding-passed (a .triangles .now) (a .points .now) (length (a .out .now)) (did-pass _ _ _ (after-winding-refusal .winding-refusal .ensures) (after-refuses .refuses .ensures) (c .before .if1 .left))
+    winding-passed (a .triangles .now) (a .points .now) (length (a .out .now))
+    (did-pass _ _ _ (after-winding-refusal .winding-refusal .ensures) (after-refuses .refuses .ensures) (c .before .if1 .left))
 
 same-length : tie.Need-same-length
 same-length c = search needs
@@ -33,8 +34,11 @@ returns-2 c =
     let after-put-windings = c .before .before in
     let chosen = after-put-windings .before .before in
     let after-refuses = chosen .before in
-    let after-winding-refusal = after-refuses .before in
-    (after-winding-refusal .winding-refusal .ensures, as-written _ _ _ _ (after-winding-refusal .winding-refusal .ensures ∙ did-pass _ _ _ (after-winding-refusal .winding-refusal .ensures) (after-refuses .refuses .ensures) (chosen .if1 .left)) (after-put-windings .put-windings .ensures))
+    let after-winding-refusal = after-refuses .before in (
+      after-winding-refusal .winding-refusal .ensures,
+      as-written _ _ _ _ (after-winding-refusal .winding-refusal .ensures ∙ did-pass _ _ _ (after-winding-refusal .winding-refusal .ensures)
+          (after-refuses .refuses .ensures) (chosen .if1 .left)) (after-put-windings .put-windings .ensures),
+    )
 
 pub winding-lists-spec : {M : Type 1} → statement M
 winding-lists-spec =

@@ -24,7 +24,8 @@ returns : tie.Need-returns
 unfolding earlyRefusal
 returns c =
     let first = c .before .before in
-    or-test _ _ _ _ _ (or-test _ _ _ _ _ (ends _ _ (first .before .before .triangles-refusal .ensures)) (first .before .settings-refusal .ensures) (first .or .ensures))
+    or-test _ _ _ _ _
+    (or-test _ _ _ _ _ (ends _ _ (first .before .before .triangles-refusal .ensures)) (first .before .settings-refusal .ensures) (first .or .ensures))
     (c .before .room-refusal .ensures) (c .or2 .ensures)
 
 pub early-refusal-spec : {M : Type 1} → statement M

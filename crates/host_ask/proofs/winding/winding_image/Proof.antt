@@ -22,7 +22,8 @@ enum-known-count : tie.Need-enum-known-count
 enum-known-count c = search needs
 
 winding-sized-requires : tie.Need-winding-sized-requires
-winding-sized-requires c κs = image-long _ _ _ (sym (c .before .before .before .before .image-layout .ensures) ∙ ap imageLaid (c .before .before .count .given .1))
+winding-sized-requires c κs =
+    image-long _ _ _ (sym (c .before .before .before .before .image-layout .ensures) ∙ ap imageLaid (c .before .before .count .given .1))
 
 returns : tie.Need-returns
 unfolding windingVerdict
@@ -44,8 +45,10 @@ returns-2 c =
     let start = after-image-layout .before .before .before .before in
     let a = start .args in
     let laid = sym (after-image-layout .image-layout .ensures) ∙ ap imageLaid (at-count .count .given .1) in (
-      inner-decides (a .image .now) _ _ laid (λ x. windingBytesRefusal (x .triangles) (a .points .now) (length (a .out .now))) _ (after-winding-sized .winding-sized .ensures .0),
-      after-winding-sized .winding-sized .ensures .1 ∙ ap (λ (x : Image). afterBytes (asVerdict (after-winding-sized .winding-sized .result)) (windingBytes (x .triangles) (a .points .now)) (a .out .now)) (sym (contents-are (a .image .now) _ _ laid)),
+      inner-decides (a .image .now) _ _ laid (λ x. windingBytesRefusal (x .triangles) (a .points .now) (length (a .out .now))) _
+          (after-winding-sized .winding-sized .ensures .0),
+      after-winding-sized .winding-sized .ensures .1 ∙ ap (λ (x : Image). afterBytes (asVerdict (after-winding-sized .winding-sized .result))
+          (windingBytes (x .triangles) (a .points .now)) (a .out .now)) (sym (contents-are (a .image .now) _ _ laid)),
     )
 
 pub winding-image-spec : {M : Type 1} → statement M

@@ -25,8 +25,11 @@ unfolding windingBytesRefusal
 returns c =
     let after-count-refusal = c .before .before in
     let start = after-count-refusal .before .before .before .before in
-    let a = start .args in
-    (count-stops _ (a .count) (triangles-long (a .image .now) (a .count) (a .nodes)) _ _ _ (after-count-refusal .count-refusal .ensures) (c .before .refuses .ensures) (c .if1 .taken), as-it-was _ _ _ (sym (c .before .refuses .ensures) ∙ c .if1 .taken))
+    let a = start .args in (
+      count-stops _ (a .count) (triangles-long (a .image .now) (a .count) (a .nodes)) _ _ _ (after-count-refusal .count-refusal .ensures)
+          (c .before .refuses .ensures) (c .if1 .taken),
+      as-it-was _ _ _ (sym (c .before .refuses .ensures) ∙ c .if1 .taken),
+    )
 
 mul-numbers : tie.Need-mul-numbers
 mul-numbers c = search needs
@@ -73,7 +76,8 @@ returns-2 c =
     let a = start .args in
     let read = triangles-read (a .image .now) (a .count) (a .nodes) _ _ (after-read-f32s .read-f32s .ensures) in (
       after-winding-lists .winding-lists .ensures .0 ∙ ap (λ (l : List Float). windingBytesRefusal l (a .points .now) (length (a .out .now))) read,
-      after-winding-lists .winding-lists .ensures .1 ∙ ap (λ (l : List Float). afterBytes (asVerdict (after-winding-lists .winding-lists .result)) (windingBytes l (a .points .now)) (a .out .now)) read,
+      after-winding-lists .winding-lists .ensures .1
+          ∙ ap (λ (l : List Float). afterBytes (asVerdict (after-winding-lists .winding-lists .result)) (windingBytes l (a .points .now)) (a .out .now)) read,
     )
 
 pub winding-sized-spec : {M : Type 1} → statement M

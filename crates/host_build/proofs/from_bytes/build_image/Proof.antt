@@ -19,7 +19,9 @@ encode-refusal-requires : tie.Need-encode-refusal-requires
 encode-refusal-requires c κs = length-encodable _ (sym (c .before .before .before .length-refusal .ensures) ∙ ap asVerdict (c .before .verdict .given .1))
 
 returns : tie.Need-returns
-returns c = put-nothing (length-refused _ _ _ (sym (c .before .before .before .before .length-refusal .ensures) ∙ ap asVerdict (c .before .before .verdict .given .1))) (c .encode-refusal .ensures)
+returns c =
+    put-nothing (length-refused _ _ _ (sym (c .before .before .before .before .length-refusal .ensures) ∙ ap asVerdict (c .before .before .verdict .given .1)))
+    (c .encode-refusal .ensures)
 
 enum-told : tie.Need-enum-told
 enum-told c = search needs
@@ -58,7 +60,8 @@ returns-2 c =
     let after-read-triangles = after-build-list .before .before .before .before in
     let at-enum-told = after-read-triangles .before .before in
     let after-length-refusal = at-enum-told .before .before in
-    put-as (bytes-whole _ _ _ (length-passed _ (sym (after-length-refusal .length-refusal .ensures) ∙ ap asVerdict (at-enum-told .enum-told .given .1)) .0)) refl refl (rw (numbers-read _ _ _ (after-read-triangles .read-triangles .ensures)) at (after-build-list .build-list .ensures))
+    put-as (bytes-whole _ _ _ (length-passed _ (sym (after-length-refusal .length-refusal .ensures) ∙ ap asVerdict (at-enum-told .enum-told .given .1)) .0))
+    refl refl (rw (numbers-read _ _ _ (after-read-triangles .read-triangles .ensures)) at (after-build-list .build-list .ensures))
 
 pub build-image-spec : {M : Type 1} → statement M
 build-image-spec =

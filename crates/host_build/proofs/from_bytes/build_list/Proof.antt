@@ -42,14 +42,17 @@ within e l h = omega arith
 
 -- what the build did with them, by the arm that was taken:
 -- written out once, and over any lists where it is rewritten, since each look at it counts those that are lent
-as-named : (t : List Float) (s : Settings) (order links : List ℕ) (boxes : List Float) {order′ links′ : List ℕ} {boxes′ : List Float} {r named : Built} → r ≡ named
-    → BuildIs binary32 t (asSettings s) order links boxes (asBuilt r) order′ links′ boxes′ → BuildIs binary32 t (asSettings s) order links boxes (asBuilt named) order′ links′ boxes′
+as-named : (t : List Float) (s : Settings) (order links : List ℕ) (boxes : List Float) {order′ links′ : List ℕ} {boxes′ : List Float} {r named : Built}
+    → r ≡ named
+    → BuildIs binary32 t (asSettings s) order links boxes (asBuilt r) order′ links′ boxes′
+    → BuildIs binary32 t (asSettings s) order links boxes (asBuilt named) order′ links′ boxes′
 as-named t s order links boxes e b = rw e at b
 
 built : (c : tie.After-build) {named : Built} → c .build .result ≡ named
     → let at-order = c .before .before .before in
     let start = at-order .before .before .before in
-    BuildIs binary32 (now (start .args .triangles)) (asSettings (start .args .settings)) lent-order lent-links lent-boxes (asBuilt named) (c .build .last .1 .1 .1 .1 .0) (c .build .last .1 .1 .1 .1 .1 .0) (c .build .last .1 .1 .1 .1 .1 .1 .0)
+    BuildIs binary32 (now (start .args .triangles)) (asSettings (start .args .settings)) lent-order lent-links lent-boxes (asBuilt named)
+    (c .build .last .1 .1 .1 .1 .0) (c .build .last .1 .1 .1 .1 .1 .0) (c .build .last .1 .1 .1 .1 .1 .1 .0)
 built c e =
     let at-order = c .before .before .before in
     let start = at-order .before .before .before in
@@ -77,7 +80,8 @@ encode-refusal-requires c κs =
     let at-order = after-build .before .before .before in
     let start = at-order .before .before .before in
     let a = start .args in
-    build-encodable (now (a .triangles)) (asSettings (a .settings)) lent-order lent-links lent-boxes order-long links-long boxes-long (built after-build (c .before .built .given .1))
+    build-encodable (now (a .triangles)) (asSettings (a .settings)) lent-order lent-links lent-boxes order-long links-long boxes-long
+    (built after-build (c .before .built .given .1))
 
 enum-known-built-2 : tie.Need-enum-known-built-2
 enum-known-built-2 c = search needs
@@ -93,7 +97,8 @@ array-share-prefix-order c =
     let at-order = after-build .before .before .before in
     let start = at-order .before .before .before in
     let a = start .args in
-    within (c .triangle-count .ensures) (at-order2 .order2 .given) (listed-few (now (a .triangles)) (asSettings (a .settings)) lent-order lent-links lent-boxes order-long links-long boxes-long (built after-build (at-built2 .built2 .given .1)))
+    within (c .triangle-count .ensures) (at-order2 .order2 .given) (listed-few (now (a .triangles))
+    (asSettings (a .settings)) lent-order lent-links lent-boxes order-long links-long boxes-long (built after-build (at-built2 .built2 .given .1)))
 
 slice-aggregate-put-built : tie.Need-slice-aggregate-put-built
 slice-aggregate-put-built c = sym (length-take-le _ _ (array-share-prefix-order (c .before)))
@@ -119,7 +124,8 @@ put-built-requires c κs =
     let at-order = after-build .before .before .before in
     let start = at-order .before .before .before in
     let a = start .args in
-    rw (after-triangle-count .triangle-count .ensures) (listed-puttable (now (a .triangles)) (asSettings (a .settings)) lent-order lent-links lent-boxes order-long links-long boxes-long (built after-build (at-built2 .built2 .given .1)))
+    rw (after-triangle-count .triangle-count .ensures) (listed-puttable (now (a .triangles))
+    (asSettings (a .settings)) lent-order lent-links lent-boxes order-long links-long boxes-long (built after-build (at-built2 .built2 .given .1)))
 
 returns : tie.Need-returns
 returns c =
@@ -129,7 +135,8 @@ returns c =
     let at-order = after-build .before .before .before in
     let start = at-order .before .before .before in
     let a = start .args in
-    put-nothing (build-refused (now (a .triangles)) (asSettings (a .settings)) lent-order lent-links lent-boxes order-long links-long boxes-long (built after-build (at-built .built .given .1)) _) (c .encode-refusal .ensures)
+    put-nothing (build-refused (now (a .triangles)) (asSettings (a .settings)) lent-order lent-links lent-boxes order-long links-long boxes-long
+    (built after-build (at-built .built .given .1)) _) (c .encode-refusal .ensures)
 
 same-length : tie.Need-same-length
 same-length c = search needs
@@ -148,7 +155,10 @@ returns-2 c =
     let t = now (a .triangles) in
     let s = asSettings (a .settings) in
     let b = built after-build (at-built2 .built2 .given .1) in
-    put-as (listed-refusal t s lent-order lent-links lent-boxes order-long links-long boxes-long b _) (listed-bytes t s lent-order lent-links lent-boxes order-long links-long boxes-long b) (listed-size t s lent-order lent-links lent-boxes order-long links-long boxes-long b) (rw (after-triangle-count .triangle-count .ensures) at (after-put-built .put-built .ensures))
+    put-as (listed-refusal t s lent-order lent-links lent-boxes order-long links-long boxes-long b _)
+    (listed-bytes t s lent-order lent-links lent-boxes order-long links-long boxes-long b)
+    (listed-size t s lent-order lent-links lent-boxes order-long links-long boxes-long b)
+    (rw (after-triangle-count .triangle-count .ensures) at (after-put-built .put-built .ensures))
 
 pub build-list-spec : {M : Type 1} → statement M
 build-list-spec =

@@ -16,7 +16,10 @@ encode-refusal-requires : tie.Need-encode-refusal-requires
 encode-refusal-requires c κs = search needs
 
 returns : tie.Need-returns
-returns c = put-nothing (room-short _ _ (omega (arith, c .before .if1 .taken, c .before .before .image-size .ensures, c .before .before .before .triangle-count .ensures))) (c .encode-refusal .ensures)
+returns c =
+    put-nothing
+    (room-short _ _ (omega (arith, c .before .if1 .taken, c .before .before .image-size .ensures, c .before .before .before .triangle-count .ensures)))
+    (c .encode-refusal .ensures)
 
 put-image-requires : tie.Need-put-image-requires
 put-image-requires c κs = search needs

@@ -36,7 +36,8 @@ returns c =
     let start = turn .before .before in
     let loop = turn .loop in
     let s = start .args .bytes .now in
-    let found = bad-here (numbersOf s) (loop .i) (rw (numbers-long s) (tested .loop-test .taken)) (ap isCoordinate (sym (after-number-in .number-in .ensures)) ∙ sym (c .before .is-coordinate .ensures) ∙ not-true _ (c .if1 .taken)) in
+    let found = bad-here (numbersOf s) (loop .i) (rw (numbers-long s) (tested .loop-test .taken))
+    (ap isCoordinate (sym (after-number-in .number-in .ensures)) ∙ sym (c .before .is-coordinate .ensures) ∙ not-true _ (c .if1 .taken)) in
     omega (arith, loop .inv)
 
 add-i : tie.Need-add-i Inv-loop μ-loop
@@ -53,7 +54,8 @@ loop-again c =
     let start = turn .before .before in
     let loop = turn .loop in
     let s = start .args .bytes .now in
-    let next = good-here (numbersOf s) (loop .i) (rw (numbers-long s) (tested .loop-test .taken)) (ap isCoordinate (sym (after-number-in .number-in .ensures)) ∙ sym (c .before .is-coordinate .ensures) ∙ not-false _ (c .if1 .left)) in
+    let next = good-here (numbersOf s) (loop .i) (rw (numbers-long s) (tested .loop-test .taken))
+    (ap isCoordinate (sym (after-number-in .number-in .ensures)) ∙ sym (c .before .is-coordinate .ensures) ∙ not-false _ (c .if1 .left)) in
     omega (arith, loop .inv)
 
 returns-2 : tie.Need-returns-2 Inv-loop μ-loop

@@ -32,7 +32,12 @@ returns c =
     let after-read-tree = at-links .before .before .before in
     let at-read-tree-arg = after-read-tree .before .before .before in
     let after-read-f32s = at-read-tree-arg .before .before .before in
-    record { triangles = after-read-f32s .«read-f32s» .ensures; order = after-read-tree .«read-tree» .ensures .order; links = after-read-tree .«read-tree» .ensures .links; boxes = after-read-tree .«read-tree» .ensures .boxes }
+    record {
+      triangles = after-read-f32s .«read-f32s» .ensures;
+      order = after-read-tree .«read-tree» .ensures .order;
+      links = after-read-tree .«read-tree» .ensures .links;
+      boxes = after-read-tree .«read-tree» .ensures .boxes;
+    }
 
 pub read-lists-spec : {M : Type 1} → statement M
 read-lists-spec =

@@ -53,8 +53,11 @@ returns c =
     let after-read-u16s = after-read-u16s2 .before .before .before .before in
     let at-read-u16s-arg = after-read-u16s .before in
     let start = at-read-u16s-arg .before .before .before .before in
-    let a = start .args in
-    (links-overwrite (now (a .bytes)) (a .start) (a .node) (now (a .links)) _ _ (start .pre .1 .0) (after-read-u16s .«read-u16s» .ensures) (after-read-u16s2 .«read-u16s2» .ensures), after-read-f32s .«read-f32s» .ensures)
+    let a = start .args in (
+      links-overwrite (now (a .bytes)) (a .start) (a .node) (now (a .links)) _ _ (start .pre .1 .0) (after-read-u16s .«read-u16s» .ensures)
+          (after-read-u16s2 .«read-u16s2» .ensures),
+      after-read-f32s .«read-f32s» .ensures,
+    )
 
 pub read-node-spec : {M : Type 1} → statement M
 read-node-spec =

@@ -10,15 +10,18 @@ use Rattle.image.proofs.get.read_nodes.Statement.{statement}
 use Rattle.image.proofs.get.read_nodes.Tie as tie
 
 abbrev Inv-loop : tie.InvT-loop
-Inv-loop bytes start nodes links₀ boxes₀ i₀ links boxes i = Run (linksIn version1 bytes start) 0 nodes links₀ links i × Run (sidesIn version1 bytes start) 0 nodes boxes₀ boxes i
+Inv-loop bytes start nodes links₀ boxes₀ i₀ links boxes i =
+    Run (linksIn version1 bytes start) 0 nodes links₀ links i × Run (sidesIn version1 bytes start) 0 nodes boxes₀ boxes i
 
 abbrev μ-loop : tie.MeasureT-loop
 μ-loop bytes start nodes links₀ boxes₀ i₀ links boxes i = nodes - i
 
 loop-holds : tie.Need-loop-holds Inv-loop μ-loop
 loop-holds c =
-    let a = c .before .before .before .args in
-    (run-start (linksIn version1 (now (a .bytes)) (a .start)) 3 0 (a .nodes) (now (a .links)), run-start (sidesIn version1 (now (a .bytes)) (a .start)) 6 0 (a .nodes) (now (a .boxes)))
+    let a = c .before .before .before .args in (
+      run-start (linksIn version1 (now (a .bytes)) (a .start)) 3 0 (a .nodes) (now (a .links)),
+      run-start (sidesIn version1 (now (a .bytes)) (a .start)) 6 0 (a .nodes) (now (a .boxes)),
+    )
 
 read-node-requires : tie.Need-read-node-requires Inv-loop μ-loop
 read-node-requires c κs = search needs
@@ -37,8 +40,10 @@ loop-again c =
     let start = turn .before .before .before .before in
     let a = start .args in
     let v = turn .loop .inv in (
-      run-front (linksIn version1 (now (a .bytes)) (a .start)) 3 (a .nodes) (now (a .links)) _ _ (turn .loop .i) (length-links version1 (now (a .bytes)) (a .start)) (start .pre .1 .0) (tested .«loop-test» .taken) (v .0) (after-read-node .«read-node» .ensures .0),
-      run-front (sidesIn version1 (now (a .bytes)) (a .start)) 6 (a .nodes) (now (a .boxes)) _ _ (turn .loop .i) (length-box version1 (now (a .bytes)) (a .start)) (start .pre .1 .1) (tested .«loop-test» .taken) (v .1) (after-read-node .«read-node» .ensures .1),
+      run-front (linksIn version1 (now (a .bytes)) (a .start)) 3 (a .nodes) (now (a .links)) _ _ (turn .loop .i)
+          (length-links version1 (now (a .bytes)) (a .start)) (start .pre .1 .0) (tested .«loop-test» .taken) (v .0) (after-read-node .«read-node» .ensures .0),
+      run-front (sidesIn version1 (now (a .bytes)) (a .start)) 6 (a .nodes) (now (a .boxes)) _ _ (turn .loop .i)
+          (length-box version1 (now (a .bytes)) (a .start)) (start .pre .1 .1) (tested .«loop-test» .taken) (v .1) (after-read-node .«read-node» .ensures .1),
     )
 
 same-length : tie.Need-same-length Inv-loop μ-loop

@@ -43,7 +43,11 @@ returns c =
     let after-read-nodes = c .before .before .before .before in
     let at-read-nodes-arg = after-read-nodes .before .before in
     let after-read-u16s = at-read-nodes-arg .before .before .before in
-    record { order = after-read-u16s .«read-u16s» .ensures; links = after-read-nodes .«read-nodes» .ensures .0; boxes = after-read-nodes .«read-nodes» .ensures .1 }
+    record {
+      order = after-read-u16s .«read-u16s» .ensures;
+      links = after-read-nodes .«read-nodes» .ensures .0;
+      boxes = after-read-nodes .«read-nodes» .ensures .1;
+    }
 
 pub read-tree-spec : {M : Type 1} → statement M
 read-tree-spec =

@@ -24,7 +24,9 @@ cast-t7 c = search needs
 
 returns : tie.Need-returns
 unfolding settingsIn
-returns c = λ i. record { strategy = c .before .before .«u16-at» .ensures .0 i; leafMinimum = c .before .«u16-at2» .ensures .0 i; maximumDepth = c .«u16-at3» .ensures .0 i }
+returns c =
+    λ i.
+    record { strategy = c .before .before .«u16-at» .ensures .0 i; leafMinimum = c .before .«u16-at2» .ensures .0 i; maximumDepth = c .«u16-at3» .ensures .0 i }
 
 pub settings-of-spec : {M : Type 1} → statement M
 settings-of-spec =

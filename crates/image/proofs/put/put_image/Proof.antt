@@ -45,8 +45,12 @@ returns c =
     let start = known4 .before .before .before .before in
     let a = start .args in
     let x = imageOf (a .settings) (now (a .triangles)) (now (a .order)) (now (a .links)) (now (a .boxes)) (a .nodes) in
-    let nodes = record-put 4 (30 * a .nodes) (length-nodes version1 x) (after-put-header .«put-header» .ensures .0) (after-put-nodes .«put-nodes» .ensures .0) in
-    (put-then (put-then (put-then (after-put-settings .«put-settings» .ensures .0) (after-put-triangles .«put-triangles» .ensures .0)) (after-put-order .«put-order» .ensures .0)) nodes, omega (arith, start .pre .0 .triples))
+    let nodes = record-put 4 (30 * a .nodes) (length-nodes version1 x) (after-put-header .«put-header» .ensures .0)
+    (after-put-nodes .«put-nodes» .ensures .0) in (
+      put-then (put-then (put-then (after-put-settings .«put-settings» .ensures .0) (after-put-triangles .«put-triangles» .ensures .0))
+          (after-put-order .«put-order» .ensures .0)) nodes,
+      omega (arith, start .pre .0 .triples),
+    )
 
 pub put-image-spec : {M : Type 1} → statement M
 put-image-spec =

@@ -35,8 +35,10 @@ unfolding nodeBytes
 returns c =
     let after-put-f32s = c .before .before in
     let after-put-u16s2 = after-put-f32s .before .before .before .before in
-    let after-put-u16s = after-put-u16s2 .before .before .before .before in
-    (put-then (put-then (after-put-u16s .«put-u16s» .ensures .0) (after-put-u16s2 .«put-u16s2» .ensures .0)) (after-put-f32s .«put-f32s» .ensures .0), omega arith)
+    let after-put-u16s = after-put-u16s2 .before .before .before .before in (
+      put-then (put-then (after-put-u16s .«put-u16s» .ensures .0) (after-put-u16s2 .«put-u16s2» .ensures .0)) (after-put-f32s .«put-f32s» .ensures .0),
+      omega arith,
+    )
 
 pub put-node-spec : {M : Type 1} → statement M
 put-node-spec =

@@ -36,7 +36,8 @@ loop-again c =
     let turn = tested .before in
     let start = turn .before .before .before .before in
     let a = start .args in
-    puts-more (nodeBytes version1 (now (a .links)) (now (a .boxes))) 30 (a .at) (a .nodes) (tested .«loop-test» .taken) (turn .loop .inv) (after-put-node .«put-node» .ensures .0) (after-put-node .«put-node» .ensures .1)
+    puts-more (nodeBytes version1 (now (a .links)) (now (a .boxes))) 30 (a .at) (a .nodes) (tested .«loop-test» .taken) (turn .loop .inv)
+    (after-put-node .«put-node» .ensures .0) (after-put-node .«put-node» .ensures .1)
 
 same-length : tie.Need-same-length Inv-loop μ-loop
 same-length c = c .before .loop .inv .long

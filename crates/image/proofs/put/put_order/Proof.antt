@@ -26,8 +26,11 @@ returns c =
     let after-put-u16s = c .before .before in
     let after-put-header = after-put-u16s .before .before .before .before in
     let start = after-put-header .before .before .before .before in
-    let order = now (start .args .order) in
-    (record-put 3 (2 * length order) (length-numbers 2 order 0 (length order)) (after-put-header .«put-header» .ensures .0) (after-put-u16s .«put-u16s» .ensures .0), omega arith)
+    let order = now (start .args .order) in (
+      record-put 3 (2 * length order) (length-numbers 2 order 0 (length order)) (after-put-header .«put-header» .ensures .0)
+          (after-put-u16s .«put-u16s» .ensures .0),
+      omega arith,
+    )
 
 pub put-order-spec : {M : Type 1} → statement M
 put-order-spec =

@@ -37,7 +37,8 @@ returns c =
     let after-put-u16 = after-put-u162 .before .before .before .before in
     let after-put-header = after-put-u16 .before .before .before .before in
     let start = after-put-header .before .before .before in
-    let numbers = put-then (put-then (put-then (after-put-u16 .«put-u16» .ensures .0) (after-put-u162 .«put-u162» .ensures .0)) (after-put-u163 .«put-u163» .ensures .0)) (after-put-u164 .«put-u164» .ensures .0) in
+    let numbers = put-then (put-then (put-then (after-put-u16 .«put-u16» .ensures .0) (after-put-u162 .«put-u162» .ensures .0))
+    (after-put-u163 .«put-u163» .ensures .0)) (after-put-u164 .«put-u164» .ensures .0) in
     (record-put 1 8 (length-settings version1 (asSettings (start .args .settings))) (after-put-header .«put-header» .ensures .0) numbers, omega arith)
 
 pub put-settings-spec : {M : Type 1} → statement M

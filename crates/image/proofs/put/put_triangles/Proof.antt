@@ -27,8 +27,11 @@ returns c =
     let after-put-f32s = c .before .before in
     let after-put-header = after-put-f32s .before .before .before .before in
     let start = after-put-header .before .before .before .before in
-    let triangles = now (start .args .triangles) in
-    (record-put 2 (4 * length triangles) (length-floats binary32 triangles 0 (length triangles)) (after-put-header .«put-header» .ensures .0) (after-put-f32s .«put-f32s» .ensures .0), omega arith)
+    let triangles = now (start .args .triangles) in (
+      record-put 2 (4 * length triangles) (length-floats binary32 triangles 0 (length triangles)) (after-put-header .«put-header» .ensures .0)
+          (after-put-f32s .«put-f32s» .ensures .0),
+      omega arith,
+    )
 
 pub put-triangles-spec : {M : Type 1} → statement M
 put-triangles-spec =

@@ -35,7 +35,8 @@ read-lists-requires c κs =
     let start = known2 .before .before .before in
     let a = start .args in
     let long = image-long (now (a .bytes)) (after-image-layout .«image-layout» .ensures) (at-count .count .given .1) in
-    let room = enough (roomsIn (now (a .triangles)) (now (a .order)) (now (a .links)) (now (a .boxes))) _ _ (sym (after-has-room .«has-room» .ensures) ∙ chosen .if1 .taken) in
+    let room = enough (roomsIn (now (a .triangles)) (now (a .order)) (now (a .links)) (now (a .boxes))) _ _
+    (sym (after-has-room .«has-room» .ensures) ∙ chosen .if1 .taken) in
     (omega (arith, long), ((room .triangles, room .order), (room .links, room .boxes)))
 
 settings-of-requires : tie.Need-settings-of-requires
@@ -88,7 +89,9 @@ returns-2 c =
     let a = start .args in
     let s = now (a .bytes) in
     record {
-      answer = answer-wrong s (after-image-layout .«image-layout» .ensures) (roomsIn (now (a .triangles)) (now (a .order)) (now (a .links)) (now (a .boxes))) (c .before .at .given .1);
+      answer =
+          answer-wrong s (after-image-layout .«image-layout» .ensures) (roomsIn (now (a .triangles)) (now (a .order)) (now (a .links)) (now (a .boxes)))
+          (c .before .at .given .1);
       filled = unchanged 10 (c .before .at .given .0 .0) s (now (a .triangles)) (now (a .order)) (now (a .links)) (now (a .boxes));
     }
 

@@ -21,7 +21,8 @@ put-image-requires c κs =
     let known3 = after-write-refusal .before .before .before in
     let start = known3 .before .before .before in
     let a = start .args in
-    can-put (imageFrom (a .strategy) (a .leaf-minimum) (a .maximum-depth) (now (a .triangles)) (now (a .order)) (now (a .links)) (now (a .boxes)) (a .nodes)) (now (a .out)) (after-write-refusal .write-refusal .ensures) (c .before .enum-told .given .1)
+    can-put (imageFrom (a .strategy) (a .leaf-minimum) (a .maximum-depth) (now (a .triangles)) (now (a .order)) (now (a .links)) (now (a .boxes)) (a .nodes))
+    (now (a .out)) (after-write-refusal .write-refusal .ensures) (c .before .enum-told .given .1)
 
 returns : tie.Need-returns
 returns c =
@@ -29,7 +30,8 @@ returns c =
     let known3 = after-write-refusal .before .before .before in
     let start = known3 .before .before .before in
     let a = start .args in
-    wrote-nothing (imageFrom (a .strategy) (a .leaf-minimum) (a .maximum-depth) (now (a .triangles)) (now (a .order)) (now (a .links)) (now (a .boxes)) (a .nodes)) (now (a .out)) (after-write-refusal .write-refusal .ensures) (c .before .verdict .given .1)
+    wrote-nothing (imageFrom (a .strategy) (a .leaf-minimum) (a .maximum-depth) (now (a .triangles)) (now (a .order)) (now (a .links)) (now (a .boxes))
+    (a .nodes)) (now (a .out)) (after-write-refusal .write-refusal .ensures) (c .before .verdict .given .1)
 
 same-length : tie.Need-same-length
 same-length c = search needs
@@ -42,7 +44,9 @@ returns-2 c =
     let known3 = after-write-refusal .before .before .before in
     let start = known3 .before .before .before in
     let a = start .args in
-    wrote-image (imageFrom (a .strategy) (a .leaf-minimum) (a .maximum-depth) (now (a .triangles)) (now (a .order)) (now (a .links)) (now (a .boxes)) (a .nodes)) (now (a .out)) (after-write-refusal .write-refusal .ensures) (at-enum-told .enum-told .given .1) (after-put-image .put-image .ensures .0) (after-put-image .put-image .ensures .1)
+    wrote-image (imageFrom (a .strategy) (a .leaf-minimum) (a .maximum-depth) (now (a .triangles)) (now (a .order)) (now (a .links)) (now (a .boxes))
+    (a .nodes)) (now (a .out)) (after-write-refusal .write-refusal .ensures) (at-enum-told .enum-told .given .1) (after-put-image .put-image .ensures .0)
+    (after-put-image .put-image .ensures .1)
 
 pub write-image-spec : {M : Type 1} → statement M
 write-image-spec =

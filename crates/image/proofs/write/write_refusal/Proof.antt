@@ -58,7 +58,8 @@ returns-2 c =
     row-goes-on _ _ _ _ _
     (or-test _ _ _ _ _ (ends _ _ (early .before .before .triangles-refusal .ensures)) (early .before .settings-refusal .ensures) (early .or .ensures))
     (tested .before .refuses .ensures) (tested .if1 .left)
-    (or-test _ _ _ _ _ (ends _ _ (rw (counted .triangle-count .ensures) at (c .before .before .image-room-refusal .ensures))) (c .before .tree-refusal .ensures) (c .or2 .ensures))
+    (or-test _ _ _ _ _ (ends _ _ (rw (counted .triangle-count .ensures) at (c .before .before .image-room-refusal .ensures))) (c .before .tree-refusal .ensures)
+    (c .or2 .ensures))
 
 pub write-refusal-spec : {M : Type 1} → statement M
 write-refusal-spec =

@@ -28,7 +28,8 @@ unfolding trianglesRefusal
 returns c =
     let counted = c .before .before in
     let some = counted .before .before in
-    row-stops _ _ _ _ (or-test _ _ _ _ _ (or-test _ _ _ _ _ (ends _ _ (some .before .before .ragged-refusal .ensures)) (some .before .none-refusal .ensures) (some .or .ensures))
+    row-stops _ _ _ _ (or-test _ _ _ _ _
+    (or-test _ _ _ _ _ (ends _ _ (some .before .before .ragged-refusal .ensures)) (some .before .none-refusal .ensures) (some .or .ensures))
     (counted .before .too-many-refusal .ensures) (counted .or2 .ensures))
     (c .before .refuses .ensures) (c .if1 .taken)
 
@@ -40,7 +41,8 @@ unfolding trianglesRefusal
 returns-2 c =
     let counted = c .before .before .before in
     let some = counted .before .before in
-    row-goes-on _ _ _ _ _ (or-test _ _ _ _ _ (or-test _ _ _ _ _ (ends _ _ (some .before .before .ragged-refusal .ensures)) (some .before .none-refusal .ensures) (some .or .ensures))
+    row-goes-on _ _ _ _ _ (or-test _ _ _ _ _
+    (or-test _ _ _ _ _ (ends _ _ (some .before .before .ragged-refusal .ensures)) (some .before .none-refusal .ensures) (some .or .ensures))
     (counted .before .too-many-refusal .ensures) (counted .or2 .ensures))
     (c .before .before .refuses .ensures) (c .before .if1 .left) (ends _ _ (c .coordinate-refusal .ensures))
 

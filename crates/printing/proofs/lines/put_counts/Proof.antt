@@ -38,8 +38,11 @@ returns c =
     let at-put-named-arg5 = after-put-named3 .before .before in
     let after-put-named2 = at-put-named-arg5 .before .before .before in
     let at-put-named-arg3 = after-put-named2 .before .before in
-    let after-put-named = at-put-named-arg3 .before .before .before in
-    (put-then (put-then (put-then (after-put-named .«put-named» .ensures .0) (after-put-named2 .«put-named2» .ensures .0)) (after-put-named3 .«put-named3» .ensures .0)) (after-put-byte .«put-byte» .ensures .0), omega arith)
+    let after-put-named = at-put-named-arg3 .before .before .before in (
+      put-then (put-then (put-then (after-put-named .«put-named» .ensures .0) (after-put-named2 .«put-named2» .ensures .0))
+          (after-put-named3 .«put-named3» .ensures .0)) (after-put-byte .«put-byte» .ensures .0),
+      omega arith,
+    )
 
 pub put-counts-spec : {M : Type 1} → statement M
 put-counts-spec =

@@ -44,8 +44,13 @@ returns c =
     let after-put-named = after-put-spaced-hex .before .before .before .before in
     let at-put-named-arg = after-put-named .before .before in
     let after-put-decimal = at-put-named-arg .before .before .before in
-    let front = put-then (put-then (after-put-decimal .«put-decimal» .ensures .0) (after-put-named .«put-named» .ensures .0)) (after-put-spaced-hex .«put-spaced-hex» .ensures .0) in
-    (put-then (put-then (put-then (put-then front (after-put-spaced-hex2 .«put-spaced-hex2» .ensures .0)) (after-put-spaced-hex3 .«put-spaced-hex3» .ensures .0)) (after-put-spaced-hex4 .«put-spaced-hex4» .ensures .0)) (after-put-byte .«put-byte» .ensures .0), omega arith)
+    let front = put-then (put-then (after-put-decimal .«put-decimal» .ensures .0) (after-put-named .«put-named» .ensures .0))
+    (after-put-spaced-hex .«put-spaced-hex» .ensures .0) in (
+      put-then (put-then (put-then (put-then front (after-put-spaced-hex2 .«put-spaced-hex2» .ensures .0))
+          (after-put-spaced-hex3 .«put-spaced-hex3» .ensures .0)) (after-put-spaced-hex4 .«put-spaced-hex4» .ensures .0))
+          (after-put-byte .«put-byte» .ensures .0),
+      omega arith,
+    )
 
 pub put-found-spec : {M : Type 1} → statement M
 put-found-spec =

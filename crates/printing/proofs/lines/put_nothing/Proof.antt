@@ -27,8 +27,10 @@ returns c =
     let after-put-byte = c .before .before in
     let after-put-word = after-put-byte .before .before .before .before in
     let at-put-word-arg = after-put-word .before .before in
-    let after-put-decimal = at-put-word-arg .before .before .before in
-    (put-then (put-then (after-put-decimal .«put-decimal» .ensures .0) (after-put-word .«put-word» .ensures)) (after-put-byte .«put-byte» .ensures .0), omega arith)
+    let after-put-decimal = at-put-word-arg .before .before .before in (
+      put-then (put-then (after-put-decimal .«put-decimal» .ensures .0) (after-put-word .«put-word» .ensures)) (after-put-byte .«put-byte» .ensures .0),
+      omega arith,
+    )
 
 pub put-nothing-spec : {M : Type 1} → statement M
 put-nothing-spec =

@@ -26,8 +26,11 @@ unfolding refusedWord refusedLine
 returns c =
     let after-put-byte = c .before .before in
     let after-put-spaced-decimal = after-put-byte .before .before .before .before in
-    let after-put-named = after-put-spaced-decimal .before .before .before .before in
-    (put-then (put-then (after-put-named .«put-named» .ensures .0) (after-put-spaced-decimal .«put-spaced-decimal» .ensures .0)) (after-put-byte .«put-byte» .ensures .0), omega arith)
+    let after-put-named = after-put-spaced-decimal .before .before .before .before in (
+      put-then (put-then (after-put-named .«put-named» .ensures .0) (after-put-spaced-decimal .«put-spaced-decimal» .ensures .0))
+          (after-put-byte .«put-byte» .ensures .0),
+      omega arith,
+    )
 
 pub put-refused-spec : {M : Type 1} → statement M
 put-refused-spec =

@@ -40,7 +40,8 @@ loop-again c =
     let turn = c .before .before in
     let start = turn .before in
     let a = start .args in
-    run-store (λ j. getD (now (a .word)) j 0) (a .at) (length (now (a .word))) (now (a .out)) _ (turn .loop .i) _ (start .pre) (c .before .«loop-test» .taken) (turn .loop .inv) refl
+    run-store (λ j. getD (now (a .word)) j 0) (a .at) (length (now (a .word))) (now (a .out)) _ (turn .loop .i) _ (start .pre) (c .before .«loop-test» .taken)
+    (turn .loop .inv) refl
 
 add-result : tie.Need-add-result Inv-loop μ-loop
 add-result c = search needs

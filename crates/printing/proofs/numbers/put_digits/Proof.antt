@@ -48,7 +48,8 @@ loop-again c =
     let turn = c .before .before in
     let start = turn .before .before in
     let a = start .args in
-    back-more (a .base) (a .at) (a .count) (a .n) (now (a .out)) _ (turn .loop .remaining) (turn .loop .rest) _ (turn .loop .remaining - 1) (start .pre .0) (omega arith) (c .«digit-of» .ensures) (turn .loop .inv)
+    back-more (a .base) (a .at) (a .count) (a .n) (now (a .out)) _ (turn .loop .remaining) (turn .loop .rest) _ (turn .loop .remaining - 1) (start .pre .0)
+    (omega arith) (c .«digit-of» .ensures) (turn .loop .inv)
 
 add-result : tie.Need-add-result Inv-loop μ-loop
 add-result c = search needs
@@ -59,8 +60,11 @@ same-length c = c .before .loop .inv .long
 returns : tie.Need-returns Inv-loop μ-loop
 returns c =
     let start = c .before .before .before in
-    let a = start .args in
-    (back-end (a .base) (a .at) (a .count) (a .n) (now (a .out)) _ (c .before .loop .remaining) (c .before .loop .rest) (start .pre .0) (c .«loop-test» .left) (c .before .loop .inv), refl)
+    let a = start .args in (
+      back-end (a .base) (a .at) (a .count) (a .n) (now (a .out)) _ (c .before .loop .remaining) (c .before .loop .rest) (start .pre .0)
+          (c .«loop-test» .left) (c .before .loop .inv),
+      refl,
+    )
 
 pub put-digits-spec : {M : Type 1} → statement M
 put-digits-spec =

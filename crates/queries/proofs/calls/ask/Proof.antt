@@ -21,8 +21,11 @@ returns c =
     let after-query-refusal = c .before .before in
     let known4 = after-query-refusal .before .before .before in
     let start = known4 .before .before .before .before in
-    let a = start .args in
-    (after-query-refusal .query-refusal .ensures, as-it-was binary32 (answerBy binary32 (asQuery (a .query)) (a .triangles .now) (a .order .now) (a .links .now) (a .boxes .now) (a .nodes) (a .distance)) (a .points .now) (a .answers .now) _ (sym (c .before .refuses .ensures) ∙ c .if1 .taken))
+    let a = start .args in (
+      after-query-refusal .query-refusal .ensures,
+      as-it-was binary32 (answerBy binary32 (asQuery (a .query)) (a .triangles .now) (a .order .now) (a .links .now) (a .boxes .now) (a .nodes)
+          (a .distance)) (a .points .now) (a .answers .now) _ (sym (c .before .refuses .ensures) ∙ c .if1 .taken),
+    )
 
 put-answers-requires : tie.Need-put-answers-requires
 put-answers-requires c κs =
@@ -47,7 +50,9 @@ returns-2 c =
     let start = known4 .before .before .before .before in
     let a = start .args in (
       after-query-refusal .query-refusal .ensures,
-      is-answered binary32 (answerBy binary32 (asQuery (a .query)) (a .triangles .now) (a .order .now) (a .links .now) (a .boxes .now) (a .nodes) (a .distance)) (a .points .now) (a .answers .now) _ _ (after-query-refusal .query-refusal .ensures ∙ did-pass _ _ _ (after-query-refusal .query-refusal .ensures) (after-refuses .refuses .ensures) (chosen .if1 .left)) (after-put-answers .put-answers .ensures),
+      is-answered binary32 (answerBy binary32 (asQuery (a .query)) (a .triangles .now) (a .order .now) (a .links .now) (a .boxes .now) (a .nodes) (a .distance))
+          (a .points .now) (a .answers .now) _ _ (after-query-refusal .query-refusal .ensures ∙ did-pass _ _ _ (after-query-refusal .query-refusal .ensures)
+          (after-refuses .refuses .ensures) (chosen .if1 .left)) (after-put-answers .put-answers .ensures),
     )
 
 pub ask-spec : {M : Type 1} → statement M

@@ -12,7 +12,8 @@ use Rattle.queries.proofs.calls.put_answers.Statement.{statement}
 use Rattle.queries.proofs.calls.put_answers.Tie as tie
 
 abbrev Inv-loop : tie.InvT-loop
-Inv-loop query triangles order links boxes nodes points distance answers₀ count k₀ answers k = Answered binary32 (answerBy binary32 (asQuery query) triangles order links boxes nodes distance) points answers₀ count answers k
+Inv-loop query triangles order links boxes nodes points distance answers₀ count k₀ answers k =
+    Answered binary32 (answerBy binary32 (asQuery query) triangles order links boxes nodes distance) points answers₀ count answers k
 
 abbrev μ-loop : tie.MeasureT-loop
 μ-loop query triangles order links boxes nodes points distance answers₀ count k₀ answers k = count - k
@@ -24,7 +25,9 @@ loop-holds : tie.Need-loop-holds Inv-loop μ-loop
 loop-holds c =
     let known4 = c .before .before .before in
     let start = known4 .before .before .before .before in
-    let a = start .args in answered-start binary32 (answerBy binary32 (asQuery (a .query)) (a .triangles .now) (a .order .now) (a .links .now) (a .boxes .now) (a .nodes) (a .distance)) (a .points .now) (a .answers .now) _
+    let a = start .args in
+    answered-start binary32 (answerBy binary32 (asQuery (a .query)) (a .triangles .now) (a .order .now) (a .links .now) (a .boxes .now) (a .nodes)
+    (a .distance)) (a .points .now) (a .answers .now) _
 
 mul-point-at : tie.Need-mul-point-at Inv-loop μ-loop
 mul-point-at c = omega (arith, point-inside _ _ (rw (c .before .before .point-count .ensures) at (c .loop-test .taken)))
@@ -36,8 +39,11 @@ answer-at-requires : tie.Need-answer-at-requires Inv-loop μ-loop
 answer-at-requires c κs =
     let after-point-count = c .before .before .before in
     let known4 = after-point-count .before .before .before in
-    let start = known4 .before .before .before .before in
-    (start .pre .0 .searchable, rw (c .point-at .ensures) (point-finite _ (start .pre .0 .points-good .coordinates) _ (omega (arith, point-inside _ _ (rw (after-point-count .point-count .ensures) at (c .before .loop-test .taken))))))
+    let start = known4 .before .before .before .before in (
+      start .pre .0 .searchable,
+      rw (c .point-at .ensures) (point-finite _ (start .pre .0 .points-good .coordinates) _
+          (omega (arith, point-inside _ _ (rw (after-point-count .point-count .ensures) at (c .before .loop-test .taken))))),
+    )
 
 mul-put-answer : tie.Need-mul-put-answer Inv-loop μ-loop
 mul-put-answer c = search needs
@@ -68,9 +74,11 @@ loop-again c =
     let known4 = after-point-count .before .before .before in
     let start = known4 .before .before .before .before in
     let a = start .args in
-    answered-more binary32 (answerBy binary32 (asQuery (a .query)) (a .triangles .now) (a .order .now) (a .links .now) (a .boxes .now) (a .nodes) (a .distance)) (a .points .now) (a .answers .now) _ _ _ _ _
+    answered-more binary32 (answerBy binary32 (asQuery (a .query)) (a .triangles .now) (a .order .now) (a .links .now) (a .boxes .now) (a .nodes) (a .distance))
+    (a .points .now) (a .answers .now) _ _ _ _ _
     (omega (arith, start .pre .1, after-point-count .point-count .ensures)) (tested .loop-test .taken) (turn .loop .inv)
-    (after-answer-at .answer-at .ensures ∙ ap (answerBy binary32 (asQuery (a .query)) (a .triangles .now) (a .order .now) (a .links .now) (a .boxes .now) (a .nodes) (a .distance)) (after-point-at .point-at .ensures)) (after-put-answer .put-answer .ensures)
+    (after-answer-at .answer-at .ensures ∙ ap (answerBy binary32 (asQuery (a .query)) (a .triangles .now) (a .order .now) (a .links .now) (a .boxes .now)
+    (a .nodes) (a .distance)) (after-point-at .point-at .ensures)) (after-put-answer .put-answer .ensures)
 
 same-length : tie.Need-same-length Inv-loop μ-loop
 same-length c = c .before .loop .inv .long
@@ -80,7 +88,9 @@ returns c =
     let after-point-count = c .before .before in
     let known4 = after-point-count .before .before .before in
     let start = known4 .before .before .before .before in
-    let a = start .args in answered-end binary32 (answerBy binary32 (asQuery (a .query)) (a .triangles .now) (a .order .now) (a .links .now) (a .boxes .now) (a .nodes) (a .distance)) (a .points .now) (a .answers .now) _ _ _ (after-point-count .point-count .ensures) (c .loop-test .left) (c .before .loop .inv)
+    let a = start .args in
+    answered-end binary32 (answerBy binary32 (asQuery (a .query)) (a .triangles .now) (a .order .now) (a .links .now) (a .boxes .now) (a .nodes)
+    (a .distance)) (a .points .now) (a .answers .now) _ _ _ (after-point-count .point-count .ensures) (c .loop-test .left) (c .before .loop .inv)
 
 pub put-answers-spec : {M : Type 1} → statement M
 put-answers-spec =

@@ -29,7 +29,8 @@ returns c =
     let start = known4 .before .before .before .before in
     rw (c .before .enum-told .given .1)
     (ap (λ (s : Sought Answer). s .best) (c .search .ensures)
-    ∙ walk-is-scan binary32 (start .args .triangles .now) (start .pre .0 .triangles-good) _ (start .pre .1) _ (start .args .order .now) (start .args .links .now) (start .args .boxes .now) (start .args .nodes) (start .pre .0 .tree-accepted))
+    ∙ walk-is-scan binary32 (start .args .triangles .now) (start .pre .0 .triangles-good) _ (start .pre .1) _ (start .args .order .now)
+    (start .args .links .now) (start .args .boxes .now) (start .args .nodes) (start .pre .0 .tree-accepted))
 
 returns-2 : tie.Need-returns-2
 unfolding sourceAnswer limitOf

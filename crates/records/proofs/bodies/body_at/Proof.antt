@@ -48,7 +48,11 @@ returns-5 : tie.Need-returns-5
 returns-5 c =
     let after-u32-at = c .before .before .before in
     let start = after-u32-at .before .before .before .before in
-    rw (record-there (start .args .kind) (now (start .args .bytes)) (start .args .at) (omega (arith, after-u32-at .«u32-at» .ensures)) (sym (c .before .«u16-at» .ensures .0) ∙ c .if4 .left), ← after-u32-at .«u32-at» .ensures)
+    rw (
+      record-there (start .args .kind) (now (start .args .bytes)) (start .args .at) (omega (arith, after-u32-at .«u32-at» .ensures))
+          (sym (c .before .«u16-at» .ensures .0) ∙ c .if4 .left),
+      ← after-u32-at .«u32-at» .ensures,
+    )
 
 pub body-at-spec : {M : Type 1} → statement M
 body-at-spec =

@@ -21,7 +21,8 @@ enum-told c = search needs
 returns : tie.Need-returns
 returns c =
     let a = c .before .before .before .before .args in
-    sym (none-there (a .kind) (exactly (a .wanted)) (now (a .bytes)) (a .at) (is-missing (a .kind) (now (a .bytes)) (a .at) (c .before .before .«body-at» .ensures) (c .«enum-told» .given .1)))
+    sym (none-there (a .kind) (exactly (a .wanted)) (now (a .bytes)) (a .at)
+    (is-missing (a .kind) (now (a .bytes)) (a .at) (c .before .before .«body-at» .ensures) (c .«enum-told» .given .1)))
 
 returns-2 : tie.Need-returns-2
 returns-2 c =

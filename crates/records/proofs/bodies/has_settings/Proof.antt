@@ -15,10 +15,13 @@ has-body-requires : tie.Need-has-body-requires
 has-body-requires c κs = search needs
 
 u16-at-requires : tie.Need-u16-at-requires
-u16-at-requires c κs = omega (arith, right-within (exactly-right 1 8 (now (c .before .before .before .args .bytes)) 0 (sym (c .before .«has-body» .ensures) ∙ c .if1 .taken)))
+u16-at-requires c κs =
+    omega (arith, right-within (exactly-right 1 8 (now (c .before .before .before .args .bytes)) 0 (sym (c .before .«has-body» .ensures) ∙ c .if1 .taken)))
 
 returns : tie.Need-returns
-returns c = ap (λ (n : ℕ). eqb n 1) (c .«u16-at» .ensures .0) ∙ sym (version-decides version1 (now (c .before .before .before .before .args .bytes)) (sym (c .before .before .«has-body» .ensures) ∙ c .before .if1 .taken))
+returns c =
+    ap (λ (n : ℕ). eqb n 1) (c .«u16-at» .ensures .0) ∙ sym
+    (version-decides version1 (now (c .before .before .before .before .args .bytes)) (sym (c .before .before .«has-body» .ensures) ∙ c .before .if1 .taken))
 
 returns-2 : tie.Need-returns-2
 returns-2 c = sym (settings-missing version1 (now (c .before .before .before .args .bytes)) (sym (c .before .«has-body» .ensures) ∙ c .if1 .left))

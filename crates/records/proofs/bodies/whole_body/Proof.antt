@@ -22,7 +22,8 @@ enum-told c = search needs
 returns : tie.Need-returns
 returns c =
     let a = c .before .before .before .before .args in
-    rw (none-there (a .kind) (whole (a .entry)) (now (a .bytes)) (a .at) (is-missing (a .kind) (now (a .bytes)) (a .at) (c .before .before .«body-at» .ensures) (c .«enum-told» .given .1)))
+    rw (none-there (a .kind) (whole (a .entry)) (now (a .bytes)) (a .at)
+    (is-missing (a .kind) (now (a .bytes)) (a .at) (c .before .before .«body-at» .ensures) (c .«enum-told» .given .1)))
 
 rem-if1 : tie.Need-rem-if1
 rem-if1 c = search needs

@@ -61,7 +61,8 @@ loop-again c =
     let start = turn .before .before .before in
     let a = start .args in
     puts-more (piece (now (a .entries)) (a .from)) 4 (a .at) (a .count) (tested .«loop-test» .taken) (turn .loop .inv)
-    (put-same (ap (little 4) (after-whole .whole .ensures ∙ after-bits-of .«bits-of» .ensures)) (after-put-u32 .«put-u32» .ensures .0)) (after-put-u32 .«put-u32» .ensures .1)
+    (put-same (ap (little 4) (after-whole .whole .ensures ∙ after-bits-of .«bits-of» .ensures)) (after-put-u32 .«put-u32» .ensures .0))
+    (after-put-u32 .«put-u32» .ensures .1)
 
 same-length : tie.Need-same-length Inv-loop μ-loop
 same-length c = c .before .loop .inv .long

@@ -57,7 +57,8 @@ loop-again c =
     let turn = tested .before in
     let start = turn .before .before .before in
     let a = start .args in
-    run-store (entry (now (a .bytes)) (a .start)) (a .at) (a .count) (now (a .out)) _ (turn .loop .i) _ (start .pre .1) (tested .«loop-test» .taken) (turn .loop .inv) (c .«from-bits» .ensures ∙ ap (ofBits binary32) (c .before .«u32-at» .ensures))
+    run-store (entry (now (a .bytes)) (a .start)) (a .at) (a .count) (now (a .out)) _ (turn .loop .i) _ (start .pre .1) (tested .«loop-test» .taken)
+    (turn .loop .inv) (c .«from-bits» .ensures ∙ ap (ofBits binary32) (c .before .«u32-at» .ensures))
 
 same-length : tie.Need-same-length Inv-loop μ-loop
 same-length c = c .before .loop .inv .long
@@ -65,7 +66,8 @@ same-length c = c .before .loop .inv .long
 returns : tie.Need-returns Inv-loop μ-loop
 returns c =
     let a = c .before .before .before .before .args in
-    run-end (λ j. entry (now (a .bytes)) (a .start) j ∷ []) (a .at) (a .count) (now (a .out)) _ (c .before .loop .i) (c .«loop-test» .left) (c .before .loop .inv)
+    run-end (λ j. entry (now (a .bytes)) (a .start) j ∷ []) (a .at) (a .count) (now (a .out)) _ (c .before .loop .i) (c .«loop-test» .left)
+    (c .before .loop .inv)
 
 pub read-f32s-spec : {M : Type 1} → statement M
 read-f32s-spec =

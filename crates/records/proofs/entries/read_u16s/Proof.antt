@@ -51,7 +51,8 @@ loop-again c =
     let turn = c .before .before in
     let start = turn .before .before .before in
     let a = start .args in
-    run-store (entry (now (a .bytes)) (a .start)) (a .at) (a .count) (now (a .out)) _ (turn .loop .i) _ (start .pre .1) (c .before .«loop-test» .taken) (turn .loop .inv) (c .«u16-at» .ensures .0)
+    run-store (entry (now (a .bytes)) (a .start)) (a .at) (a .count) (now (a .out)) _ (turn .loop .i) _ (start .pre .1) (c .before .«loop-test» .taken)
+    (turn .loop .inv) (c .«u16-at» .ensures .0)
 
 same-length : tie.Need-same-length Inv-loop μ-loop
 same-length c = c .before .loop .inv .long
@@ -59,7 +60,8 @@ same-length c = c .before .loop .inv .long
 returns : tie.Need-returns Inv-loop μ-loop
 returns c =
     let a = c .before .before .before .before .args in
-    run-end (λ j. entry (now (a .bytes)) (a .start) j ∷ []) (a .at) (a .count) (now (a .out)) _ (c .before .loop .i) (c .«loop-test» .left) (c .before .loop .inv)
+    run-end (λ j. entry (now (a .bytes)) (a .start) j ∷ []) (a .at) (a .count) (now (a .out)) _ (c .before .loop .i) (c .«loop-test» .left)
+    (c .before .loop .inv)
 
 pub read-u16s-spec : {M : Type 1} → statement M
 read-u16s-spec =

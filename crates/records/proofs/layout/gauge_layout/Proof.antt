@@ -38,7 +38,8 @@ returns-2 c =
     let start = after-has-settings .before .before in
     let s = now (start .args .bytes) in
     let settings = settings-right version1 s (sym (after-has-settings .«has-settings» .ensures) ∙ not-false _ (chosen .if1 .left)) in
-    sym (reach-wrong (reach-on (reach-start gaugeWants s) settings) (is-wrong 2 (whole 36) s 14 (after-whole-body .«whole-body» .ensures) (c .«enum-told» .given .1)))
+    sym (reach-wrong (reach-on (reach-start gaugeWants s) settings)
+    (is-wrong 2 (whole 36) s 14 (after-whole-body .«whole-body» .ensures) (c .«enum-told» .given .1)))
 
 add-third : tie.Need-add-third
 add-third c =
@@ -69,7 +70,8 @@ returns-3 c =
     let settings = settings-right version1 s (sym (after-has-settings .«has-settings» .ensures) ∙ not-false _ (chosen .if1 .left)) in
     let size = at-triangles .triangles .given .0 .0 in
     let triangles = is-right 2 (whole 36) s 14 (after-whole-body .«whole-body» .ensures) (at-triangles .triangles .given .1) in
-    sym (reach-wrong (reach-on (reach-on (reach-start gaugeWants s) settings) triangles) (is-wrong 5 (whole 12) s (20 + size) (after-whole-body2 .«whole-body2» .ensures) (c .«enum-told2» .given .1)))
+    sym (reach-wrong (reach-on (reach-on (reach-start gaugeWants s) settings) triangles)
+    (is-wrong 5 (whole 12) s (20 + size) (after-whole-body2 .«whole-body2» .ensures) (c .«enum-told2» .given .1)))
 
 add-fourth : tie.Need-add-fourth
 add-fourth c =
@@ -110,7 +112,8 @@ returns-4 c =
     let size = at-triangles .triangles .given .0 .0 in
     let triangles = is-right 2 (whole 36) s 14 (after-whole-body .«whole-body» .ensures) (at-triangles .triangles .given .1) in
     let points = is-right 5 (whole 12) s (20 + size) (after-whole-body2 .«whole-body2» .ensures) (at-points .points .given .1) in
-    sym (reach-wrong (reach-on (reach-on (reach-on (reach-start gaugeWants s) settings) triangles) points) (sym (c .before .«has-body» .ensures) ∙ not-true _ (c .if2 .taken)))
+    sym (reach-wrong (reach-on (reach-on (reach-on (reach-start gaugeWants s) settings) triangles) points)
+    (sym (c .before .«has-body» .ensures) ∙ not-true _ (c .if2 .taken)))
 
 add-end : tie.Need-add-end
 add-end c =
@@ -166,7 +169,8 @@ returns-6 c =
     let triangles = is-right 2 (whole 36) s 14 (after-whole-body .«whole-body» .ensures) (at-triangles .triangles .given .1) in
     let points = is-right 5 (whole 12) s (20 + size) (after-whole-body2 .«whole-body2» .ensures) (at-points .points .given .1) in
     let distance = exactly-right 6 4 s _ (sym (after-has-body .«has-body» .ensures) ∙ not-false _ (c .before .if2 .left)) in
-    ap bodies (gauge-spans size _ (whole-size 36 triangles) (whole-size 12 points)) ∙ sym (reach-end (reach-on (reach-on (reach-on (reach-on (reach-start gaugeWants s) settings) triangles) points) distance) (c .if3 .left))
+    ap bodies (gauge-spans size _ (whole-size 36 triangles) (whole-size 12 points))
+    ∙ sym (reach-end (reach-on (reach-on (reach-on (reach-on (reach-start gaugeWants s) settings) triangles) points) distance) (c .if3 .left))
 
 pub gauge-layout-spec : {M : Type 1} → statement M
 gauge-layout-spec =

@@ -38,7 +38,8 @@ returns-2 c =
     let start = after-has-settings .before .before in
     let s = now (start .args .bytes) in
     let settings = settings-right version1 s (sym (after-has-settings .«has-settings» .ensures) ∙ not-false _ (chosen .if1 .left)) in
-    sym (reach-wrong (reach-on (reach-start (imageWants version1) s) settings) (is-wrong 2 (whole 36) s 14 (after-whole-body .«whole-body» .ensures) (c .«enum-told» .given .1)))
+    sym (reach-wrong (reach-on (reach-start (imageWants version1) s) settings)
+    (is-wrong 2 (whole 36) s 14 (after-whole-body .«whole-body» .ensures) (c .«enum-told» .given .1)))
 
 add-third : tie.Need-add-third
 add-third c =
@@ -110,7 +111,8 @@ returns-4 c =
     let size = at-triangles .triangles .given .0 .0 in
     let triangles = is-right 2 (whole 36) s 14 (after-whole-body .«whole-body» .ensures) (at-triangles .triangles .given .1) in
     let order = exactly-right 3 (2 * (size / 36)) s (20 + size) (sym (after-has-body .«has-body» .ensures) ∙ not-false _ (chosen2 .if2 .left)) in
-    sym (reach-wrong (reach-on (tree-wanted settings triangles) order) (is-wrong 4 (whole 30) s _ (after-whole-body2 .«whole-body2» .ensures) (c .«enum-told2» .given .1)))
+    sym (reach-wrong (reach-on (tree-wanted settings triangles) order)
+    (is-wrong 4 (whole 30) s _ (after-whole-body2 .«whole-body2» .ensures) (c .«enum-told2» .given .1)))
 
 add-end : tie.Need-add-end
 add-end c =
@@ -168,7 +170,8 @@ returns-6 c =
     let triangles = is-right 2 (whole 36) s 14 (after-whole-body .«whole-body» .ensures) (at-triangles .triangles .given .1) in
     let order = exactly-right 3 (2 * (size / 36)) s (20 + size) (sym (after-has-body .«has-body» .ensures) ∙ not-false _ (chosen2 .if2 .left)) in
     let nodes = is-right 4 (whole 30) s _ (after-whole-body2 .«whole-body2» .ensures) (at-nodes .nodes .given .1) in
-    ap bodies (image-spans size _ (whole-size 36 triangles) (whole-size 30 nodes)) ∙ sym (reach-end (reach-on (reach-on (tree-wanted settings triangles) order) nodes) (c .if3 .left))
+    ap bodies (image-spans size _ (whole-size 36 triangles) (whole-size 30 nodes))
+    ∙ sym (reach-end (reach-on (reach-on (tree-wanted settings triangles) order) nodes) (c .if3 .left))
 
 pub image-layout-spec : {M : Type 1} → statement M
 image-layout-spec =

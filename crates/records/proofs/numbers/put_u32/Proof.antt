@@ -18,8 +18,10 @@ returns : tie.Need-returns
 returns c =
     let after-put-u162 = c .before .before in
     let after-put-u16 = after-put-u162 .before .before .before .before in
-    let start = after-put-u16 .before .before .before in
-    (four-put (start .args .n) (after-put-u16 .«put-u16» .ensures .0) (after-put-u162 .«put-u162» .ensures .0), omega (arith, after-put-u16 .«put-u16» .ensures .1, after-put-u162 .«put-u162» .ensures .1))
+    let start = after-put-u16 .before .before .before in (
+      four-put (start .args .n) (after-put-u16 .«put-u16» .ensures .0) (after-put-u162 .«put-u162» .ensures .0),
+      omega (arith, after-put-u16 .«put-u16» .ensures .1, after-put-u162 .«put-u162» .ensures .1),
+    )
 
 pub put-u32-spec : {M : Type 1} → statement M
 put-u32-spec = tie.close (tie.spec put-u16-requires put-u16-requires-2 same-length returns)

@@ -35,7 +35,13 @@ add-result c =
     let after-wide = c .before .before in
     let known = after-wide .before .before in
     let start = known .before in
-    omega (arith, c .wide2 .ensures, after-wide .wide .ensures, c .before .«shared-slice-known3» .given (start .args .at + 1), known .«shared-slice-known» .given (start .args .at))
+    omega (
+      arith,
+      c .wide2 .ensures,
+      after-wide .wide .ensures,
+      c .before .«shared-slice-known3» .given (start .args .at + 1),
+      known .«shared-slice-known» .given (start .args .at),
+    )
 
 returns : tie.Need-returns
 returns c =
@@ -43,8 +49,11 @@ returns c =
     let known = after-wide .before .before in
     let start = known .before in
     let a = start .args in
-    let v : after-wide .wide .result + 256 * c .wide2 .result ≡ getD (now (a .bytes)) (a .at) 0 + 256 * getD (now (a .bytes)) (a .at + 1) 0 = omega (arith, c .wide2 .ensures, after-wide .wide .ensures) in
-    (omega (arith, two-at (now (a .bytes)) (a .at) (start .pre)), omega (arith, v, c .before .«shared-slice-known3» .given (a .at + 1), known .«shared-slice-known» .given (a .at)))
+    let v : after-wide .wide .result + 256 * c .wide2 .result ≡ getD (now (a .bytes)) (a .at) 0 + 256 * getD (now (a .bytes)) (a .at + 1) 0 =
+    omega (arith, c .wide2 .ensures, after-wide .wide .ensures) in (
+      omega (arith, two-at (now (a .bytes)) (a .at) (start .pre)),
+      omega (arith, v, c .before .«shared-slice-known3» .given (a .at + 1), known .«shared-slice-known» .given (a .at)),
+    )
 
 pub u16-at-spec : {M : Type 1} → statement M
 u16-at-spec =

@@ -16,7 +16,8 @@ use Rattle.splits.proofs.area.first_later.Tie as tie
 
 abbrev Inv-loop : tie.InvT-loop
 Inv-loop bounds slice axis within k i₀ i =
-    firstLater (bucketBetween binary32 (asAxis axis) (within .lo) (within .hi)) k (boxesIn bounds (drop i slice)) i ≡ firstLater (bucketBetween binary32 (asAxis axis) (within .lo) (within .hi)) k (boxesIn bounds slice) 0
+    firstLater (bucketBetween binary32 (asAxis axis) (within .lo) (within .hi)) k (boxesIn bounds (drop i slice)) i
+    ≡ firstLater (bucketBetween binary32 (asAxis axis) (within .lo) (within .hi)) k (boxesIn bounds slice) 0
 
 abbrev μ-loop : tie.MeasureT-loop
 μ-loop bounds slice axis within k i₀ i = length slice - i
@@ -43,7 +44,8 @@ returns c =
     let start = turn .before .before .before in
     let args = start .args in
     let loop = turn .loop in
-    looking-finds (bucketBetween binary32 (asAxis (args .axis)) (args .within .lo) (args .within .hi)) (args .k) (boxIn (args .bounds .now)) (args .slice .now) (loop .i) _
+    looking-finds (bucketBetween binary32 (asAxis (args .axis)) (args .within .lo) (args .within .hi)) (args .k) (boxIn (args .bounds .now))
+    (args .slice .now) (loop .i) _
     (tested .loop-test .taken) (sym (ap (ltb (args .k)) (c .before .bucket-of .ensures)) ∙ lt-ltb _ _ (c .if1 .taken)) (loop .inv)
 
 add-i : tie.Need-add-i Inv-loop μ-loop
@@ -59,14 +61,16 @@ loop-again c =
     let start = turn .before .before .before in
     let args = start .args in
     let loop = turn .loop in
-    looking-goes-on (bucketBetween binary32 (asAxis (args .axis)) (args .within .lo) (args .within .hi)) (args .k) (boxIn (args .bounds .now)) (args .slice .now) (loop .i) _
+    looking-goes-on (bucketBetween binary32 (asAxis (args .axis)) (args .within .lo) (args .within .hi)) (args .k) (boxIn (args .bounds .now))
+    (args .slice .now) (loop .i) _
     (tested .loop-test .taken) (sym (ap (ltb (args .k)) (c .before .bucket-of .ensures)) ∙ le-ltb _ _ (c .if1 .left)) (loop .inv)
 
 returns-2 : tie.Need-returns-2 Inv-loop μ-loop
 returns-2 c =
     let args = c .before .before .before .before .args in
     let loop = c .before .loop in
-    looking-ends (bucketBetween binary32 (asAxis (args .axis)) (args .within .lo) (args .within .hi)) (args .k) (boxIn (args .bounds .now)) (args .slice .now) (loop .i) _ (c .loop-test .left) (loop .inv)
+    looking-ends (bucketBetween binary32 (asAxis (args .axis)) (args .within .lo) (args .within .hi)) (args .k) (boxIn (args .bounds .now)) (args .slice .now)
+    (loop .i) _ (c .loop-test .left) (loop .inv)
 
 pub first-later-spec : {M : Type 1} → statement M
 first-later-spec =

@@ -20,7 +20,9 @@ truncating-f32-to-u64-requires c κs =
 
 returns-2 : tie.Need-returns-2
 unfolding bucketFor ofBits
-returns-2 c = c .truncating-f32-to-u64 .ensures ∙ below-eleven-kept (mul binary32 twelve (c .before .before .before .args .offset)) (failed (c .before .before .if1 .left)) (passed (c .before .if2 .taken))
+returns-2 c =
+    c .truncating-f32-to-u64 .ensures
+    ∙ below-eleven-kept (mul binary32 twelve (c .before .before .before .args .offset)) (failed (c .before .before .if1 .left)) (passed (c .before .if2 .taken))
 
 returns-3 : tie.Need-returns-3
 unfolding bucketFor ofBits

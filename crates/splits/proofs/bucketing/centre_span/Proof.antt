@@ -19,8 +19,10 @@ use Rattle.splits.proofs.bucketing.centre_span.Tie as tie
 
 abbrev Inv-loop : tie.InvT-loop
 Inv-loop bounds slice axis lo₀ hi₀ i₀ lo hi i =
-    (foldl (lowerEnd binary32 (asAxis axis)) lo (boxesIn bounds (drop i slice)) ≡ foldl (lowerEnd binary32 (asAxis axis)) (Values.largest binary32) (boxesIn bounds slice))
-    × (foldl (upperEnd binary32 (asAxis axis)) hi (boxesIn bounds (drop i slice)) ≡ foldl (upperEnd binary32 (asAxis axis)) (Values.least binary32) (boxesIn bounds slice))
+    (foldl (lowerEnd binary32 (asAxis axis)) lo (boxesIn bounds (drop i slice))
+    ≡ foldl (lowerEnd binary32 (asAxis axis)) (Values.largest binary32) (boxesIn bounds slice))
+    × (foldl (upperEnd binary32 (asAxis axis)) hi (boxesIn bounds (drop i slice))
+    ≡ foldl (upperEnd binary32 (asAxis axis)) (Values.least binary32) (boxesIn bounds slice))
 
 abbrev μ-loop : tie.MeasureT-loop
 μ-loop bounds slice axis lo₀ hi₀ i₀ lo hi i = length slice - i
@@ -68,8 +70,10 @@ loop-again c =
     let start = turn .before .before .before .before in
     let args = start .args in
     let loop = turn .loop in (
-      fold-on-named (lowerEnd binary32 (asAxis (args .axis))) (boxIn (args .bounds .now)) (args .slice .now) (loop .i) (loop .lo) _ (c .before .min2 .result) (tested .loop-test .taken) (c .before .min2 .ensures ∙ ap (smaller (loop .lo)) (after-centre-on .centre-on .ensures)) (loop .inv .0),
-      fold-on-named (upperEnd binary32 (asAxis (args .axis))) (boxIn (args .bounds .now)) (args .slice .now) (loop .i) (loop .hi) _ (c .max2 .result) (tested .loop-test .taken) (c .max2 .ensures ∙ ap (larger (loop .hi)) (after-centre-on .centre-on .ensures)) (loop .inv .1),
+      fold-on-named (lowerEnd binary32 (asAxis (args .axis))) (boxIn (args .bounds .now)) (args .slice .now) (loop .i) (loop .lo) _ (c .before .min2 .result)
+          (tested .loop-test .taken) (c .before .min2 .ensures ∙ ap (smaller (loop .lo)) (after-centre-on .centre-on .ensures)) (loop .inv .0),
+      fold-on-named (upperEnd binary32 (asAxis (args .axis))) (boxIn (args .bounds .now)) (args .slice .now) (loop .i) (loop .hi) _ (c .max2 .result)
+          (tested .loop-test .taken) (c .max2 .ensures ∙ ap (larger (loop .hi)) (after-centre-on .centre-on .ensures)) (loop .inv .1),
     )
 
 returns : tie.Need-returns Inv-loop μ-loop
@@ -80,8 +84,12 @@ returns c =
     let loop = turn .loop in
     let boxes = boxesIn (args .bounds .now) (args .slice .now) in
     record {
-      lo-is = fold-ended-named (lowerEnd binary32 (asAxis (args .axis))) (boxIn (args .bounds .now)) (args .slice .now) (loop .i) (loop .lo) _ (c .loop-test .left) (loop .inv .0) ∙ lower-end binary32 (asAxis (args .axis)) boxes;
-      hi-is = fold-ended-named (upperEnd binary32 (asAxis (args .axis))) (boxIn (args .bounds .now)) (args .slice .now) (loop .i) (loop .hi) _ (c .loop-test .left) (loop .inv .1) ∙ upper-end binary32 (asAxis (args .axis)) boxes;
+      lo-is =
+          fold-ended-named (lowerEnd binary32 (asAxis (args .axis))) (boxIn (args .bounds .now)) (args .slice .now) (loop .i) (loop .lo) _ (c .loop-test .left)
+          (loop .inv .0) ∙ lower-end binary32 (asAxis (args .axis)) boxes;
+      hi-is =
+          fold-ended-named (upperEnd binary32 (asAxis (args .axis))) (boxIn (args .bounds .now)) (args .slice .now) (loop .i) (loop .hi) _ (c .loop-test .left)
+          (loop .inv .1) ∙ upper-end binary32 (asAxis (args .axis)) boxes;
     }
 
 pub centre-span-spec : {M : Type 1} → statement M

@@ -16,7 +16,8 @@ use Rattle.splits.proofs.bucketing.fill.Statement.{statement}
 use Rattle.splits.proofs.bucketing.fill.Tie as tie
 
 abbrev Inv-loop : tie.InvT-loop
-Inv-loop bounds slice axis within buckets₀ i₀ buckets i = Filling asBucket binary32 (bucketBetween binary32 (asAxis axis) (within .lo) (within .hi)) (boxIn bounds) slice (buckets .each) i
+Inv-loop bounds slice axis within buckets₀ i₀ buckets i =
+    Filling asBucket binary32 (bucketBetween binary32 (asAxis axis) (within .lo) (within .hi)) (boxIn bounds) slice (buckets .each) i
 
 abbrev μ-loop : tie.MeasureT-loop
 μ-loop bounds slice axis within buckets₀ i₀ buckets i = length slice - i
@@ -25,7 +26,10 @@ empty-requires : tie.Need-empty-requires Inv-loop μ-loop
 empty-requires c κs = search needs
 
 loop-holds : tie.Need-loop-holds Inv-loop μ-loop
-loop-holds c = let args = c .before .before .before .args in filling-starts asBucket binary32 (bucketBetween binary32 (asAxis (args .axis)) (args .within .lo) (args .within .hi)) (boxIn (args .bounds .now)) (args .slice .now) (c .empty .result .each) (c .empty .ensures)
+loop-holds c =
+    let args = c .before .before .before .args in
+    filling-starts asBucket binary32 (bucketBetween binary32 (asAxis (args .axis)) (args .within .lo) (args .within .hi)) (boxIn (args .bounds .now))
+    (args .slice .now) (c .empty .result .each) (c .empty .ensures)
 
 mul-t : tie.Need-mul-t Inv-loop μ-loop
 mul-t c = search needs
@@ -60,7 +64,8 @@ with-box-requires c κs =
     let start = turn .before .before .before .before in
     let args = start .args in
     let loop = turn .loop in
-    filling-small asBucket binary32 (bucketBetween binary32 (asAxis (args .axis)) (args .within .lo) (args .within .hi)) (boxIn (args .bounds .now)) (args .slice .now) (loop .buckets .each) (loop .i) (after-bucket-of .bucket-of .result) noBucket (loop .inv)
+    filling-small asBucket binary32 (bucketBetween binary32 (asAxis (args .axis)) (args .within .lo) (args .within .hi)) (boxIn (args .bounds .now))
+    (args .slice .now) (loop .buckets .each) (loop .i) (after-bucket-of .bucket-of .result) noBucket (loop .inv)
     (between-below binary32 _ _ _ _ (after-bucket-of .bucket-of .result) (after-bucket-of .bucket-of .ensures)) (tested .loop-test .taken) (start .pre .0)
 
 mul-new : tie.Need-mul-new Inv-loop μ-loop
@@ -87,8 +92,10 @@ loop-again c =
     let start = turn .before .before .before .before in
     let args = start .args in
     let loop = turn .loop in
-    filling-goes-on asBucket binary32 (bucketBetween binary32 (asAxis (args .axis)) (args .within .lo) (args .within .hi)) (boxIn (args .bounds .now)) (args .slice .now) (loop .buckets .each) (loop .i) (after-bucket-of .bucket-of .result) noBucket (loop .inv)
-    (between-below binary32 _ _ _ _ (after-bucket-of .bucket-of .result) (after-bucket-of .bucket-of .ensures)) (c .with-box .result) (asBox (c .before .box-at .result)) (tested .loop-test .taken) (after-bucket-of .bucket-of .ensures) (c .with-box .ensures) (c .before .box-at .ensures)
+    filling-goes-on asBucket binary32 (bucketBetween binary32 (asAxis (args .axis)) (args .within .lo) (args .within .hi)) (boxIn (args .bounds .now))
+    (args .slice .now) (loop .buckets .each) (loop .i) (after-bucket-of .bucket-of .result) noBucket (loop .inv)
+    (between-below binary32 _ _ _ _ (after-bucket-of .bucket-of .result) (after-bucket-of .bucket-of .ensures)) (c .with-box .result)
+    (asBox (c .before .box-at .result)) (tested .loop-test .taken) (after-bucket-of .bucket-of .ensures) (c .with-box .ensures) (c .before .box-at .ensures)
 
 returns : tie.Need-returns Inv-loop μ-loop
 returns c =
@@ -96,7 +103,8 @@ returns c =
     let start = after-empty .before .before .before in
     let args = start .args in
     let loop = c .before .loop in
-    filling-ends asBucket binary32 (bucketBetween binary32 (asAxis (args .axis)) (args .within .lo) (args .within .hi)) (boxIn (args .bounds .now)) (args .slice .now) (loop .buckets .each) (loop .i) (c .loop-test .left) (loop .inv)
+    filling-ends asBucket binary32 (bucketBetween binary32 (asAxis (args .axis)) (args .within .lo) (args .within .hi)) (boxIn (args .bounds .now))
+    (args .slice .now) (loop .buckets .each) (loop .i) (c .loop-test .left) (loop .inv)
 
 pub fill-spec : {M : Type 1} → statement M
 fill-spec =

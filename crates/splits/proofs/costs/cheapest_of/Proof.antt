@@ -50,7 +50,8 @@ loop-again c =
       omega arith,
       (
         seen-goes-on (asCheapest (loop .best)) (asCheapest (c .with-cost .result)) _ (loop .i) (c .with-cost .ensures) (loop .inv .1 .0),
-        fold-on nan withCost (args .t1) (loop .i) (asCheapest (loop .best)) _ (asCheapest (c .with-cost .result)) (omega (arith, full)) (c .with-cost .ensures) (loop .inv .1 .1),
+        fold-on nan withCost (args .t1) (loop .i) (asCheapest (loop .best)) _ (asCheapest (c .with-cost .result)) (omega (arith, full)) (c .with-cost .ensures)
+            (loop .inv .1 .1),
       ),
     )
 

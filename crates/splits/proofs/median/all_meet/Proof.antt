@@ -46,7 +46,8 @@ returns c =
     let args = start .args in
     let loop = turn .loop in
     let test = sym (c .before .intersects-box3 .ensures ∙ ap (meetsBox binary32 (asPlane (args .plane))) (after-box-at .box-at .ensures)) in
-    meeting-stops binary32 (asPlane (args .plane)) (boxIn (args .bounds .now)) (args .slice .now) (loop .i) _ (tested .loop-test .taken) (test ∙ not-true _ (c .if1 .taken)) (loop .inv)
+    meeting-stops binary32 (asPlane (args .plane)) (boxIn (args .bounds .now)) (args .slice .now) (loop .i) _ (tested .loop-test .taken)
+    (test ∙ not-true _ (c .if1 .taken)) (loop .inv)
 
 add-i : tie.Need-add-i Inv-loop μ-loop
 add-i c = search needs
@@ -63,7 +64,8 @@ loop-again c =
     let args = start .args in
     let loop = turn .loop in
     let test = sym (c .before .intersects-box3 .ensures ∙ ap (meetsBox binary32 (asPlane (args .plane))) (after-box-at .box-at .ensures)) in
-    meeting-goes-on binary32 (asPlane (args .plane)) (boxIn (args .bounds .now)) (args .slice .now) (loop .i) _ (tested .loop-test .taken) (test ∙ not-false _ (c .if1 .left)) (loop .inv)
+    meeting-goes-on binary32 (asPlane (args .plane)) (boxIn (args .bounds .now)) (args .slice .now) (loop .i) _ (tested .loop-test .taken)
+    (test ∙ not-false _ (c .if1 .left)) (loop .inv)
 
 returns-2 : tie.Need-returns-2 Inv-loop μ-loop
 returns-2 c =

@@ -38,7 +38,8 @@ is-large-requires-2 c κs =
     let start = after-is-large .before .before .before .before in
     let args = start .args in
     let pre = start .pre in
-    rw (to-the-end (args .cut) (args .slice .now)) (simp length-drop (omega arith), in-table-after (args .bounds .now) (args .slice .now) (pre .1 .1) (args .cut))
+    rw (to-the-end (args .cut) (args .slice .now))
+    (simp length-drop (omega arith), in-table-after (args .bounds .now) (args .slice .now) (pre .1 .1) (args .cut))
 
 returns : tie.Need-returns
 unfolding areBothLarge

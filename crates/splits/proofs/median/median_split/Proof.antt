@@ -17,11 +17,13 @@ are-both-large-requires c κs = (omega arith, (omega arith, c .before .before .b
 
 returns-2 : tie.Need-returns-2
 unfolding medianSplit
-returns-2 c = rw (length-map, ← c .before .before .before .all-meet-at .ensures, c .before .before .if1 .left, ← c .before .are-both-large .ensures, c .if2 .taken)
+returns-2 c =
+    rw (length-map, ← c .before .before .before .all-meet-at .ensures, c .before .before .if1 .left, ← c .before .are-both-large .ensures, c .if2 .taken)
 
 returns-3 : tie.Need-returns-3
 unfolding medianSplit
-returns-3 c = rw (length-map, ← c .before .before .before .all-meet-at .ensures, c .before .before .if1 .left, ← c .before .are-both-large .ensures, c .if2 .left)
+returns-3 c =
+    rw (length-map, ← c .before .before .before .all-meet-at .ensures, c .before .before .if1 .left, ← c .before .are-both-large .ensures, c .if2 .left)
 
 pub median-split-spec : {M : Type 1} → statement M
 median-split-spec =

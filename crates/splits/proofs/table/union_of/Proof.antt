@@ -32,7 +32,8 @@ loop-holds : tie.Need-loop-holds Inv-loop μ-loop
 loop-holds c =
     let start = c .before .before .before .before in
     let args = start .args in
-    ap (λ (b : Box). foldl union b (boxesIn (args .bounds .now) (drop 1 (args .slice .now)))) (c .box-at .ensures) ∙ union-from-first binary32 (boxIn (args .bounds .now)) (args .slice .now) (start .pre .0)
+    ap (λ (b : Box). foldl union b (boxesIn (args .bounds .now) (drop 1 (args .slice .now)))) (c .box-at .ensures)
+    ∙ union-from-first binary32 (boxIn (args .bounds .now)) (args .slice .now) (start .pre .0)
 
 mul-box-at : tie.Need-mul-box-at Inv-loop μ-loop
 mul-box-at c = search needs
@@ -64,7 +65,8 @@ loop-again c =
     let start = after-box-at .before .before .before .before in
     let args = start .args in
     let loop = turn .loop in
-    fold-on-named union (boxIn (args .bounds .now)) (args .slice .now) (loop .i) (asBox (loop .joined)) _ (asBox (c .union-box .result)) (tested .loop-test .taken)
+    fold-on-named union (boxIn (args .bounds .now)) (args .slice .now) (loop .i) (asBox (loop .joined)) _ (asBox (c .union-box .result))
+    (tested .loop-test .taken)
     (c .union-box .ensures ∙ ap (union (asBox (loop .joined))) (c .before .box-at2 .ensures)) (loop .inv)
 
 returns : tie.Need-returns Inv-loop μ-loop

@@ -41,7 +41,17 @@ returns c =
     let after-number-at2 = after-angle-or-nan .before in
     let after-place = after-number-at2 .before in
     let after-number-at = after-place .before in
-    rw (c .is-near-units .ensures, c .before .word-at2 .ensures, after-place3 .place3 .ensures, after-word-at .word-at .ensures, after-place2 .place2 .ensures, after-angle-or-nan .angle-or-nan .ensures, after-number-at2 .number-at2 .ensures, after-place .place .ensures, after-number-at .number-at .ensures)
+    rw (
+      c .is-near-units .ensures,
+      c .before .word-at2 .ensures,
+      after-place3 .place3 .ensures,
+      after-word-at .word-at .ensures,
+      after-place2 .place2 .ensures,
+      after-angle-or-nan .angle-or-nan .ensures,
+      after-number-at2 .number-at2 .ensures,
+      after-place .place .ensures,
+      after-number-at .number-at .ensures,
+    )
 
 pub angle-case-spec : {M : Type 1} → statement M
 angle-case-spec =

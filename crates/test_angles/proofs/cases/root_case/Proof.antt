@@ -21,7 +21,13 @@ bits-of-requires c κs = search needs
 
 returns : tie.Need-returns
 unfolding rootCase
-returns c = rw (c .bits-of .ensures, c .before .word-at .ensures, c .before .before .place .ensures, c .before .before .before .root-or-nan .ensures, c .before .before .before .before .number-at .ensures)
+returns c = rw (
+  c .bits-of .ensures,
+  c .before .word-at .ensures,
+  c .before .before .place .ensures,
+  c .before .before .before .root-or-nan .ensures,
+  c .before .before .before .before .number-at .ensures,
+)
 
 pub root-case-spec : {M : Type 1} → statement M
 root-case-spec =

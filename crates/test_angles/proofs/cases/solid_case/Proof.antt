@@ -37,7 +37,16 @@ returns c =
     let after-point-of = after-solid-angle .before in
     let after-place = after-point-of .before in
     let after-triangle-of = after-place .before in
-    rw (c .is-near .ensures, c .before .from-bits .ensures, after-word-at .word-at .ensures, after-place2 .place2 .ensures, after-solid-angle .solid-angle .ensures, after-point-of .point-of .ensures, after-place .place .ensures, after-triangle-of .triangle-of .ensures)
+    rw (
+      c .is-near .ensures,
+      c .before .from-bits .ensures,
+      after-word-at .word-at .ensures,
+      after-place2 .place2 .ensures,
+      after-solid-angle .solid-angle .ensures,
+      after-point-of .point-of .ensures,
+      after-place .place .ensures,
+      after-triangle-of .triangle-of .ensures,
+    )
 
 pub solid-case-spec : {M : Type 1} → statement M
 solid-case-spec =

@@ -21,7 +21,11 @@ point-of-requires-3 c κs = search needs
 
 returns : tie.Need-returns
 unfolding triangleOf
-returns c = λ i. record { a = c .before .before .before .before .point-of .ensures i; b = (rw (c .before .before .before .place .ensures) at (c .before .before .point-of2 .ensures)) i; c = (rw (c .before .place2 .ensures) at (c .point-of3 .ensures)) i }
+returns c = λ i. record {
+  a = c .before .before .before .before .point-of .ensures i;
+  b = (rw (c .before .before .before .place .ensures) at (c .before .before .point-of2 .ensures)) i;
+  c = (rw (c .before .place2 .ensures) at (c .point-of3 .ensures)) i;
+}
 
 pub triangle-of-spec : {M : Type 1} → statement M
 triangle-of-spec =

@@ -21,7 +21,13 @@ place-requires-3 c κs = search needs
 
 returns : tie.Need-returns
 unfolding meshWords
-returns c = rw (c .place3 .ensures, c .before .place2 .ensures, c .before .before .size-at2 .ensures, c .before .before .before .place .ensures, c .before .before .before .before .size-at .ensures)
+returns c = rw (
+  c .place3 .ensures,
+  c .before .place2 .ensures,
+  c .before .before .size-at2 .ensures,
+  c .before .before .before .place .ensures,
+  c .before .before .before .before .size-at .ensures,
+)
 
 pub mesh-words-spec : {M : Type 1} → statement M
 mesh-words-spec =

@@ -38,7 +38,9 @@ loop-less : tie.Need-loop-less Inv-loop μ-loop
 loop-less c = search needs
 
 loop-again : tie.Need-loop-again Inv-loop μ-loop
-loop-again c = run-store-front _ 720 _ _ _ _ (omega arith) (c .before .before .loop-test .taken) (c .before .before .before .loop .inv) (rw (c .before .place .ensures) at (c .number-at .ensures))
+loop-again c =
+    run-store-front _ 720 _ _ _ _ (omega arith) (c .before .before .loop-test .taken) (c .before .before .before .loop .inv)
+    (rw (c .before .place .ensures) at (c .number-at .ensures))
 
 returns : tie.Need-returns Inv-loop μ-loop
 unfolding numbersFrom

@@ -17,8 +17,10 @@ small at size i h =
     let a = ltb at 16384 in
     let b = ltb size 16384 in
     let d = ltb i 16384 in
-    let t = passed h in
-    (ltb→lt at 16384 (and-l a b (and-l (a && b) d t)), mul-le-mul (le-of-lt (ltb→lt size 16384 (and-r a b (and-l (a && b) d t)))) (le-of-lt (ltb→lt i 16384 (and-r (a && b) d t))))
+    let t = passed h in (
+      ltb→lt at 16384 (and-l a b (and-l (a && b) d t)),
+      mul-le-mul (le-of-lt (ltb→lt size 16384 (and-r a b (and-l (a && b) d t)))) (le-of-lt (ltb→lt i 16384 (and-r (a && b) d t))),
+    )
 
 mul-found : tie.Need-mul-found
 mul-found c = omega (arith, small (c .before .args .at) (c .before .args .size) (c .before .args .i) (c .if1 .taken))

@@ -29,7 +29,14 @@ returns c =
     let after-place2 = after-number-at2 .before in
     let after-number-at = after-place2 .before in
     let after-place = after-number-at .before in
-    rw (c .number-at3 .ensures, c .before .place3 .ensures, after-number-at2 .number-at2 .ensures, after-place2 .place2 .ensures, after-number-at .number-at .ensures, after-place .place .ensures)
+    rw (
+      c .number-at3 .ensures,
+      c .before .place3 .ensures,
+      after-number-at2 .number-at2 .ensures,
+      after-place2 .place2 .ensures,
+      after-number-at .number-at .ensures,
+      after-place .place .ensures,
+    )
 
 pub point-of-spec : {M : Type 1} → statement M
 point-of-spec =

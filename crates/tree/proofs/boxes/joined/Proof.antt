@@ -71,7 +71,8 @@ loop-again c =
     let after-wide2 = c .before .before in
     let tested = after-wide2 .before .before in
     let turn = tested .before in
-    joining-goes-on _ _ (turn .loop .i) (asBox (turn .loop .over)) _ (tested .loop-test .taken) (c .union-box .ensures ∙ ap (union _) (c .before .box-at2 .ensures ∙ ap (boxAt _) (after-wide2 .wide2 .ensures))) (turn .loop .inv)
+    joining-goes-on _ _ (turn .loop .i) (asBox (turn .loop .over)) _ (tested .loop-test .taken)
+    (c .union-box .ensures ∙ ap (union _) (c .before .box-at2 .ensures ∙ ap (boxAt _) (after-wide2 .wide2 .ensures))) (turn .loop .inv)
 
 returns : tie.Need-returns Inv-loop μ-loop
 returns c = joining-ends _ _ (c .before .loop .i) _ (c .loop-test .left) (c .before .loop .inv)

@@ -17,11 +17,14 @@ unfolding checkRefusal
 returns c = stops _ _ _ _ (c .before .before .triangles-refusal .ensures) (c .before .refuses .ensures) (c .if1 .taken)
 
 tree-refusal-requires : tie.Need-tree-refusal-requires
-tree-refusal-requires c κs = triangles-passed _ (did-pass _ _ _ (c .before .before .triangles-refusal .ensures) (c .before .refuses .ensures) (c .if1 .left)) .few
+tree-refusal-requires c κs =
+    triangles-passed _ (did-pass _ _ _ (c .before .before .triangles-refusal .ensures) (c .before .refuses .ensures) (c .if1 .left)) .few
 
 returns-2 : tie.Need-returns-2
 unfolding checkRefusal
-returns-2 c = goes-on _ _ _ _ _ (c .before .before .before .triangles-refusal .ensures) (c .before .before .refuses .ensures) (c .before .if1 .left) (ends _ _ (c .tree-refusal .ensures))
+returns-2 c =
+    goes-on _ _ _ _ _ (c .before .before .before .triangles-refusal .ensures) (c .before .before .refuses .ensures) (c .before .if1 .left)
+    (ends _ _ (c .tree-refusal .ensures))
 
 pub check-spec : {M : Type 1} → statement M
 check-spec =

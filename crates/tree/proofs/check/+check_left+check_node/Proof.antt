@@ -51,10 +51,32 @@ check-node-below t =
 
 -- what each member's callees ask and give
 abbrev check-left-calls : ℕ → check-left-lts.Claims
-check-left-calls t = (is-left-before-reads.Asked, is-left-before-reads.Learnt, left-at-reads.Asked, left-at-reads.Learnt, check-node-below t, check-node.Post, left-found-reads.Asked, left-found-reads.Learnt)
+check-left-calls t = (
+  is-left-before-reads.Asked,
+  is-left-before-reads.Learnt,
+  left-at-reads.Asked,
+  left-at-reads.Learnt,
+  check-node-below t,
+  check-node.Post,
+  left-found-reads.Asked,
+  left-found-reads.Learnt,
+)
 
 abbrev check-node-calls : ℕ → check-node-lts.Claims
-check-node-calls t = (kind-at-reads.Asked, kind-at-reads.Learnt, check-leaf-reads.Asked, check-leaf-reads.Learnt, is-right-before-reads.Asked, is-right-before-reads.Learnt, right-at-reads.Asked, right-at-reads.Learnt, check-node-below t, check-node.Post, check-left-below t, check-left.Post)
+check-node-calls t = (
+  kind-at-reads.Asked,
+  kind-at-reads.Learnt,
+  check-leaf-reads.Asked,
+  check-leaf-reads.Learnt,
+  is-right-before-reads.Asked,
+  is-right-before-reads.Learnt,
+  right-at-reads.Asked,
+  right-at-reads.Learnt,
+  check-node-below t,
+  check-node.Post,
+  check-left-below t,
+  check-left.Post,
+)
 
 check-left-is-left-before-requires : (t : ℕ) → check-left-lts.Need-is-left-before-requires (check-left-calls t) (check-left-at t) check-left.Post
 check-left-is-left-before-requires t c κs = c .before .before .before .before .pre .1 .room .links-there
@@ -72,8 +94,11 @@ check-left-check-node-requires : (t : ℕ) → check-left-lts.Need-check-node-re
 check-left-check-node-requires t c κs =
     let after-is-left-before = c .before .before in
     let known3 = after-is-left-before .before .before in
-    let start = known3 .before .before .before in
-    (omega (arith, start .pre .0), left-needs _ _ _ _ _ _ _ _ (start .pre .1) (c .left-at .ensures) (sym (after-is-left-before .is-left-before .ensures) ∙ not-false _ (c .before .if1 .left)))
+    let start = known3 .before .before .before in (
+      omega (arith, start .pre .0),
+      left-needs _ _ _ _ _ _ _ _ (start .pre .1) (c .left-at .ensures)
+          (sym (after-is-left-before .is-left-before .ensures) ∙ not-false _ (c .before .if1 .left)),
+    )
 
 check-left-left-found-requires : (t : ℕ) → check-left-lts.Need-left-found-requires (check-left-calls t) (check-left-at t) check-left.Post
 check-left-left-found-requires t c κs =
@@ -82,7 +107,11 @@ check-left-left-found-requires t c κs =
     start .pre .1 .room .boxes-there
 
 check-left-returns-2 : (t : ℕ) → check-left-lts.Need-returns-2 (check-left-calls t) (check-left-at t) check-left.Post
-check-left-returns-2 t c = rw (sym (c .before .before .before .before .is-left-before .ensures) ∙ not-false _ (c .before .before .before .if1 .left), ← c .before .before .left-at .ensures, ← c .before .check-node .ensures) (c .left-found .ensures)
+check-left-returns-2 t c = rw (
+  sym (c .before .before .before .before .is-left-before .ensures) ∙ not-false _ (c .before .before .before .if1 .left),
+  ← c .before .before .left-at .ensures,
+  ← c .before .check-node .ensures,
+) (c .left-found .ensures)
 
 check-node-returns : (t : ℕ) → check-node-lts.Need-returns (check-node-calls t) (check-node-at t) check-node.Post
 check-node-returns t c = sym (node-none _ _ _ _ _ _ _ (c .if1 .taken))
@@ -100,13 +129,16 @@ check-node-check-leaf-requires t c κs =
     start .pre .1
 
 check-node-returns-2 : (t : ℕ) → check-node-lts.Need-returns-2 (check-node-calls t) (check-node-at t) check-node.Post
-check-node-returns-2 t c = c .check-leaf .ensures ∙ sym (node-leaf _ _ _ _ _ _ _ (c .before .before .before .if1 .left) (sym (c .before .before .kind-at .ensures) ∙ c .before .if2 .taken))
+check-node-returns-2 t c =
+    c .check-leaf .ensures
+    ∙ sym (node-leaf _ _ _ _ _ _ _ (c .before .before .before .if1 .left) (sym (c .before .before .kind-at .ensures) ∙ c .before .if2 .taken))
 
 check-node-returns-3 : (t : ℕ) → check-node-lts.Need-returns-3 (check-node-calls t) (check-node-at t) check-node.Post
 check-node-returns-3 t c =
     let after-kind-at = c .before .before in
     let chosen = after-kind-at .before in
-    sym (node-neither _ _ _ _ _ _ _ (chosen .if1 .left) (λ p. c .before .if2 .left (after-kind-at .kind-at .ensures ∙ p)) (λ p. c .if3 .taken (after-kind-at .kind-at .ensures ∙ p)))
+    sym (node-neither _ _ _ _ _ _ _ (chosen .if1 .left) (λ p. c .before .if2 .left (after-kind-at .kind-at .ensures ∙ p))
+    (λ p. c .if3 .taken (after-kind-at .kind-at .ensures ∙ p)))
 
 check-node-is-right-before-requires : (t : ℕ) → check-node-lts.Need-is-right-before-requires (check-node-calls t) (check-node-at t) check-node.Post
 check-node-is-right-before-requires t c κs =
@@ -119,7 +151,8 @@ check-node-returns-4 t c =
     let chosen3 = c .before .before in
     let after-kind-at = chosen3 .before .before in
     let chosen = after-kind-at .before in
-    sym (node-apart _ _ _ _ _ _ _ (chosen .if1 .left) (sym (after-kind-at .kind-at .ensures) ∙ chosen3 .if3 .left) (sym (c .before .is-right-before .ensures) ∙ not-true _ (c .if4 .taken)))
+    sym (node-apart _ _ _ _ _ _ _ (chosen .if1 .left) (sym (after-kind-at .kind-at .ensures) ∙ chosen3 .if3 .left)
+    (sym (c .before .is-right-before .ensures) ∙ not-true _ (c .if4 .taken)))
 
 check-node-sub-check-node : (t : ℕ) → check-node-lts.Need-sub-check-node (check-node-calls t) (check-node-at t) check-node.Post
 check-node-sub-check-node t c =
@@ -139,8 +172,11 @@ check-node-check-node-requires t c κs =
     let after-is-right-before = c .before .before in
     let chosen = after-is-right-before .before .before .before .before in
     let known3 = chosen .before .before in
-    let start = known3 .before .before .before in
-    (omega (arith, start .pre .0, chosen .if1 .left), right-needs _ _ _ _ _ _ _ (start .pre .1) (c .right-at .ensures) (sym (after-is-right-before .is-right-before .ensures) ∙ not-false _ (c .before .if4 .left)))
+    let start = known3 .before .before .before in (
+      omega (arith, start .pre .0, chosen .if1 .left),
+      right-needs _ _ _ _ _ _ _ (start .pre .1) (c .right-at .ensures)
+          (sym (after-is-right-before .is-right-before .ensures) ∙ not-false _ (c .before .if4 .left)),
+    )
 
 check-node-enum-told : (t : ℕ) → check-node-lts.Need-enum-told (check-node-calls t) (check-node-at t) check-node.Post
 check-node-enum-told t c = search needs
@@ -165,7 +201,8 @@ check-node-check-left-requires t c κs =
     let known3 = chosen .before .before in
     let start = known3 .before .before .before in (
       omega (arith, start .pre .0, chosen .if1 .left),
-      then-left-needs _ _ _ _ _ _ _ _ _ _ _ _ (start .pre .1) (after-right-at .right-at .ensures) (sym (after-is-right-before .is-right-before .ensures) ∙ not-false _ (chosen4 .if4 .left))
+      then-left-needs _ _ _ _ _ _ _ _ _ _ _ _ (start .pre .1) (after-right-at .right-at .ensures)
+          (sym (after-is-right-before .is-right-before .ensures) ∙ not-false _ (chosen4 .if4 .left))
           (after-check-node .check-node .ensures) (ap asFinding (c .before .right .given .1)),
     )
 
@@ -178,7 +215,8 @@ check-node-returns-5 t c =
     let chosen3 = after-is-right-before .before in
     let after-kind-at = chosen3 .before .before in
     let chosen = after-kind-at .before in
-    sym (node-goes-on _ _ _ _ _ _ _ (chosen .if1 .left) (sym (after-kind-at .kind-at .ensures) ∙ chosen3 .if3 .left) (sym (after-is-right-before .is-right-before .ensures) ∙ not-false _ (chosen4 .if4 .left)) _ _ (after-right-at .right-at .ensures)
+    sym (node-goes-on _ _ _ _ _ _ _ (chosen .if1 .left) (sym (after-kind-at .kind-at .ensures) ∙ chosen3 .if3 .left)
+    (sym (after-is-right-before .is-right-before .ensures) ∙ not-false _ (chosen4 .if4 .left)) _ _ (after-right-at .right-at .ensures)
     (sym (after-check-node .check-node .ensures) ∙ ap asFinding (c .enum-told .given .1)))
 
 check-node-returns-6 : (t : ℕ) → check-node-lts.Need-returns-6 (check-node-calls t) (check-node-at t) check-node.Post
@@ -191,7 +229,8 @@ check-node-returns-6 t c =
     let chosen3 = after-is-right-before .before in
     let after-kind-at = chosen3 .before .before in
     let chosen = after-kind-at .before in
-    c .check-left .ensures ∙ sym (node-goes-on _ _ _ _ _ _ _ (chosen .if1 .left) (sym (after-kind-at .kind-at .ensures) ∙ chosen3 .if3 .left) (sym (after-is-right-before .is-right-before .ensures) ∙ not-false _ (chosen4 .if4 .left)) _ _ (after-right-at .right-at .ensures)
+    c .check-left .ensures ∙ sym (node-goes-on _ _ _ _ _ _ _ (chosen .if1 .left) (sym (after-kind-at .kind-at .ensures) ∙ chosen3 .if3 .left)
+    (sym (after-is-right-before .is-right-before .ensures) ∙ not-false _ (chosen4 .if4 .left)) _ _ (after-right-at .right-at .ensures)
     (sym (after-check-node .check-node .ensures) ∙ ap asFinding (at-right .right .given .1)))
 
 pub +check-left+check-node-spec : {M : Type 1} → statement M

@@ -49,7 +49,10 @@ returns-3 c =
     let after-right-at = chosen2 .before in
     let chosen = after-right-at .before in
     let after-left-at = chosen .before in
-    rw (leaf-fits _ _ _ _ _ _ _ (after-left-at .left-at .ensures) (chosen .if1 .left) (sym (after-right-at .right-at .ensures) ∙ chosen2 .if2 .left), ← c .before .joined .ensures) (c .boxed .ensures)
+    rw (
+      leaf-fits _ _ _ _ _ _ _ (after-left-at .left-at .ensures) (chosen .if1 .left) (sym (after-right-at .right-at .ensures) ∙ chosen2 .if2 .left),
+      ← c .before .joined .ensures,
+    ) (c .boxed .ensures)
 
 pub check-leaf-spec : {M : Type 1} → statement M
 check-leaf-spec =

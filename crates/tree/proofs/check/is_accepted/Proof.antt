@@ -15,7 +15,9 @@ is-permutation-requires : tie.Need-is-permutation-requires
 is-permutation-requires c κs = search needs
 
 returns : tie.Need-returns
-returns c = rw (← c .before .before .triangle-count .ensures) (sym (accepted-unordered _ _ _ _ _ _ (sym (c .before .is-permutation .ensures) ∙ not-true _ (c .if1 .taken))))
+returns c =
+    rw (← c .before .before .triangle-count .ensures)
+    (sym (accepted-unordered _ _ _ _ _ _ (sym (c .before .is-permutation .ensures) ∙ not-true _ (c .if1 .taken))))
 
 is-present-requires : tie.Need-is-present-requires
 is-present-requires c κs = search needs
@@ -27,7 +29,9 @@ sub-check-node : tie.Need-sub-check-node
 sub-check-node c = omega (arith, present-gives _ _ _ (sym (c .before .is-present .ensures) ∙ not-false _ (c .if2 .left)))
 
 check-node-requires : tie.Need-check-node-requires
-check-node-requires c κs = root-needs _ _ _ _ _ _ (c .before .before .before .before .triangle-count .ensures) (sym (c .before .before .before .is-permutation .ensures) ∙ not-false _ (c .before .before .if1 .left)) (sym (c .before .is-present .ensures) ∙ not-false _ (c .if2 .left))
+check-node-requires c κs =
+    root-needs _ _ _ _ _ _ (c .before .before .before .before .triangle-count .ensures) (sym (c .before .before .before .is-permutation .ensures)
+    ∙ not-false _ (c .before .before .if1 .left)) (sym (c .before .is-present .ensures) ∙ not-false _ (c .if2 .left))
 
 is-whole-requires : tie.Need-is-whole-requires
 is-whole-requires c κs = search needs
@@ -39,7 +43,12 @@ returns-3 c =
     let chosen = after-is-present .before in
     let after-is-permutation = chosen .before in
     let after-triangle-count = after-is-permutation .before in
-    rw (← after-triangle-count .triangle-count .ensures, accepted-looked _ _ _ _ _ _ (sym (after-is-permutation .is-permutation .ensures) ∙ not-false _ (chosen .if1 .left)) (sym (after-is-present .is-present .ensures) ∙ not-false _ (chosen2 .if2 .left)), ← c .before .check-node .ensures) (c .is-whole .ensures)
+    rw (
+      ← after-triangle-count .triangle-count .ensures,
+      accepted-looked _ _ _ _ _ _ (sym (after-is-permutation .is-permutation .ensures) ∙ not-false _ (chosen .if1 .left))
+          (sym (after-is-present .is-present .ensures) ∙ not-false _ (chosen2 .if2 .left)),
+      ← c .before .check-node .ensures,
+    ) (c .is-whole .ensures)
 
 pub is-accepted-spec : {M : Type 1} → statement M
 is-accepted-spec =

@@ -27,7 +27,18 @@ depth-at-below t =
 
 -- what each member's callees ask and give
 abbrev depth-at-calls : ℕ → depth-at-lts.Claims
-depth-at-calls t = (kind-at-reads.Asked, kind-at-reads.Learnt, left-at-reads.Asked, left-at-reads.Learnt, depth-at-below t, depth-at.Post, right-at-reads.Asked, right-at-reads.Learnt, deeper-reads.Asked, deeper-reads.Learnt)
+depth-at-calls t = (
+  kind-at-reads.Asked,
+  kind-at-reads.Learnt,
+  left-at-reads.Asked,
+  left-at-reads.Learnt,
+  depth-at-below t,
+  depth-at.Post,
+  right-at-reads.Asked,
+  right-at-reads.Learnt,
+  deeper-reads.Asked,
+  deeper-reads.Learnt,
+)
 
 depth-at-returns : (t : ℕ) → depth-at-lts.Need-returns (depth-at-calls t) (depth-at-at t) depth-at.Post
 depth-at-returns t c = sym (depth-none _ _ _ (c .if1 .taken))
@@ -48,8 +59,10 @@ depth-at-depth-at-requires : (t : ℕ) → depth-at-lts.Need-depth-at-requires (
 depth-at-depth-at-requires t c κs =
     let after-kind-at = c .before .before in
     let chosen = after-kind-at .before in
-    let start = chosen .before .before in
-    (omega (arith, start .pre .0, chosen .if1 .left), rw (c .left-at .ensures) (descends-left _ _ (start .pre .1) (sym (after-kind-at .kind-at .ensures) ∙ c .before .if2 .left)))
+    let start = chosen .before .before in (
+      omega (arith, start .pre .0, chosen .if1 .left),
+      rw (c .left-at .ensures) (descends-left _ _ (start .pre .1) (sym (after-kind-at .kind-at .ensures) ∙ c .before .if2 .left)),
+    )
 
 depth-at-sub-depth-at-2 : (t : ℕ) → depth-at-lts.Need-sub-depth-at-2 (depth-at-calls t) (depth-at-at t) depth-at.Post
 depth-at-sub-depth-at-2 t c = omega (arith, c .before .before .before .before .if1 .left)
@@ -65,8 +78,10 @@ depth-at-depth-at-requires-2 t c κs =
     let chosen2 = c .before .before .before in
     let after-kind-at = chosen2 .before in
     let chosen = after-kind-at .before in
-    let start = chosen .before .before in
-    (omega (arith, start .pre .0, chosen .if1 .left), rw (c .right-at .ensures) (descends-right _ _ (start .pre .1) (sym (after-kind-at .kind-at .ensures) ∙ chosen2 .if2 .left)))
+    let start = chosen .before .before in (
+      omega (arith, start .pre .0, chosen .if1 .left),
+      rw (c .right-at .ensures) (descends-right _ _ (start .pre .1) (sym (after-kind-at .kind-at .ensures) ∙ chosen2 .if2 .left)),
+    )
 
 depth-at-deeper-requires : (t : ℕ) → depth-at-lts.Need-deeper-requires (depth-at-calls t) (depth-at-at t) depth-at.Post
 depth-at-deeper-requires t c κs = tt
@@ -79,7 +94,16 @@ depth-at-add-result t c =
     let chosen = after-left-at .before .before .before in
     let start = chosen .before .before in
     let args = start .args in
-    omega (arith, c .deeper .ensures, c .before .depth-at2 .ensures, after-depth-at .depth-at .ensures, depth-most (args .links .now) (args .most - 1) (after-left-at .left-at .result), depth-most (args .links .now) (args .most - 1) (after-right-at .right-at .result), chosen .if1 .left, start .good .1 .0)
+    omega (
+      arith,
+      c .deeper .ensures,
+      c .before .depth-at2 .ensures,
+      after-depth-at .depth-at .ensures,
+      depth-most (args .links .now) (args .most - 1) (after-left-at .left-at .result),
+      depth-most (args .links .now) (args .most - 1) (after-right-at .right-at .result),
+      chosen .if1 .left,
+      start .good .1 .0,
+    )
 
 depth-at-returns-3 : (t : ℕ) → depth-at-lts.Need-returns-3 (depth-at-calls t) (depth-at-at t) depth-at.Post
 depth-at-returns-3 t c =
@@ -89,7 +113,14 @@ depth-at-returns-3 t c =
     let chosen2 = after-left-at .before in
     let after-kind-at = chosen2 .before in
     let chosen = after-kind-at .before in
-    rw (depth-branch _ _ _ (chosen .if1 .left) (sym (after-kind-at .kind-at .ensures) ∙ chosen2 .if2 .left), ← after-left-at .left-at .ensures, ← after-right-at .right-at .ensures, ← after-depth-at .depth-at .ensures, ← c .before .depth-at2 .ensures, c .deeper .ensures)
+    rw (
+      depth-branch _ _ _ (chosen .if1 .left) (sym (after-kind-at .kind-at .ensures) ∙ chosen2 .if2 .left),
+      ← after-left-at .left-at .ensures,
+      ← after-right-at .right-at .ensures,
+      ← after-depth-at .depth-at .ensures,
+      ← c .before .depth-at2 .ensures,
+      c .deeper .ensures,
+    )
 
 pub +depth-at-spec : {M : Type 1} → statement M
 +depth-at-spec = close μ-depth-at λ t. depth-at-lts.spec (depth-at-calls t)

@@ -79,7 +79,8 @@ module _ {M : Type 1} (𝓤 : URA M) (H : Heap 𝓤) (A : Atoms 𝓤) (mem : Mem
   abbrev Entry : Contract 𝓤
   Entry = tripleOf 𝓤 H A entry.signature (entry.spec 𝓤 H A mem run)
 
-module _ {M : Type 1} (𝓤 : URA M) (H : Heap 𝓤) (A : Atoms 𝓤) (W : Given 𝓤 H A) (mem : Memory → SProp 𝓤) (run : Routine → Fun 𝓤) (κ : Lft) (q : Share) (s : RefT (List ℕ)) (a b n : ℕ) (a-fits : a < 2 ^ 64) (b-fits : b < 2 ^ 64) (n-fits : n < 2 ^ 64) where
+module _ {M : Type 1} (𝓤 : URA M) (H : Heap 𝓤) (A : Atoms 𝓤) (W : Given 𝓤 H A) (mem : Memory → SProp 𝓤) (run : Routine → Fun 𝓤) (κ : Lft) (q : Share)
+    (s : RefT (List ℕ)) (a b n : ℕ) (a-fits : a < 2 ^ 64) (b-fits : b < 2 ^ 64) (n-fits : n < 2 ^ 64) where
   -- the machine value that s has
   abbrev v : Val
   v = sliceVal (s .ptr) (length (s .now))
@@ -112,10 +113,13 @@ module _ {M : Type 1} (𝓤 : URA M) (H : Heap 𝓤) (A : Atoms 𝓤) (W : Given
   goes-of =
       qed W ((‵ (flft κ q) ⊛ ‵ ftrue) ∷ ‵ (owns (ShrSlice (named 0) κ u32 ∷ usize ∷ usize ∷ usize ∷ []) (s, (a, (b, (n, tt)))) at) ∷ []) ∵
       move ! (1 ∷ []) $ fsplit ! $ move ! (1 ∷ []) $ drop ! $ use1 W (‵ Own ⊛ ‵ Own) (shr-slice-copy 𝓤 H A W (named 0) κ u32 .twice s (v ∷ [])) $ split ! $
-      nothing ! $ owned ! usize (Is usize) (uint-makes 𝓤 H A W w64) b _ (refl, b-fits) $ fjoin ! $ owned ! usize (Is usize) (uint-makes 𝓤 H A W w64) a _ (refl, a-fits) $ fjoin ! $ move ! (1 ∷ 0 ∷ []) $ fjoin ! $
-      move ! (2 ∷ 0 ∷ []) $ use2 W (raw (Of 𝓤 H A mem run .pre to-of)) (qed W ((‵ (flft κ q) ⊛ ‵ ftrue) ∷ ‵ (owns (ShrSlice (named 0) κ u32 ∷ usize ∷ usize ∷ []) (s, (a, (b, tt))) first-three) ∷ []) ∵ join ! $ frame ! $ done !) $ frame ! $ done !
+      nothing ! $ owned ! usize (Is usize) (uint-makes 𝓤 H A W w64) b _ (refl, b-fits) $ fjoin ! $ owned ! usize (Is usize) (uint-makes 𝓤 H A W w64) a _
+      (refl, a-fits) $ fjoin ! $ move ! (1 ∷ 0 ∷ []) $ fjoin ! $
+      move ! (2 ∷ 0 ∷ []) $ use2 W (raw (Of 𝓤 H A mem run .pre to-of)) (qed W ((‵ (flft κ q) ⊛ ‵ ftrue)
+      ∷ ‵ (owns (ShrSlice (named 0) κ u32 ∷ usize ∷ usize ∷ []) (s, (a, (b, tt))) first-three) ∷ []) ∵ join ! $ frame ! $ done !) $ frame ! $ done !
 
-  of-said : (r : Leaf) → ent 𝓤 (ensured 𝓤 H A of.ended (of.clauses 𝓤 H A mem run) (κ, tt) (s, (a, (b, tt))) tt r) (fact 𝓤 (now (r .slice) ≡ slice (now s) a (b - a)))
+  of-said : (r : Leaf)
+      → ent 𝓤 (ensured 𝓤 H A of.ended (of.clauses 𝓤 H A mem run) (κ, tt) (s, (a, (b, tt))) tt r) (fact 𝓤 (now (r .slice) ≡ slice (now s) a (b - a)))
   of-said r = exE 𝓤 _ (λ ws. snd∗ 𝓤 (sem 𝓤 H A (lasts of.ended (κ, tt) (s, (a, (b, tt))) ws)) (fact 𝓤 (now (r .slice) ≡ slice (now s) a (b - a))))
 
   -- the call of `entry`, at the struct r with the machine value u
@@ -124,49 +128,81 @@ module _ {M : Type 1} (𝓤 : URA M) (H : Heap 𝓤) (A : Atoms 𝓤) (W : Given
 
   goes-entry : (r : Leaf) (u : Val) → ent 𝓤 (⋆ 𝓤 H A (‵ (B (κ, tt) .own r (u ∷ [])) ∷ (‵ (flft κ q) ⊛ ‵ ftrue) ∷ [])) (Entry 𝓤 H A mem run .pre (to-entry r u))
   goes-entry r u = qed W (‵ (B (κ, tt) .own r (u ∷ [])) ∷ (‵ (flft κ q) ⊛ ‵ ftrue) ∷ []) ∵
-      nothing ! $ owned ! usize (Is usize) (uint-makes 𝓤 H A W w64) n _ (refl, n-fits) $ fjoin ! $ move ! (1 ∷ 0 ∷ []) $ fjoin ! $ move ! (1 ∷ 0 ∷ []) $ join ! $ frame ! $ done !
+      nothing ! $ owned ! usize (Is usize) (uint-makes 𝓤 H A W w64) n _
+      (refl, n-fits) $ fjoin ! $ move ! (1 ∷ 0 ∷ []) $ fjoin ! $ move ! (1 ∷ 0 ∷ []) $ join ! $ frame ! $ done !
 
-  entry-said : (r : Leaf) (t : EntryFound) → ent 𝓤 (ensured 𝓤 H A entry.ended (entry.clauses 𝓤 H A mem run) (κ, tt) (r, (n, tt)) tt t) (fact 𝓤 (asEntryFound t ≡ entryAt (now (r .slice)) n))
+  entry-said : (r : Leaf) (t : EntryFound)
+      → ent 𝓤 (ensured 𝓤 H A entry.ended (entry.clauses 𝓤 H A mem run) (κ, tt) (r, (n, tt)) tt t) (fact 𝓤 (asEntryFound t ≡ entryAt (now (r .slice)) n))
   entry-said r t = exE 𝓤 _ (λ ws. snd∗ 𝓤 (sem 𝓤 H A (lasts entry.ended (κ, tt) (r, (n, tt)) ws)) (fact 𝓤 (asEntryFound t ≡ entryAt (now (r .slice)) n)))
 
   exits : (t : EntryFound) (u : Val) → asEntryFound t ≡ found → ent 𝓤 (⋆ 𝓤 H A (‵ (S.the-row .own t (u ∷ [])) ∷ (‵ (flft κ q) ⊛ ‵ ftrue) ∷ ‵ Own ∷ [])) (Post u)
   exits t u e =
       qed W (‵ (S.the-row .own t (u ∷ [])) ∷ (‵ (flft κ q) ⊛ ‵ ftrue) ∷ ‵ Own ∷ []) ∵
-      suffices ! _ (ends-at 𝓤 H A entry-of.ended stayed (entry-of.clauses 𝓤 H A mem run) W (((κ, tt), (q, tt), tt, (s, (a, (b, (n, tt)))), at), tt) u t (tt, (tt, (tt, (tt, tt)))) (tt, (tt, (tt, (tt, tt))))) $ says ! e $
-      move ! (1 ∷ []) $ frame ! $ nothing ! $ owned ! usize (Is usize) (uint-makes 𝓤 H A W w64) n _ (refl, n-fits) $ fjoin ! $ owned ! usize (Is usize) (uint-makes 𝓤 H A W w64) b _ (refl, b-fits) $ fjoin ! $ owned ! usize (Is usize) (uint-makes 𝓤 H A W w64) a _ (refl, a-fits) $ fjoin ! $ move ! (2 ∷ 0 ∷ []) $ fjoin ! $ frame ! $ done !
+      suffices ! _ (ends-at 𝓤 H A entry-of.ended stayed (entry-of.clauses 𝓤 H A mem run) W (((κ, tt), (q, tt), tt, (s, (a, (b, (n, tt)))), at), tt) u t
+      (tt, (tt, (tt, (tt, tt)))) (tt, (tt, (tt, (tt, tt))))) $ says ! e $
+      move ! (1 ∷ []) $ frame ! $ nothing ! $ owned ! usize (Is usize) (uint-makes 𝓤 H A W w64) n _ (refl, n-fits) $ fjoin ! $ owned ! usize
+      (Is usize) (uint-makes 𝓤 H A W w64) b _ (refl, b-fits) $ fjoin ! $ owned ! usize (Is usize) (uint-makes 𝓤 H A W w64) a _
+      (refl, a-fits) $ fjoin ! $ move ! (2 ∷ 0 ∷ []) $ fjoin ! $ frame ! $ done !
 
-  module _ (C : Calls 𝓤 H) (Λ : Loops 𝓤 H) (fm : FmC 𝓤 H (W .laws) C) (known-of : Triple 𝓤 (C #of) (Of 𝓤 H A mem run)) (known-entry : Triple 𝓤 (C #entry) (Entry 𝓤 H A mem run)) where
-    walk : Is (ShrSlice (named 0) κ u32) s (v ∷ []) → ent 𝓤 (onEntry 𝓤 H A entry-of.signature (κ, tt) (q, tt) (s, (a, (b, (n, tt)))) at) (WpFn 𝓤 H C Λ code.function (v ∷ vint w64 a ∷ vint w64 b ∷ vint w64 n ∷ []) Post)
+  module _ (C : Calls 𝓤 H) (Λ : Loops 𝓤 H) (fm : FmC 𝓤 H (W .laws) C) (known-of : Triple 𝓤 (C #of) (Of 𝓤 H A mem run))
+      (known-entry : Triple 𝓤 (C #entry) (Entry 𝓤 H A mem run)) where
+    walk : Is (ShrSlice (named 0) κ u32) s (v ∷ []) → ent 𝓤 (onEntry 𝓤 H A entry-of.signature (κ, tt) (q, tt) (s, (a, (b, (n, tt)))) at)
+        (WpFn 𝓤 H C Λ code.function (v ∷ vint w64 a ∷ vint w64 b ∷ vint w64 n ∷ []) Post)
     walk p =
-        qed W (raw (onEntry 𝓤 H A entry-of.signature (κ, tt) (q, tt) (s, (a, (b, (n, tt)))) at) ∷ []) ∵ enter ! C Λ code.function (v ∷ vint w64 a ∷ vint w64 b ∷ vint w64 n ∷ []) _ $
-        alloc1 ! (λ l₀. alloc1 ! (λ l₁. alloc1 ! (λ l₂. alloc1 ! (λ l₃. alloc1 ! (λ l₄. alloc1 ! (λ l₅. alloc0 ! $ params1 ! $ pass1 ! (init ! 8 refl (shr-slice-lawful 𝓤 H A W (named 0) κ u32 .typed s (v ∷ []) p .0)) $ pass1 ! (init ! 6 refl (tt, record { fits = a-fits })) $ pass1 ! (init ! 4 refl (tt, record { fits = b-fits })) $ pass1 ! (init ! 2 refl (tt, record { fits = n-fits })) $ pass0 ! $
+        qed W (raw (onEntry 𝓤 H A entry-of.signature (κ, tt) (q, tt) (s, (a, (b, (n, tt)))) at) ∷ []) ∵ enter ! C Λ code.function
+        (v ∷ vint w64 a ∷ vint w64 b ∷ vint w64 n ∷ []) _ $
+        alloc1 ! (λ l₀. alloc1 ! (λ l₁. alloc1 ! (λ l₂. alloc1 ! (λ l₃. alloc1 ! (λ l₄. alloc1
+        ! (λ l₅. alloc0 ! $ params1 ! $ pass1 ! (init ! 8 refl (shr-slice-lawful 𝓤 H A W (named 0) κ u32 .typed s (v ∷ []) p .0)) $ pass1 ! (init ! 6 refl (
+          tt,
+          record { fits = a-fits },
+        )) $ pass1 ! (init ! 4 refl (tt, record { fits = b-fits })) $ pass1 ! (init ! 2 refl (tt, record { fits = n-fits })) $ pass0 ! $
         move ! (12 ∷ []) $ use1 W (raw (Of 𝓤 H A mem run .pre to-of) ⊛ ‵ Own) goes-of $ split ! $
-        calls-at ! fm (Of 𝓤 H A mem run) known-of to-of (and-then ! (load ! (from ! (stop !)) (look ! 10 refl)) (and-then ! (load ! (from ! (stop !)) (look ! 8 refl)) (and-then ! (load ! (from ! (stop !)) (look ! 6 refl)) (no-more !)))) (λ u.
-        use1 W (later (some (λ (r : Leaf). ((‵ (flft κ q) ⊛ ‵ ftrue) ⊛ ‵ (B (κ, tt) .own r (u ∷ []))) ⊛ raw (ensured 𝓤 H A of.ended (of.clauses 𝓤 H A mem run) (κ, tt) (s, (a, (b, tt))) tt r)))) (id⊢ 𝓤 _) $ await ! tt $ pick ! (λ r.
-        split ! $ move ! (1 ∷ []) $ use1 W (raw (fact 𝓤 (now (r .slice) ≡ slice (now s) a (b - a)))) (of-said r) $ heard ! (now (r .slice) ≡ slice (now s) a (b - a)) (λ e. split ! $ move ! (1 ∷ []) $
+        calls-at ! fm (Of 𝓤 H A mem run) known-of to-of (and-then ! (load ! (from ! (stop !)) (look ! 10 refl))
+        (and-then ! (load ! (from ! (stop !)) (look ! 8 refl)) (and-then ! (load ! (from ! (stop !)) (look ! 6 refl)) (no-more !)))) (λ u.
+        use1 W (later (some (λ (r : Leaf). ((‵ (flft κ q) ⊛ ‵ ftrue) ⊛ ‵ (B (κ, tt) .own r (u ∷ []))) ⊛ raw (ensured 𝓤 H A of.ended (of.clauses 𝓤 H A mem run) (
+          κ,
+          tt,
+        ) (s, (a, (b, tt))) tt r)))) (id⊢ 𝓤 _) $ await ! tt $ pick ! (λ r.
+        split ! $ move ! (1 ∷ []) $ use1 W (raw (fact 𝓤 (now (r .slice) ≡ slice (now s) a (b - a))))
+        (of-said r) $ heard ! (now (r .slice) ≡ slice (now s) a (b - a)) (λ e. split ! $ move ! (1 ∷ []) $
         -- [what the struct owns; the token; what s owns; room for _5; …; _4; …; _3; …; _2; …; _1; …; room for _0; …]
         peeks ! (B (κ, tt)) (Is (B (κ, tt))) (shows 𝓤 H A (B (κ, tt))) r (u ∷ []) (λ is.
         land ! (from ! (stop !)) (init ! 3 refl (LL.lawful (T.the-type αᵉ) (T′.the-laws αᵉ) 𝓤 H A W .typed r _ is .0)) $
         use2 W (raw (Entry 𝓤 H A mem run .pre (to-entry r u))) (goes-entry r u) $
-        calls-at ! fm (Entry 𝓤 H A mem run) known-entry (to-entry r u) (and-then ! (load ! (from ! (stop !)) (look ! 2 refl)) (and-then ! (load ! (from ! (stop !)) (look ! 4 refl)) (no-more !))) (λ u′.
-        use1 W (later (some (λ (t : EntryFound). ((‵ (flft κ q) ⊛ ‵ ftrue) ⊛ ‵ (S.the-row .own t (u′ ∷ []))) ⊛ raw (ensured 𝓤 H A entry.ended (entry.clauses 𝓤 H A mem run) (κ, tt) (r, (n, tt)) tt t)))) (id⊢ 𝓤 _) $ await ! tt $ pick ! (λ t.
-        split ! $ move ! (1 ∷ []) $ use1 W (raw (fact 𝓤 (asEntryFound t ≡ entryAt (now (r .slice)) n))) (entry-said r t) $ heard ! (asEntryFound t ≡ entryAt (now (r .slice)) n) (λ e′. split ! $ move ! (1 ∷ []) $
+        calls-at ! fm (Entry 𝓤 H A mem run) known-entry (to-entry r u)
+        (and-then ! (load ! (from ! (stop !)) (look ! 2 refl)) (and-then ! (load ! (from ! (stop !)) (look ! 4 refl)) (no-more !))) (λ u′.
+        use1 W (later (some (λ (t : EntryFound). ((‵ (flft κ q) ⊛ ‵ ftrue) ⊛ ‵ (S.the-row .own t (u′ ∷ []))) ⊛ raw
+        (ensured 𝓤 H A entry.ended (entry.clauses 𝓤 H A mem run) (κ, tt) (r, (n, tt)) tt t)))) (id⊢ 𝓤 _) $ await ! tt $ pick ! (λ t.
+        split ! $ move ! (1 ∷ []) $ use1 W (raw (fact 𝓤 (asEntryFound t ≡ entryAt (now (r .slice)) n)))
+        (entry-said r t) $ heard ! (asEntryFound t ≡ entryAt (now (r .slice)) n) (λ e′. split ! $ move ! (1 ∷ []) $
         -- [the result; the token; what s owns; _5; …; _4; …; _3; …; _2; …; _1; …; room for _0; …]
         peeks ! S.the-row (Is S.the-row) (shows 𝓤 H A S.the-row) t (u′ ∷ []) (λ is′.
         land ! (from ! (stop !)) (init ! 13 refl (EL.lawful S.the-type S′.the-laws 𝓤 H A W tt .typed t _ is′ .0)) $
-        returns ! (look ! 13 refl) $ forget ! 3 refl $ forget ! 5 refl $ forget ! 7 refl $ forget ! 9 refl $ forget ! 11 refl $ forget ! 13 refl $ move ! (13 ∷ 14 ∷ []) $ free1 ! $ move ! (11 ∷ 12 ∷ []) $ free1 ! $ move ! (9 ∷ 10 ∷ []) $ free1 ! $ move ! (7 ∷ 8 ∷ []) $ free1 ! $ move ! (5 ∷ 6 ∷ []) $ free1 ! $ move ! (3 ∷ 4 ∷ []) $ free1 ! $ free0 ! $
+        returns ! (look ! 13 refl) $ forget ! 3 refl $ forget ! 5 refl $ forget ! 7 refl $ forget ! 9 refl $ forget ! 11 refl $ forget ! 13 refl $ move
+        ! (13 ∷ 14 ∷ []) $ free1 ! $ move ! (11 ∷ 12 ∷ []) $ free1 ! $ move ! (9 ∷ 10 ∷ []) $ free1 ! $ move ! (7 ∷ 8 ∷ []) $ free1 ! $ move ! (5 ∷ 6 ∷ [])
+        $ free1 ! $ move ! (3 ∷ 4 ∷ []) $ free1 ! $ free0 ! $
         by ! (exits t u′ (e′ ∙ ap (λ (l : List ℕ). entryAt l n) e))))))))))))))))
 
 module _ {M : Type 1} (𝓤 : URA M) (H : Heap 𝓤) (A : Atoms 𝓤) (W : Given 𝓤 H A) (mem : Memory → SProp 𝓤) (run : Routine → Fun 𝓤) where
   entry-of-walks : (C : Calls 𝓤 H) (Λ : Loops 𝓤 H) → FmC 𝓤 H (W .laws) C → Triple 𝓤 (C #of) (Of 𝓤 H A mem run) → Triple 𝓤 (C #entry) (Entry 𝓤 H A mem run)
       → Walks 𝓤 H A entry-of.ended stayed (WpFn 𝓤 H C Λ code.function) (entry-of.clauses 𝓤 H A mem run)
-  entry-of-walks C Λ fm known-of known-entry = walked 𝓤 H A entry-of.ended stayed (entry-of.clauses 𝓤 H A mem run) (WpFn 𝓤 H C Λ code.function) (λ κs. (slice-vals, (uint-vals w64, (uint-vals w64, (uint-vals w64, tt))))) (λ κs. (shr-slice-tells (named 0) (κs .0) u32, (uint-tells w64, (uint-tells w64, (uint-tells w64, tt)))))
-      (λ κs qs bounds a g are. via 𝓤 _ (fst∗ 𝓤 _ (emp 𝓤)) (walk 𝓤 H A W mem run (κs .0) (qs .0) (a .0) (a .1 .0) (a .1 .1 .0) (a .1 .1 .1 .0) (are .1 .0 .1) (are .1 .1 .0 .1) (are .1 .1 .1 .0 .1) C Λ fm known-of known-entry (are .0)))
+  entry-of-walks C Λ fm known-of known-entry =
+      walked 𝓤 H A entry-of.ended stayed (entry-of.clauses 𝓤 H A mem run) (WpFn 𝓤 H C Λ code.function)
+      (λ κs. (slice-vals, (uint-vals w64, (uint-vals w64, (uint-vals w64, tt)))))
+      (λ κs. (shr-slice-tells (named 0) (κs .0) u32, (uint-tells w64, (uint-tells w64, (uint-tells w64, tt)))))
+      (λ κs qs bounds a g are. via 𝓤 _ (fst∗ 𝓤 _ (emp 𝓤)) (walk 𝓤 H A W mem run (κs .0) (qs .0) (a .0) (a .1 .0) (a .1 .1 .0) (a .1 .1 .1 .0) (are .1 .0 .1)
+      (are .1 .1 .0 .1) (are .1 .1 .1 .0 .1) C Λ fm known-of known-entry (are .0)))
 
 entry-of-meets : {M : Type 1} (𝓤 : URA M) (H : Heap 𝓤) (A : Atoms 𝓤) (W : Given 𝓤 H A) (mem : Memory → SProp 𝓤) (run : Routine → Fun 𝓤) (𝓣 : Tables 𝓤 H)
     → Triple 𝓤 (𝓣 .C #of) (Of 𝓤 H A mem run) → Triple 𝓤 (𝓣 .C #entry) (Entry 𝓤 H A mem run)
     → Meets 𝓤 H A entry-of.signature (WpFn 𝓤 H (𝓣 .C) (𝓣 .Λ) code.function) (entry-of.spec 𝓤 H A mem run)
-entry-of-meets 𝓤 H A W mem run 𝓣 known-of known-entry = walk-meets 𝓤 H A entry-of.ended stayed W (goes-none-slice 𝓤 H A W 1 (0 ∷ []) tt (plain (λ _. u32)) yes, (goes-none 𝓤 H A W 1 (λ _. usize) yes (λ κs x f. refl), (goes-none 𝓤 H A W 1 (λ _. usize) yes (λ κs x f. refl), (goes-none 𝓤 H A W 1 (λ _. usize) yes (λ κs x f. refl), tt)))) (entry-of.clauses 𝓤 H A mem run) (WpFn 𝓤 H (𝓣 .C) (𝓣 .Λ) code.function) (WpFn-mono 𝓤 H (W .laws) 𝓣 code.function)
+entry-of-meets 𝓤 H A W mem run 𝓣 known-of known-entry = walk-meets 𝓤 H A entry-of.ended stayed W (
+  goes-none-slice 𝓤 H A W 1 (0 ∷ []) tt (plain (λ _. u32)) yes,
+  (
+    goes-none 𝓤 H A W 1 (λ _. usize) yes (λ κs x f. refl),
+    (goes-none 𝓤 H A W 1 (λ _. usize) yes (λ κs x f. refl), (goes-none 𝓤 H A W 1 (λ _. usize) yes (λ κs x f. refl), tt)),
+  ),
+) (entry-of.clauses 𝓤 H A mem run) (WpFn 𝓤 H (𝓣 .C) (𝓣 .Λ) code.function) (WpFn-mono 𝓤 H (W .laws) 𝓣 code.function)
     (entry-of-walks 𝓤 H A W mem run (𝓣 .C) (𝓣 .Λ) (fmOf 𝓤 H (W .laws) 𝓣) known-of known-entry)
 
 pub entry-of-spec : {M : Type 1} → stated.statement M

@@ -22,7 +22,8 @@ returns : tie.Need-returns
 returns c = leaf-refused _ _ _ _ _ _ _ _ (sym (c .before .before .before .check .ensures) ∙ ap asVerdict (c .before .verdict .given .1))
 
 returns-2 : tie.Need-returns-2
-returns-2 c = leaf-sought _ _ _ _ _ _ _ (sym (c .before .before .before .check .ensures) ∙ ap asVerdict (c .before .enum-told .given .1)) (c .leaf-from .ensures)
+returns-2 c =
+    leaf-sought _ _ _ _ _ _ _ (sym (c .before .before .before .check .ensures) ∙ ap asVerdict (c .before .enum-told .given .1)) (c .leaf-from .ensures)
 
 pub leaf-spec : {M : Type 1} → statement M
 leaf-spec =

@@ -37,7 +37,8 @@ loop-again c =
     (λ w.
     let kind = sym (c .before .kind-at .ensures) ∙ w .0 .taken in
     rw (w .1) (omega arith, omega arith, counting-leaf _ _ _ (tested .loop-test .taken) _ kind (turn .loop .inv .2)))
-    (λ w. rw (w .1) (omega arith, omega arith, counting-other _ _ _ (tested .loop-test .taken) _ (λ p. w .0 .left (c .before .kind-at .ensures ∙ p)) (turn .loop .inv .2)))
+    (λ w. rw (w .1)
+    (omega arith, omega arith, counting-other _ _ _ (tested .loop-test .taken) _ (λ p. w .0 .left (c .before .kind-at .ensures ∙ p)) (turn .loop .inv .2)))
     (c .if1 .came)
 
 returns : tie.Need-returns Inv-loop μ-loop

@@ -25,7 +25,9 @@ returns : tie.Need-returns
 returns c = entry-none _ _ _ _ _ _ _ (sym (c .before .before .leaf .ensures) ∙ ap asLeafFound (c .enum-told .given .1))
 
 returns-2 : tie.Need-returns-2
-returns-2 c = entry-read _ _ _ _ _ _ _ _ _ (sym (c .before .before .before .before .leaf .ensures) ∙ ap asLeafFound (c .before .before .found .given .1)) (c .entry-of .ensures)
+returns-2 c =
+    entry-read _ _ _ _ _ _ _ _ _ (sym (c .before .before .before .before .leaf .ensures) ∙ ap asLeafFound (c .before .before .found .given .1))
+    (c .entry-of .ensures)
 
 returns-3 : tie.Need-returns-3
 returns-3 c = entry-refused _ _ _ _ _ _ _ _ _ (sym (c .before .before .before .leaf .ensures) ∙ ap asLeafFound (c .before .found2 .given .1))

@@ -51,7 +51,8 @@ loop-again c =
     let tested = c .before .before in
     let turn = tested .before in
     ⊎-elim
-    (λ w. ap (leafFrom _ _ _ _) (w .2) ∙ seek-past _ _ _ _ (tested .loop-test .taken) _ (sym (c .before .kind-at .ensures) ∙ w .0 .taken) (w .1 .left) ∙ turn .loop .inv)
+    (λ w. ap (leafFrom _ _ _ _) (w .2) ∙ seek-past _ _ _ _ (tested .loop-test .taken) _ (sym (c .before .kind-at .ensures) ∙ w .0 .taken) (w .1 .left)
+    ∙ turn .loop .inv)
     (λ w. ap (leafFrom _ _ _ _) (w .1) ∙ seek-on _ _ _ _ (tested .loop-test .taken) _ (λ p. w .0 .left (c .before .kind-at .ensures ∙ p)) ∙ turn .loop .inv)
     (c .if1 .came)
 

@@ -37,7 +37,8 @@ returns c =
     let tested = c .before .before .before in
     let turn = tested .before in
     let start = turn .before .before .before in
-    sym (marked-large _ _ _ (turn .loop .i) (turn .loop .inv .0) (omega (arith, start .pre .0, tested .loop-test .taken)) _ (c .before .wide .ensures) (c .if1 .taken))
+    sym (marked-large _ _ _ (turn .loop .i) (turn .loop .inv .0) (omega (arith, start .pre .0, tested .loop-test .taken)) _ (c .before .wide .ensures)
+    (c .if1 .taken))
 
 slice-read-if2 : tie.Need-slice-read-if2 Inv-loop μ-loop
 slice-read-if2 c =
@@ -58,7 +59,8 @@ returns-2 c =
     let tested = after-wide .before .before in
     let turn = tested .before in
     let start = turn .before .before .before in
-    sym (marked-twice _ _ _ (turn .loop .i) (turn .loop .inv .0) (omega (arith, start .pre .0, tested .loop-test .taken)) _ (after-wide .wide .ensures) (chosen .if1 .left) (c .if2 .taken))
+    sym (marked-twice _ _ _ (turn .loop .i) (turn .loop .inv .0) (omega (arith, start .pre .0, tested .loop-test .taken)) _ (after-wide .wide .ensures)
+    (chosen .if1 .left) (c .if2 .taken))
 
 slice-write-seen : tie.Need-slice-write-seen Inv-loop μ-loop
 slice-write-seen c =
@@ -84,8 +86,11 @@ loop-again c =
     let after-wide = chosen .before in
     let tested = after-wide .before .before in
     let turn = tested .before in
-    let start = turn .before .before .before in
-    (marked-more _ _ _ (turn .loop .i) (turn .loop .inv .0) (omega (arith, start .pre .0, tested .loop-test .taken)) _ (after-wide .wide .ensures) (chosen .if1 .left) (c .if2 .left), simp length-set (turn .loop .inv .1))
+    let start = turn .before .before .before in (
+      marked-more _ _ _ (turn .loop .i) (turn .loop .inv .0) (omega (arith, start .pre .0, tested .loop-test .taken)) _ (after-wide .wide .ensures)
+          (chosen .if1 .left) (c .if2 .left),
+      simp length-set (turn .loop .inv .1),
+    )
 
 same-length-3 : tie.Need-same-length-3 Inv-loop μ-loop
 same-length-3 c = c .before .loop .inv .1

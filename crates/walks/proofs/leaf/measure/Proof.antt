@@ -57,10 +57,12 @@ returns c =
     let p = pointOf (a .probe .now) in
     let read = after-triangle-at .triangle-at .ensures ∙ ap (triangleAt (a .triangles .now)) (after-wide .wide .ensures) in
     let point : asPoint (after-held .held .result) ≡ heldPoint binary32 (triangleAt (a .triangles .now) (a .t)) p =
-    after-held .held .ensures ∙ ap (heldFrom (asTriangle (after-triangle-at .triangle-at .result))) (after-closest-point .closest-point .ensures ∙ ap (closestPoint binary32 (asTriangle (after-triangle-at .triangle-at .result))) (after-point-of .point-of .ensures))
+    after-held .held .ensures ∙ ap (heldFrom (asTriangle (after-triangle-at .triangle-at .result))) (after-closest-point .closest-point .ensures
+    ∙ ap (closestPoint binary32 (asTriangle (after-triangle-at .triangle-at .result))) (after-point-of .point-of .ensures))
     ∙ ap (λ (t : Triangle). heldFrom t (closestPoint binary32 t p)) read in
     let is : asHit (after-hit-at .hit-at .result) ≡ hit binary32 (a .triangles .now) p (a .t) =
-    after-hit-at .hit-at .ensures ∙ ap (λ (x : Point). seen (asPoint (after-held .held .result)) x (a .t)) (after-point-of .point-of .ensures) ∙ ap (λ (q : Point). seen q p (a .t)) point in
+    after-hit-at .hit-at .ensures ∙ ap (λ (x : Point). seen (asPoint (after-held .held .result)) x (a .t)) (after-point-of .point-of .ensures)
+    ∙ ap (λ (q : Point). seen q p (a .t)) point in
     rw (chosen .if1 .taken) (c .offer .ensures ∙ ap (λ (h : Hit). offered (fourthOf (a .probe .now)) h (kept (hitOf (a .best .now) (a .number .now)))) is)
 
 hit-at-requires-2 : tie.Need-hit-at-requires-2
@@ -82,7 +84,13 @@ returns-2 c =
     let a = start .args in
     let p = pointOf (a .probe .now) in
     let is : asHit (after-hit-at2 .hit-at2 .result) ≡ sourceHit binary32 (a .triangles .now) p (a .t) =
-    rw (after-hit-at2 .hit-at2 .ensures, after-closest-point .closest-point .ensures, after-triangle-at .triangle-at .ensures, after-wide .wide .ensures, after-point-of .point-of .ensures) in
+    rw (
+      after-hit-at2 .hit-at2 .ensures,
+      after-closest-point .closest-point .ensures,
+      after-triangle-at .triangle-at .ensures,
+      after-wide .wide .ensures,
+      after-point-of .point-of .ensures,
+    ) in
     rw (chosen .if1 .left) (c .keep-smaller .ensures ∙ ap (λ (h : Hit). keepSmaller h (kept (hitOf (a .best .now) (a .number .now)))) is)
 
 pub measure-spec : {M : Type 1} → statement M

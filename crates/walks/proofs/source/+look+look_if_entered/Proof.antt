@@ -69,7 +69,8 @@ look-measure-leaf-requires t c κs =
     let known3 = after-links-of .before .before in
     let start = known3 .before .before .before in
     let a = start .args in
-    leaf-needs (a .triangles .now) (a .order .now) (a .links .now) (a .boxes .now) (a .depth) (a .node) (a .measured) _ _ _ (after-links-of .links-of .ensures) (start .pre .1) (chosen .if1 .taken)
+    leaf-needs (a .triangles .now) (a .order .now) (a .links .now) (a .boxes .now) (a .depth) (a .node) (a .measured) _ _ _ (after-links-of .links-of .ensures)
+    (start .pre .1) (chosen .if1 .taken)
 
 look-returns : (t : ℕ) → look-lts.Need-returns (look-calls t) (look-at t) look.Post
 look-returns t c =
@@ -80,7 +81,8 @@ look-returns t c =
     let a = start .args in
     let how = sourceSearch binary32 (a .triangles .now) (a .boxes .now) (pointOf (a .probe .now)) (fourthOf (a .probe .now)) in
     let s = soughtOf (a .best .now) (a .number .now) (a .measured) in
-    root-leaf-answers (a .triangles .now) (a .order .now) (a .links .now) (a .boxes .now) (a .depth) (a .node) (a .measured) _ _ _ (after-links-of .links-of .ensures) (start .pre .1) how s _ (chosen .if1 .taken) (c .measure-leaf .ensures)
+    root-leaf-answers (a .triangles .now) (a .order .now) (a .links .now) (a .boxes .now) (a .depth) (a .node) (a .measured) _ _ _
+    (after-links-of .links-of .ensures) (start .pre .1) how s _ (chosen .if1 .taken) (c .measure-leaf .ensures)
 
 look-sub-below : (t : ℕ) → look-lts.Need-sub-below (look-calls t) (look-at t) look.Post
 look-sub-below t c =
@@ -88,7 +90,8 @@ look-sub-below t c =
     let known3 = after-links-of .before .before in
     let start = known3 .before .before .before in
     let a = start .args in
-    levels-remaining (a .triangles .now) (a .order .now) (a .links .now) (a .boxes .now) (a .depth) (a .node) (a .measured) _ _ _ (after-links-of .links-of .ensures) (start .pre .1) (c .if1 .left)
+    levels-remaining (a .triangles .now) (a .order .now) (a .links .now) (a .boxes .now) (a .depth) (a .node) (a .measured) _ _ _
+    (after-links-of .links-of .ensures) (start .pre .1) (c .if1 .left)
 
 look-look-if-entered-requires : (t : ℕ) → look-lts.Need-look-if-entered-requires (look-calls t) (look-at t) look.Post
 look-look-if-entered-requires t c κs =
@@ -97,8 +100,11 @@ look-look-if-entered-requires t c κs =
     let known3 = after-links-of .before .before in
     let start = known3 .before .before .before in
     let a = start .args in (
-      falls-in (a .depth) t (levels-remaining (a .triangles .now) (a .order .now) (a .links .now) (a .boxes .now) (a .depth) (a .node) (a .measured) _ _ _ (after-links-of .links-of .ensures) (start .pre .1) (chosen .if1 .left)) (start .pre .0),
-      right-needs (a .triangles .now) (a .order .now) (a .links .now) (a .boxes .now) (a .depth - 1) _ _ (a .measured) (pair-needs (a .triangles .now) (a .order .now) (a .links .now) (a .boxes .now) (a .depth) (a .node) (a .measured) _ _ _ (after-links-of .links-of .ensures) (start .pre .1) (chosen .if1 .left)),
+      falls-in (a .depth) t (levels-remaining (a .triangles .now) (a .order .now) (a .links .now) (a .boxes .now) (a .depth) (a .node) (a .measured) _ _ _
+          (after-links-of .links-of .ensures) (start .pre .1) (chosen .if1 .left)) (start .pre .0),
+      right-needs (a .triangles .now) (a .order .now) (a .links .now) (a .boxes .now) (a .depth - 1) _ _ (a .measured)
+          (pair-needs (a .triangles .now) (a .order .now) (a .links .now) (a .boxes .now) (a .depth) (a .node) (a .measured) _ _ _
+          (after-links-of .links-of .ensures) (start .pre .1) (chosen .if1 .left)),
     )
 
 look-look-if-entered-requires-2 : (t : ℕ) → look-lts.Need-look-if-entered-requires-2 (look-calls t) (look-at t) look.Post
@@ -111,8 +117,11 @@ look-look-if-entered-requires-2 t c κs =
     let a = start .args in
     let how = sourceSearch binary32 (a .triangles .now) (a .boxes .now) (pointOf (a .probe .now)) (fourthOf (a .probe .now)) in
     let s = soughtOf (a .best .now) (a .number .now) (a .measured) in (
-      falls-in (a .depth) t (levels-remaining (a .triangles .now) (a .order .now) (a .links .now) (a .boxes .now) (a .depth) (a .node) (a .measured) _ _ _ (after-links-of .links-of .ensures) (start .pre .1) (chosen .if1 .left)) (start .pre .0),
-      then-left-needs (a .triangles .now) (a .order .now) (a .links .now) (a .boxes .now) (a .depth - 1) _ _ (a .measured) (pair-needs (a .triangles .now) (a .order .now) (a .links .now) (a .boxes .now) (a .depth) (a .node) (a .measured) _ _ _ (after-links-of .links-of .ensures) (start .pre .1) (chosen .if1 .left)) how s _ refl (after-look-if-entered .look-if-entered .ensures),
+      falls-in (a .depth) t (levels-remaining (a .triangles .now) (a .order .now) (a .links .now) (a .boxes .now) (a .depth) (a .node) (a .measured) _ _ _
+          (after-links-of .links-of .ensures) (start .pre .1) (chosen .if1 .left)) (start .pre .0),
+      then-left-needs (a .triangles .now) (a .order .now) (a .links .now) (a .boxes .now) (a .depth - 1) _ _ (a .measured)
+          (pair-needs (a .triangles .now) (a .order .now) (a .links .now) (a .boxes .now) (a .depth) (a .node) (a .measured) _ _ _
+          (after-links-of .links-of .ensures) (start .pre .1) (chosen .if1 .left)) how s _ refl (after-look-if-entered .look-if-entered .ensures),
     )
 
 look-returns-2 : (t : ℕ) → look-lts.Need-returns-2 (look-calls t) (look-at t) look.Post
@@ -125,10 +134,13 @@ look-returns-2 t c =
     let a = start .args in
     let how = sourceSearch binary32 (a .triangles .now) (a .boxes .now) (pointOf (a .probe .now)) (fourthOf (a .probe .now)) in
     let s = soughtOf (a .best .now) (a .number .now) (a .measured) in
-    root-pair-answers (a .triangles .now) (a .order .now) (a .links .now) (a .boxes .now) (a .depth) (a .node) (a .measured) _ _ _ (after-links-of .links-of .ensures) (start .pre .1) how s _ (chosen .if1 .left)
-    (right-answers how (a .order .now) (a .links .now) (a .depth - 1) _ _ s _ _ refl (after-look-if-entered .look-if-entered .ensures) (c .look-if-entered2 .ensures))
+    root-pair-answers (a .triangles .now) (a .order .now) (a .links .now) (a .boxes .now) (a .depth) (a .node) (a .measured) _ _ _
+    (after-links-of .links-of .ensures) (start .pre .1) how s _ (chosen .if1 .left)
+    (right-answers how (a .order .now) (a .links .now) (a .depth - 1) _ _ s _ _ refl (after-look-if-entered .look-if-entered .ensures)
+    (c .look-if-entered2 .ensures))
 
-look-if-entered-does-enter-requires : (t : ℕ) → look-if-entered-lts.Need-does-enter-requires (look-if-entered-calls t) (look-if-entered-at t) look-if-entered.Post
+look-if-entered-does-enter-requires : (t : ℕ)
+    → look-if-entered-lts.Need-does-enter-requires (look-if-entered-calls t) (look-if-entered-at t) look-if-entered.Post
 look-if-entered-does-enter-requires t c κs =
     let start = c .before .before .before .before in
     let a = start .args in
@@ -150,7 +162,8 @@ look-if-entered-returns t c =
     let a = start .args in
     let how = sourceSearch binary32 (a .triangles .now) (a .boxes .now) (pointOf (a .probe .now)) (fourthOf (a .probe .now)) in
     let s = soughtOf (a .best .now) (a .number .now) (a .measured) in
-    c .look .ensures ∙ walk-looked how (a .order .now) (a .links .now) (a .depth) (a .node) s (ap not (sym (after-does-enter .does-enter .ensures) ∙ chosen .if1 .taken))
+    c .look .ensures
+    ∙ walk-looked how (a .order .now) (a .links .now) (a .depth) (a .node) s (ap not (sym (after-does-enter .does-enter .ensures) ∙ chosen .if1 .taken))
 
 look-if-entered-returns-2 : (t : ℕ) → look-if-entered-lts.Need-returns-2 (look-if-entered-calls t) (look-if-entered-at t) look-if-entered.Post
 look-if-entered-returns-2 t c =

@@ -21,7 +21,12 @@ element-copy-out-result c = search needs
 
 returns : tie.Need-returns
 unfolding enters
-returns c = rw (c .before .before .contains-point .ensures, c .before .squared-distance .ensures, c .before .before .before .point-of .ensures, c .before .before .before .before .node-box .ensures)
+returns c = rw (
+  c .before .before .contains-point .ensures,
+  c .before .squared-distance .ensures,
+  c .before .before .before .point-of .ensures,
+  c .before .before .before .before .node-box .ensures,
+)
 
 pub does-enter-spec : {M : Type 1} → statement M
 does-enter-spec =

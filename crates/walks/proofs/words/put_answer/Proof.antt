@@ -47,7 +47,13 @@ returns-2 c =
     let after-bits-of2 = after-bits-of3 .before in
     let after-bits-of = after-bits-of2 .before in
     let at-answer = after-bits-of .before .before .before in
-    rw (at-answer .answer .given .1, ← after-bits-of .bits-of .ensures, ← after-bits-of2 .bits-of2 .ensures, ← after-bits-of3 .bits-of3 .ensures, ← after-bits-of4 .bits-of4 .ensures) (after-put-six2 .put-six2 .ensures)
+    rw (
+      at-answer .answer .given .1,
+      ← after-bits-of .bits-of .ensures,
+      ← after-bits-of2 .bits-of2 .ensures,
+      ← after-bits-of3 .bits-of3 .ensures,
+      ← after-bits-of4 .bits-of4 .ensures,
+    ) (after-put-six2 .put-six2 .ensures)
 
 pub put-answer-spec : {M : Type 1} → statement M
 put-answer-spec =

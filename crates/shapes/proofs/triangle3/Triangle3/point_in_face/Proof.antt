@@ -34,7 +34,15 @@ returns c =
     let after-va = after-minus .before in
     let after-vc = after-va .before in
     let after-vb = after-vc .before in
-    rw (c .along2 .ensures, c .before .minus2 .ensures, after-along .along .ensures, after-minus .minus .ensures, after-va .va .ensures, after-vc .vc .ensures, after-vb .vb .ensures)
+    rw (
+      c .along2 .ensures,
+      c .before .minus2 .ensures,
+      after-along .along .ensures,
+      after-minus .minus .ensures,
+      after-va .va .ensures,
+      after-vc .vc .ensures,
+      after-vb .vb .ensures,
+    )
 
 pub point-in-face-spec : {M : Type 1} → statement M
 point-in-face-spec =
