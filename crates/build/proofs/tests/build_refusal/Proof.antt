@@ -35,28 +35,26 @@ triangle-count-requires c κs = search needs
 
 mul-max-nodes : tie.Need-mul-max-nodes
 mul-max-nodes c =
-    let counted = c in
-    let tested = counted .before in
+    let tested = c .before in
     let early = tested .before .before in
     let good = triangles-passed _ (row-passed _ _ _ (or-test _ _ _ _ _ (ends _ _ (early .before .before .triangles-refusal .ensures))
     (early .before .settings-refusal .ensures) (early .or .ensures)) (tested .before .refuses .ensures) (tested .if1 .left) .0) in
-    omega (arith, good .few, counted .triangle-count .ensures)
+    omega (arith, good .few, c .triangle-count .ensures)
 
 sub-max-nodes : tie.Need-sub-max-nodes
 sub-max-nodes c =
-    let counted = c in
-    let tested = counted .before in
+    let tested = c .before in
     let early = tested .before .before in
     let good = triangles-passed _ (row-passed _ _ _ (or-test _ _ _ _ _ (ends _ _ (early .before .before .triangles-refusal .ensures))
     (early .before .settings-refusal .ensures) (early .or .ensures)) (tested .before .refuses .ensures) (tested .if1 .left) .0) in
-    omega (arith, good .some, counted .triangle-count .ensures)
+    omega (arith, good .some, c .triangle-count .ensures)
 
 room-refusal-requires : tie.Need-room-refusal-requires
 room-refusal-requires c κs = search needs
 
 mul-room-refusal : tie.Need-mul-room-refusal
 mul-room-refusal c =
-    let counted = c .before .before in
+    let counted = c .before in
     let tested = counted .before in
     let early = tested .before .before in
     let good = triangles-passed _ (row-passed _ _ _ (or-test _ _ _ _ _ (ends _ _ (early .before .before .triangles-refusal .ensures))
@@ -71,7 +69,7 @@ or-requires-2 c κs = search needs
 
 mul-room-refusal-2 : tie.Need-mul-room-refusal-2
 mul-room-refusal-2 c =
-    let counted = c .before .before .before .before in
+    let counted = c .before .before .before in
     let tested = counted .before in
     let early = tested .before .before in
     let good = triangles-passed _ (row-passed _ _ _ (or-test _ _ _ _ _ (ends _ _ (early .before .before .triangles-refusal .ensures))
@@ -88,10 +86,10 @@ returns-2 : tie.Need-returns-2
 unfolding buildRefusal
 returns-2 c =
     let first = c .before .before .before .before in
-    let counted = first .before .before in
+    let counted = first .before in
     let tested = counted .before in
     let early = tested .before .before in
-    let a = early .before .before .before .args in
+    let a = early .before .before .before .before .args in
     row-goes-on _ _ _ _ _
     (or-test _ _ _ _ _ (ends _ _ (early .before .before .triangles-refusal .ensures)) (early .before .settings-refusal .ensures) (early .or .ensures))
     (tested .before .refuses .ensures) (tested .if1 .left)

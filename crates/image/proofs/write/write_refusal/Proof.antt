@@ -36,7 +36,8 @@ image-room-refusal-requires c κs =
     let good = triangles-passed _ (row-passed _ _ _
     (or-test _ _ _ _ _ (ends _ _ (early .before .before .triangles-refusal .ensures)) (early .before .settings-refusal .ensures) (early .or .ensures))
     (tested .before .refuses .ensures) (tested .if1 .left) .0) in
-    (early .before .before .before .pre, rw (c .triangle-count .ensures) (good .few))
+    let start = early .before .before .before .before in
+    (start .before .before .before .pre, rw (c .triangle-count .ensures) (good .few))
 
 tree-refusal-requires : tie.Need-tree-refusal-requires
 tree-refusal-requires c κs =
