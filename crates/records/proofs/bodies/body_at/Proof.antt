@@ -12,31 +12,16 @@ returns c =
     let start = c .before .before in
     rw (record-past (start .args .kind) (now (start .args .bytes)) (start .args .at) (omega arith))
 
-sub-last : tie.Need-sub-last
-sub-last c = search needs
-
 returns-2 : tie.Need-returns-2
 returns-2 c =
     let start = c .before .before .before in
     rw (record-past (start .args .kind) (now (start .args .bytes)) (start .args .at) (omega arith))
-
-u32-at-requires : tie.Need-u32-at-requires
-u32-at-requires c κs = search needs
-
-cast-size : tie.Need-cast-size
-cast-size c = search needs
 
 returns-3 : tie.Need-returns-3
 returns-3 c =
     let chosen2 = c .before .before in
     let start = chosen2 .before .before .before in
     rw (record-past (start .args .kind) (now (start .args .bytes)) (start .args .at) (omega (arith, c .before .«u32-at» .ensures)))
-
-add-u16-at : tie.Need-add-u16-at
-add-u16-at c = search needs
-
-u16-at-requires : tie.Need-u16-at-requires
-u16-at-requires c κs = search needs
 
 returns-4 : tie.Need-returns-4
 returns-4 c =
@@ -57,14 +42,5 @@ returns-5 c =
 pub body-at-spec : {M : Type 1} → statement M
 body-at-spec =
     tie.close
-    (tie.spec
-    returns
-    sub-last
-    returns-2
-    u32-at-requires
-    cast-size
-    returns-3
-    add-u16-at
-    u16-at-requires
-    returns-4
-    returns-5)
+    (tie.spec returns (λ c. search needs) returns-2 (λ c κs. search needs) (λ c. search needs) returns-3 (λ c. search needs) (λ c κs. search needs)
+    returns-4 returns-5)

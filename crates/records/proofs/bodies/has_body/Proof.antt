@@ -9,15 +9,6 @@ use borrow.Author.Needs.{needs}
 use Rattle.records.proofs.bodies.has_body.Statement.{statement}
 use Rattle.records.proofs.bodies.has_body.Tie as tie
 
-body-at-requires : tie.Need-body-at-requires
-body-at-requires c κs = search needs
-
-enum-known-size : tie.Need-enum-known-size
-enum-known-size c = search needs
-
-enum-told : tie.Need-enum-told
-enum-told c = search needs
-
 returns : tie.Need-returns
 returns c =
     let a = c .before .before .before .before .args in
@@ -33,4 +24,5 @@ returns-2 c =
     sym (exactly-decides (a .kind) (now (a .bytes)) (a .at) _ (there .0) (there .1) (a .wanted))
 
 pub has-body-spec : {M : Type 1} → statement M
-has-body-spec = tie.close (tie.spec body-at-requires enum-known-size enum-told returns returns-2)
+has-body-spec = tie.close
+    (tie.spec (λ c κs. search needs) (λ c. search needs) (λ c. search needs) returns returns-2)

@@ -11,9 +11,6 @@ use borrow.Author.Needs.{needs}
 use Rattle.records.proofs.bodies.has_settings.Statement.{statement}
 use Rattle.records.proofs.bodies.has_settings.Tie as tie
 
-has-body-requires : tie.Need-has-body-requires
-has-body-requires c κs = search needs
-
 u16-at-requires : tie.Need-u16-at-requires
 u16-at-requires c κs =
     omega (arith, right-within (exactly-right 1 8 (now (c .before .before .before .args .bytes)) 0 (sym (c .before .«has-body» .ensures) ∙ c .if1 .taken)))
@@ -27,4 +24,5 @@ returns-2 : tie.Need-returns-2
 returns-2 c = sym (settings-missing version1 (now (c .before .before .before .args .bytes)) (sym (c .before .«has-body» .ensures) ∙ c .if1 .left))
 
 pub has-settings-spec : {M : Type 1} → statement M
-has-settings-spec = tie.close (tie.spec has-body-requires u16-at-requires returns returns-2)
+has-settings-spec = tie.close
+    (tie.spec (λ c κs. search needs) u16-at-requires returns returns-2)

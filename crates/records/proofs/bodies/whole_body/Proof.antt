@@ -10,23 +10,11 @@ use borrow.Author.Needs.{needs}
 use Rattle.records.proofs.bodies.whole_body.Statement.{statement}
 use Rattle.records.proofs.bodies.whole_body.Tie as tie
 
-body-at-requires : tie.Need-body-at-requires
-body-at-requires c κs = search needs
-
-enum-known-size : tie.Need-enum-known-size
-enum-known-size c = search needs
-
-enum-told : tie.Need-enum-told
-enum-told c = search needs
-
 returns : tie.Need-returns
 returns c =
     let a = c .before .before .before .before .args in
     rw (none-there (a .kind) (whole (a .entry)) (now (a .bytes)) (a .at)
     (is-missing (a .kind) (now (a .bytes)) (a .at) (c .before .before .«body-at» .ensures) (c .«enum-told» .given .1)))
-
-rem-if1 : tie.Need-rem-if1
-rem-if1 c = search needs
 
 returns-2 : tie.Need-returns-2
 returns-2 c =
@@ -51,4 +39,4 @@ returns-3 c =
 pub whole-body-spec : {M : Type 1} → statement M
 whole-body-spec =
     tie.close
-    (tie.spec body-at-requires enum-known-size enum-told returns rem-if1 returns-2 returns-3)
+    (tie.spec (λ c κs. search needs) (λ c. search needs) (λ c. search needs) returns (λ c. search needs) returns-2 returns-3)

@@ -5,15 +5,6 @@ use borrow.Author.Needs.{needs}
 use Rattle.records.proofs.numbers.put_u32.Statement.{statement}
 use Rattle.records.proofs.numbers.put_u32.Tie as tie
 
-put-u16-requires : tie.Need-put-u16-requires
-put-u16-requires c κs = search needs
-
-put-u16-requires-2 : tie.Need-put-u16-requires-2
-put-u16-requires-2 c κs = search needs
-
-same-length : tie.Need-same-length
-same-length c = search needs
-
 returns : tie.Need-returns
 returns c =
     let after-put-u162 = c .before .before in
@@ -24,4 +15,5 @@ returns c =
     )
 
 pub put-u32-spec : {M : Type 1} → statement M
-put-u32-spec = tie.close (tie.spec put-u16-requires put-u16-requires-2 same-length returns)
+put-u32-spec = tie.close
+    (tie.spec (λ c κs. search needs) (λ c κs. search needs) (λ c. search needs) returns)
