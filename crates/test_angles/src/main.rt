@@ -108,7 +108,7 @@ fn replay_small_mesh(
     let mut out = [7.0f32; 17];
     let used = 9 * triangles;
     let numbers = 3 * points;
-    let verdict = winding(&corners[..used], &asked[..numbers], &mut out);
+    let verdict = winding(&corners[0..used], &asked[0..numbers], &mut out);
     if verdict.refuses() | (out[points] != 7.0) {
         return tally.counted(false, at, out[points], 0);
     }

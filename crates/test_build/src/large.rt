@@ -68,10 +68,10 @@ fn put_tree(nodes: usize, depth: usize, order: &[u32], links: &[u32], boxes: &[f
     let kinds = 3 * (nodes % 8192);
     let numbers = 6 * (nodes % 8192);
     if kinds <= links.len() {
-        put(digest_numbers(&links[..kinds]));
+        put(digest_numbers(&links[0..kinds]));
     }
     if numbers <= boxes.len() {
-        put(digest_floats(&boxes[..numbers]));
+        put(digest_floats(&boxes[0..numbers]));
     }
     io::write_all(1, b"\n");
 }
@@ -113,14 +113,14 @@ fn build_case(case: Case, triangles: &[f32]) {
     let mut all = [7u32; 4096];
     let mut links = [7u32; 24573];
     let mut boxes = [7.0f32; 49146];
-    let order = &mut all[..case.triangles % 4097];
+    let order = &mut all[0..case.triangles % 4097];
     build_into(case, triangles, order, &mut links, &mut boxes);
 }
 
 fn run(case: Case) {
     put_case(case);
     let mut all = [0.0f32; 36864];
-    let triangles = &mut all[..9 * (case.triangles % 4097)];
+    let triangles = &mut all[0..9 * (case.triangles % 4097)];
     fill(triangles, case.range);
     build_case(case, triangles);
 }

@@ -1,4 +1,5 @@
 // What the build answers for two triangles with rooms that just suffice, and with one room an entry short.
+ghost use Prim.Native.Nat.{_≤_};
 use build::calls::Built;
 use build::calls::build;
 
@@ -49,41 +50,27 @@ fn built_in(order: &mut [u32], links: &mut [u32], boxes: &mut [f32]) -> Built {
     build(&triangles, 1, 1, 40, order, links, boxes)
 }
 
-fn put_room() {
+// Builds with rooms of these lengths.
+fn put_rooms(entries: usize, numbers: usize, coordinates: usize)
+    requires { ⌜ (entries ≤ 2) × (numbers ≤ 9) × (coordinates ≤ 18) ⌝ }
+{
     let mut order = [7u32; 2];
     let mut links = [7u32; 9];
     let mut boxes = [7.0f32; 18];
-    io::write_all(1, b"room for all:");
-    put_built(built_in(&mut order, &mut links, &mut boxes));
-}
-
-fn put_short_order() {
-    let mut order = [7u32; 1];
-    let mut links = [7u32; 9];
-    let mut boxes = [7.0f32; 18];
-    io::write_all(1, b"order one short:");
-    put_built(built_in(&mut order, &mut links, &mut boxes));
-}
-
-fn put_short_links() {
-    let mut order = [7u32; 2];
-    let mut links = [7u32; 8];
-    let mut boxes = [7.0f32; 18];
-    io::write_all(1, b"links one short:");
-    put_built(built_in(&mut order, &mut links, &mut boxes));
-}
-
-fn put_short_boxes() {
-    let mut order = [7u32; 2];
-    let mut links = [7u32; 9];
-    let mut boxes = [7.0f32; 17];
-    io::write_all(1, b"boxes one short:");
-    put_built(built_in(&mut order, &mut links, &mut boxes));
+    put_built(built_in(
+        &mut order[0..entries],
+        &mut links[0..numbers],
+        &mut boxes[0..coordinates],
+    ));
 }
 
 pub(crate) fn put_all() {
-    put_room();
-    put_short_order();
-    put_short_links();
-    put_short_boxes();
+    io::write_all(1, b"room for all:");
+    put_rooms(2, 9, 18);
+    io::write_all(1, b"order one short:");
+    put_rooms(1, 9, 18);
+    io::write_all(1, b"links one short:");
+    put_rooms(2, 8, 18);
+    io::write_all(1, b"boxes one short:");
+    put_rooms(2, 9, 17);
 }

@@ -104,27 +104,20 @@ fn put_nodes(nodes: usize) {
     put(lists);
 }
 
-fn put_node_counts() {
-    let mut nodes = 0;
-    while nodes < 5 {
-        put_nodes(nodes);
-        nodes += 1;
+// Prints for changes of the tree: 0 to 4 are the node count, the next nine a link as 3, and the last 18 a box number as minus zero.
+fn put_change(k: usize) {
+    if k < 5 {
+        put_nodes(k);
+    } else if k < 14 {
+        put_link(k - 5, 3);
+    } else if k < 32 {
+        put_box(k - 14, -0.0);
     }
 }
 
-fn put_links() {
-    let mut i = 0;
-    while i < 9 {
-        put_link(i, 3);
-        i += 1;
-    }
-}
-
-fn put_boxes() {
-    let mut i = 0;
-    while i < 18 {
-        put_box(i, -0.0);
-        i += 1;
+fn put_changes(from: usize, to: usize) {
+    for k in from..to {
+        put_change(k);
     }
 }
 
@@ -187,8 +180,8 @@ fn put_comb(n: usize)
     let coordinates = 9 * n;
     let nodes = 2 * n - 1;
     put_verdict(check(
-        &triangles[..coordinates],
-        &order[..n],
+        &triangles[0..coordinates],
+        &order[0..n],
         &links,
         &boxes,
         nodes,
@@ -203,11 +196,11 @@ fn main() {
     put_order(0, 0);
     put_order(0, 2);
     io::write_all(1, b"\nnodes 0 to 4");
-    put_node_counts();
+    put_changes(0, 5);
     io::write_all(1, b"\neach link as 3");
-    put_links();
+    put_changes(5, 14);
     io::write_all(1, b"\neach box number as minus zero");
-    put_boxes();
+    put_changes(14, 32);
     io::write_all(1, b"\n64 levels");
     put_comb(64);
     io::write_all(1, b"\n65 levels");

@@ -90,37 +90,29 @@ fn put_held(lo: u32, hi: u32, x: u32) {
     put_end();
 }
 
-fn put_held_all(lo: u32, hi: u32) {
+// Prints a pair of SOME before the first of its triples, and the triple. The last number changes fastest.
+fn put_triple(k: usize) {
     let some = SOME;
-    for k in 0..10 {
-        put_held(lo, hi, some[k]);
-    }
-}
-
-fn put_pairs(first: u32) {
-    let some = SOME;
-    for k in 0..10 {
-        let second = some[k];
+    let first = some[k / 100 % 10];
+    let second = some[k / 10 % 10];
+    if k % 10 == 0 {
         put_pair(first, second);
-        put_held_all(first, second);
     }
+    put_held(first, second, some[k % 10]);
 }
 
-fn put_every_value() {
+// The 24 values come first, then the 1,000 triples.
+fn put_case(k: usize) {
     let each = EACH;
-    for k in 0..24 {
+    if k < 24 {
         put_each(each[k]);
-    }
-}
-
-fn put_every_pair() {
-    let some = SOME;
-    for k in 0..10 {
-        put_pairs(some[k]);
+    } else {
+        put_triple(k - 24);
     }
 }
 
 fn main() {
-    put_every_value();
-    put_every_pair();
+    for k in 0..1024 {
+        put_case(k);
+    }
 }

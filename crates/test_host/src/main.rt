@@ -1,8 +1,6 @@
 // Builds an image for each case on standard input, as a C host would, and prints the status, in hex, and the lent bytes.
 // A case is the strategy, the leaf minimum, the maximum depth and the number of lent bytes, two bytes each, then the length of the triangles' bytes,
 // in four bytes, and the triangles' bytes. tests/records/generate.rs made the cases and, by a reading of its own, `stdout`.
-ghost use Prim.Native.Nat.{_+_, _≤_};
-ghost use lib.ListN.{length};
 
 fn put_status(status: u64) {
     let mut line = [b'\n'; 17];
@@ -44,35 +42,28 @@ fn put_build(
             strategy,
             leaf_minimum,
             maximum_depth,
-            &mut image[..room],
+            &mut image[0..room],
             triangles,
         );
     }
 }
 
-fn number_at(bytes: &[u8], at: usize) -> usize
-    requires { ⌜ at + 2 ≤ length (now bytes) ⌝ }
-{
-    records::numbers::u16_at(bytes, at) as usize
-}
-
-fn put_cases(bytes: &[u8]) {
-    let mut at = 0;
-    while at + 12 <= bytes.len() {
-        let start = at + 12;
-        let size = records::numbers::u32_at(bytes, at + 8) as usize;
-        if bytes.len() - start < size {
-            return;
-        }
-        let end = start + size;
+// Builds for the next case, if there is one that fits.
+fn put_next() {
+    let mut head = [0u8; 8];
+    if io::read_full(0, &mut head) < 8 {
+        return;
+    }
+    let mut all = [0; 256];
+    let size = test_words::read_case(&mut all);
+    if size <= 256 {
         put_build(
-            number_at(bytes, at),
-            number_at(bytes, at + 2),
-            number_at(bytes, at + 4),
-            number_at(bytes, at + 6),
-            &bytes[start..end],
+            records::numbers::u16_at(&head, 0) as usize,
+            records::numbers::u16_at(&head, 2) as usize,
+            records::numbers::u16_at(&head, 4) as usize,
+            records::numbers::u16_at(&head, 6) as usize,
+            &all[0..size],
         );
-        at = end;
     }
 }
 
@@ -83,8 +74,8 @@ fn put_too_many() {
 }
 
 fn main() {
-    let mut buffer = io::large_buffer();
-    let n = io::read_full(0, &mut buffer);
-    put_cases(&buffer[..n]);
+    for turn in 0..100usize {
+        put_next();
+    }
     put_too_many();
 }

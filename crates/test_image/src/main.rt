@@ -12,7 +12,7 @@ use records::layout::ImageLayout;
 
 fn show(line: [u8; 96], end: usize) {
     if end <= 96 {
-        io::write_all(1, &line[..end]);
+        io::write_all(1, &line[0..end]);
     }
 }
 
@@ -90,7 +90,7 @@ fn write_tested(
         ImageWritten::Refused { number, place } => put_refusal(number, place),
         ImageWritten::Bytes(end) => {
             if end <= 300 {
-                put_same(check::same(&out[..end], bytes));
+                put_same(check::same(&out[0..end], bytes));
             }
         }
     }
@@ -110,7 +110,7 @@ fn write_again(
 {
     let mut out = [0; 400];
     let end = image::put::put_image(settings, triangles, order, links, boxes, nodes, &mut out);
-    put_same(check::same(&out[..end], bytes));
+    put_same(check::same(&out[0..end], bytes));
     write_tested(bytes, settings, triangles, order, links, boxes, nodes);
 }
 
@@ -144,23 +144,19 @@ fn put_contents(bytes: &[u8]) {
     }
 }
 
-fn put_cases(bytes: &[u8]) {
-    let mut at = 0;
-    while at + 4 <= bytes.len() {
-        let start = at + 4;
-        let size = records::numbers::u32_at(bytes, at) as usize;
-        if bytes.len() - start < size {
-            return;
-        }
-        let end = start + size;
-        put_layouts(&bytes[start..end]);
-        put_contents(&bytes[start..end]);
-        at = end;
+// Prints for the next case, if there is one that fits.
+fn put_next() {
+    let mut all = [0; 512];
+    let size = test_words::read_case(&mut all);
+    if size <= 512 {
+        let bytes = &all[0..size];
+        put_layouts(bytes);
+        put_contents(bytes);
     }
 }
 
 fn main() {
-    let mut buffer = io::large_buffer();
-    let n = io::read_full(0, &mut buffer);
-    put_cases(&buffer[..n]);
+    for turn in 0..1000usize {
+        put_next();
+    }
 }

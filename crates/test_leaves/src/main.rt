@@ -157,7 +157,7 @@ fn with_boxes(
     links: &[u32],
 ) {
     let mut all = [0.0f32; 282];
-    let boxes = &mut all[..6 * (head.nodes % 48)];
+    let boxes = &mut all[0..6 * (head.nodes % 48)];
     fill_floats(bytes, from, boxes);
     put_tree(triangles, order, links, boxes, head.nodes);
 }
@@ -165,7 +165,7 @@ fn with_boxes(
 fn with_links(bytes: &[u8], from: usize, head: Head, triangles: &[f32], order: &[u32]) {
     let mut all = [0u32; 141];
     let size = 3 * (head.nodes % 48);
-    let links = &mut all[..size];
+    let links = &mut all[0..size];
     fill_numbers(bytes, from, links);
     with_boxes(bytes, more(from, 4 * size), head, triangles, order, links);
 }
@@ -173,7 +173,7 @@ fn with_links(bytes: &[u8], from: usize, head: Head, triangles: &[f32], order: &
 fn with_order(bytes: &[u8], from: usize, head: Head, triangles: &[f32]) {
     let mut all = [0u32; 24];
     let size = head.triangles % 25;
-    let order = &mut all[..size];
+    let order = &mut all[0..size];
     fill_numbers(bytes, from, order);
     with_links(bytes, more(from, 4 * size), head, triangles, order);
 }
@@ -181,7 +181,7 @@ fn with_order(bytes: &[u8], from: usize, head: Head, triangles: &[f32]) {
 fn with_triangles(bytes: &[u8], head: Head) {
     let mut all = [0.0f32; 216];
     let size = 9 * (head.triangles % 25);
-    let triangles = &mut all[..size];
+    let triangles = &mut all[0..size];
     fill_floats(bytes, 0, triangles);
     with_order(bytes, 4 * size, head, triangles);
 }
@@ -190,7 +190,7 @@ fn with_triangles(bytes: &[u8], head: Head) {
 fn run_body(head: Head) {
     let size = 40 * (head.triangles % 25) + 36 * (head.nodes % 48);
     let mut all = [0u8; 2700];
-    let body = &mut all[..size];
+    let body = &mut all[0..size];
     if io::read_full(0, body) < size {
         return;
     }

@@ -35,7 +35,7 @@ fn put_length(length: usize)
     let zeros = [0.0; 36873];
     io::write_all(1, b"length ");
     put_number(length);
-    put_verdict(triangles_refusal(&zeros[..length]));
+    put_verdict(triangles_refusal(&zeros[0..length]));
 }
 
 // Two triangles, all zeros but for the number with this pattern at this place.
@@ -51,12 +51,6 @@ fn put_triangles_with(pattern: u32, place: usize)
     put_verdict(triangles_refusal(&numbers));
 }
 
-fn put_first_points(numbers: [f32; 6], length: usize)
-    requires { ⌜ length ≤ 6 ⌝ }
-{
-    put_verdict(points_refusal(&numbers[..length]));
-}
-
 // A point list of `length` numbers, all zeros but for a NaN at this place.
 fn put_points(length: usize, place: usize)
     requires { ⌜ length ≤ 6 ⌝ }
@@ -68,7 +62,7 @@ fn put_points(length: usize, place: usize)
     put_number(length);
     io::write_all(1, b"with a NaN at ");
     put_number(place);
-    put_first_points(numbers, length);
+    put_verdict(points_refusal(&numbers[0..length]));
 }
 
 fn put_distance(pattern: u32) {

@@ -1,7 +1,6 @@
 // Replays what the Rust answers for boxes, planes and closest points (tests/oracle/shapes.rs made the list on standard input).
 // Prints the first ten words that differ, how many cases there are and how many words differ.
 // A case is 62 words: two triangles, a point, then the answers.
-ghost use Prim.Native.Nat.{_<_};
 use shapes::box3::Box3;
 use shapes::plane3::Plane3;
 use shapes::triangle3::Triangle3;
@@ -142,48 +141,15 @@ fn replay(words: &[u32; 62], tally: Tally) -> Tally {
     }
 }
 
-fn wide(b: u8) -> u32
-    ensures { λ r. ⌜ r < 256 ⌝ }
-{
-    b as u32
-}
-
-fn word_at(block: &[u8], at: usize) -> u32 {
-    if at < 65472 {
-        if at + 4 <= block.len() {
-            let low = wide(block[at]) + 256 * wide(block[at + 1]);
-            let high = wide(block[at + 2]) + 256 * wide(block[at + 3]);
-            return low + 65536 * high;
-        }
-    }
-    0
-}
-
-fn words_at(block: &[u8], at: usize) -> [u32; 62] {
-    let mut words = [0u32; 62];
-    for i in 0..62 {
-        words[i] = word_at(block, at % 65472 + 4 * i);
-    }
-    words
-}
-
-// Replays the cases of one block.
-fn replay_block(block: &[u8], tally: Tally) -> Tally {
-    let mut now = tally;
-    for k in 0..264 {
-        if 248 * k + 248 <= block.len() {
-            let words = words_at(block, 248 * k);
-            now = replay(&words, now);
-        }
-    }
-    now
-}
-
-// Replays the next block of standard input: 264 cases, or what remains.
+// Replays the next case of standard input, if there is one.
 fn replay_next(tally: Tally) -> Tally {
-    let mut block = [0u8; 65472];
-    let n = io::read_full(0, &mut block);
-    replay_block(&block[..n], tally)
+    let mut bytes = [0u8; 248];
+    if io::read_full(0, &mut bytes) < 248 {
+        return tally;
+    }
+    let mut words = [0u32; 62];
+    test_words::fill_numbers(&bytes, 0, &mut words);
+    replay(&words, tally)
 }
 
 fn replay_all() -> Tally {
@@ -192,7 +158,7 @@ fn replay_all() -> Tally {
         differ: 0,
     };
     let mut turn: usize = 0;
-    while turn < 100 {
+    while turn < 10000 {
         tally = replay_next(tally);
         turn += 1;
     }

@@ -184,8 +184,8 @@ fn compare_tree(
         return tally;
     }
     let ordered = tally.words(b"order", order, bytes, places.order);
-    let linked = ordered.words(b"links", &links[..kinds], bytes, places.links);
-    linked.floats(b"boxes", &boxes[..numbers], bytes, places.boxes)
+    let linked = ordered.words(b"links", &links[0..kinds], bytes, places.links);
+    linked.floats(b"boxes", &boxes[0..numbers], bytes, places.boxes)
 }
 
 // Compares the tree that is built of the case's triangles and settings with the Rust's.
@@ -223,7 +223,7 @@ fn built(bytes: &[u8], head: Head, places: Places, triangles: &[f32], tally: Tal
     let mut all = [7u32; 24];
     let mut links = [7u32; 141];
     let mut boxes = [7.0f32; 282];
-    let order = &mut all[..head.triangles % 25];
+    let order = &mut all[0..head.triangles % 25];
     built_tree(
         bytes,
         head,
@@ -248,7 +248,7 @@ fn with_boxes(
     tally: Tally,
 ) -> Tally {
     let mut all = [0.0f32; 282];
-    let boxes = &mut all[..6 * (head.nodes % 48)];
+    let boxes = &mut all[0..6 * (head.nodes % 48)];
     fill_floats(bytes, places.boxes, boxes);
     answered(
         bytes,
@@ -276,7 +276,7 @@ fn answered(
 ) -> Tally {
     let size = 6 * (head.points % 21);
     let mut first = [7u32; 120];
-    let source = &mut first[..size];
+    let source = &mut first[0..size];
     let sourced = queries::calls::source_query(
         triangles,
         order,
@@ -288,7 +288,7 @@ fn answered(
         source,
     );
     let mut second = [7u32; 120];
-    let sure = &mut second[..size];
+    let sure = &mut second[0..size];
     let sured = queries::calls::sure_query(
         triangles,
         order,
@@ -316,7 +316,7 @@ fn with_links(
     tally: Tally,
 ) -> Tally {
     let mut all = [0u32; 141];
-    let links = &mut all[..3 * (head.nodes % 48)];
+    let links = &mut all[0..3 * (head.nodes % 48)];
     fill_numbers(bytes, places.links, links);
     with_boxes(bytes, head, places, triangles, points, order, links, tally)
 }
@@ -330,21 +330,21 @@ fn with_order(
     tally: Tally,
 ) -> Tally {
     let mut all = [0u32; 24];
-    let order = &mut all[..head.triangles % 25];
+    let order = &mut all[0..head.triangles % 25];
     fill_numbers(bytes, places.order, order);
     with_links(bytes, head, places, triangles, points, order, tally)
 }
 
 fn with_points(bytes: &[u8], head: Head, places: Places, triangles: &[f32], tally: Tally) -> Tally {
     let mut all = [0.0f32; 60];
-    let points = &mut all[..3 * (head.points % 21)];
+    let points = &mut all[0..3 * (head.points % 21)];
     fill_floats(bytes, places.points, points);
     with_order(bytes, head, places, triangles, points, tally)
 }
 
 fn with_triangles(bytes: &[u8], head: Head, places: Places, tally: Tally) -> Tally {
     let mut all = [0.0f32; 216];
-    let triangles = &mut all[..9 * (head.triangles % 25)];
+    let triangles = &mut all[0..9 * (head.triangles % 25)];
     fill_floats(bytes, 0, triangles);
     let grown = built(bytes, head, places, triangles, tally);
     with_points(bytes, head, places, triangles, grown)
@@ -358,7 +358,7 @@ fn replay_body(head: Head, tally: Tally) -> Tally {
     if size > 8192 {
         return tally;
     }
-    let body = &mut all[..size];
+    let body = &mut all[0..size];
     let got = io::read_full(0, body);
     if got < size {
         return tally;

@@ -29,6 +29,25 @@ pub fn pattern_at(bytes: &[u8], at: usize) -> u32
     records::numbers::u32_at(bytes, at)
 }
 
+// Reads the next case of standard input: its length, in four bytes, then its bytes. Answers the length, or more than `out` holds where no case that
+// fits is there.
+pub fn read_case(out: &mut [u8]) -> usize {
+    let room = out.len();
+    let mut head = [0u8; 4];
+    if io::read_full(0, &mut head) < 4 {
+        return room + 1;
+    }
+    let size = pattern_at(&head, 0) as usize;
+    if size > room {
+        return size;
+    }
+    let body = &mut out[0..size];
+    if io::read_full(0, body) < size {
+        return room + 1;
+    }
+    size
+}
+
 // Fills `out` with the numbers of the words from byte `from` on.
 pub fn fill_floats(bytes: &[u8], from: usize, out: &mut [f32])
     ensures { λ _. ⌜ now (out .exit) ≡ Words.floatsFrom (now (bytes .entry)) from (length (now (out .entry))) ⌝ }

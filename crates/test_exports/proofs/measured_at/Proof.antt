@@ -7,12 +7,10 @@ use borrow.Author.Needs.{needs}
 use Rattle.test_exports.proofs.measured_at.Statement.{statement}
 use Rattle.test_exports.proofs.measured_at.Tie as tie
 
-search-requires : tie.Need-search-requires
-search-requires c κs = search needs
-
 returns : tie.Need-returns
 unfolding limitOf
 returns c = ap (λ (s : Sought Answer). s .measured) (c .search .ensures)
 
 pub measured-at-spec : {M : Type 1} → statement M
-measured-at-spec = tie.close (tie.spec search-requires returns)
+measured-at-spec = tie.close
+    (tie.spec (λ c κs. search needs) returns)

@@ -5,14 +5,9 @@ use borrow.Author.Needs.{needs}
 use Rattle.test_exports.proofs.timing_check.Statement.{statement}
 use Rattle.test_exports.proofs.timing_check.Tie as tie
 
-check-requires : tie.Need-check-requires
-check-requires c κs = search needs
-
-one-passed-requires : tie.Need-one-passed-requires
-one-passed-requires c κs = search needs
-
 returns : tie.Need-returns
 returns c = c .one-passed .ensures ∙ ap onePassed (c .before .check .ensures)
 
 pub timing-check-spec : {M : Type 1} → statement M
-timing-check-spec = tie.close (tie.spec check-requires one-passed-requires returns)
+timing-check-spec = tie.close
+    (tie.spec (λ c κs. search needs) (λ c κs. search needs) returns)

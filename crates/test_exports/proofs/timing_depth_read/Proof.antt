@@ -5,14 +5,9 @@ use borrow.Author.Needs.{needs}
 use Rattle.test_exports.proofs.timing_depth_read.Statement.{statement}
 use Rattle.test_exports.proofs.timing_depth_read.Tie as tie
 
-depth-requires : tie.Need-depth-requires
-depth-requires c κs = search needs
-
-depth-read-requires : tie.Need-depth-read-requires
-depth-read-requires c κs = search needs
-
 returns : tie.Need-returns
 returns c = c .depth-read .ensures ∙ ap depthRead (c .before .depth .ensures)
 
 pub timing-depth-read-spec : {M : Type 1} → statement M
-timing-depth-read-spec = tie.close (tie.spec depth-requires depth-read-requires returns)
+timing-depth-read-spec = tie.close
+    (tie.spec (λ c κs. search needs) (λ c κs. search needs) returns)

@@ -15,12 +15,6 @@ use Rattle.test_exports.proofs.timing_measured.Tie as tie
 tested : (v test : Verdict) (b a : Bool) → v ≡ test → b ≡ refuses v → b ≡ a → refuses test ≡ a
 tested v test b a e r t = sym (ap refuses e) ∙ sym r ∙ t
 
-triangles-refusal-requires : tie.Need-triangles-refusal-requires
-triangles-refusal-requires c κs = search needs
-
-refuses-requires : tie.Need-refuses-requires
-refuses-requires c κs = search needs
-
 returns : tie.Need-returns
 unfolding measuredFirst
 returns c = when _ _ _ (tested _ _ _ _ (c .before .before .triangles-refusal .ensures) (c .before .refuses .ensures) (c .if1 .taken))
@@ -28,9 +22,6 @@ returns c = when _ _ _ (tested _ _ _ _ (c .before .before .triangles-refusal .en
 is-accepted-requires : tie.Need-is-accepted-requires
 is-accepted-requires c κs =
     triangles-passed _ (did-pass _ _ _ (c .before .before .triangles-refusal .ensures) (c .before .refuses .ensures) (c .if1 .left)) .few
-
-point-at-requires : tie.Need-point-at-requires
-point-at-requires c κs = search needs
 
 measured-at-requires : tie.Need-measured-at-requires
 measured-at-requires c κs =
@@ -80,13 +71,5 @@ returns-4 c =
 pub timing-measured-spec : {M : Type 1} → statement M
 timing-measured-spec =
     tie.close
-    (tie.spec
-    triangles-refusal-requires
-    refuses-requires
-    returns
-    is-accepted-requires
-    point-at-requires
-    measured-at-requires
-    returns-2
-    returns-3
-    returns-4)
+    (tie.spec (λ c κs. search needs) (λ c κs. search needs) returns is-accepted-requires (λ c κs. search needs) measured-at-requires returns-2
+    returns-3 returns-4)

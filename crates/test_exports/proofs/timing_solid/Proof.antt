@@ -16,15 +16,6 @@ returns-2 : tie.Need-returns-2
 unfolding angleOfOne ofBits div
 returns-2 c = unless _ _ _ (ne-eqb _ _ (c .if2 .taken)) ∙ when _ _ _ (eq-eqb _ _ (c .before .if1 .left))
 
-triangle-at-requires : tie.Need-triangle-at-requires
-triangle-at-requires c κs = search needs
-
-point-at-requires : tie.Need-point-at-requires
-point-at-requires c κs = search needs
-
-solid-angle-requires : tie.Need-solid-angle-requires
-solid-angle-requires c κs = search needs
-
 returns-3 : tie.Need-returns-3
 unfolding angleOfOne
 returns-3 c =
@@ -34,4 +25,5 @@ returns-3 c =
 
 pub timing-solid-spec : {M : Type 1} → statement M
 timing-solid-spec =
-    tie.close (tie.spec returns returns-2 triangle-at-requires point-at-requires solid-angle-requires returns-3)
+    tie.close
+    (tie.spec returns returns-2 (λ c κs. search needs) (λ c κs. search needs) (λ c κs. search needs) returns-3)

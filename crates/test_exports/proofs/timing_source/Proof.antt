@@ -5,15 +5,6 @@ use borrow.Author.Needs.{needs}
 use Rattle.test_exports.proofs.timing_source.Statement.{statement}
 use Rattle.test_exports.proofs.timing_source.Tie as tie
 
-source-query-requires : tie.Need-source-query-requires
-source-query-requires c κs = search needs
-
-one-passed-requires : tie.Need-one-passed-requires
-one-passed-requires c κs = search needs
-
-same-length : tie.Need-same-length
-same-length c = search needs
-
 returns : tie.Need-returns
 returns c =
     let after-source-query = c .before .before .before in (
@@ -23,4 +14,5 @@ returns c =
 
 pub timing-source-spec : {M : Type 1} → statement M
 timing-source-spec =
-    tie.close (tie.spec source-query-requires one-passed-requires same-length returns)
+    tie.close
+    (tie.spec (λ c κs. search needs) (λ c κs. search needs) (λ c. search needs) returns)

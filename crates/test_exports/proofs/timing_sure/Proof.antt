@@ -5,15 +5,6 @@ use borrow.Author.Needs.{needs}
 use Rattle.test_exports.proofs.timing_sure.Statement.{statement}
 use Rattle.test_exports.proofs.timing_sure.Tie as tie
 
-sure-query-requires : tie.Need-sure-query-requires
-sure-query-requires c κs = search needs
-
-one-passed-requires : tie.Need-one-passed-requires
-one-passed-requires c κs = search needs
-
-same-length : tie.Need-same-length
-same-length c = search needs
-
 returns : tie.Need-returns
 returns c =
     let after-sure-query = c .before .before .before in (
@@ -22,4 +13,5 @@ returns c =
     )
 
 pub timing-sure-spec : {M : Type 1} → statement M
-timing-sure-spec = tie.close (tie.spec sure-query-requires one-passed-requires same-length returns)
+timing-sure-spec = tie.close
+    (tie.spec (λ c κs. search needs) (λ c κs. search needs) (λ c. search needs) returns)

@@ -5,17 +5,9 @@ use borrow.Author.Needs.{needs}
 use Rattle.test_exports.proofs.timing_winding.Statement.{statement}
 use Rattle.test_exports.proofs.timing_winding.Tie as tie
 
-winding-requires : tie.Need-winding-requires
-winding-requires c κs = search needs
-
-one-passed-requires : tie.Need-one-passed-requires
-one-passed-requires c κs = search needs
-
-same-length : tie.Need-same-length
-same-length c = search needs
-
 returns : tie.Need-returns
 returns c = (c .one-passed .ensures ∙ ap onePassed (c .before .before .before .winding .ensures .0), search needs)
 
 pub timing-winding-spec : {M : Type 1} → statement M
-timing-winding-spec = tie.close (tie.spec winding-requires one-passed-requires same-length returns)
+timing-winding-spec = tie.close
+    (tie.spec (λ c κs. search needs) (λ c κs. search needs) (λ c. search needs) returns)

@@ -1,46 +1,17 @@
--- `test_gauge::main` is safe and ends: the turn is at most 100,000.
-use borrow.Author.Needs.{needs}
+-- `test_gauge::main` is safe and ends: the turn is at most 2,000.
 use Prim.Native.Nat.{_≤_, _-_}
+use borrow.Author.Needs.{needs}
 use Rattle.test_gauge.proofs.main.Statement.{statement}
 use Rattle.test_gauge.proofs.main.Tie as tie
 
 abbrev Inv-loop : tie.InvT-loop
-Inv-loop turn₀ turn = turn ≤ 100000
+Inv-loop turn₀ turn = turn ≤ 2000
 
 abbrev μ-loop : tie.MeasureT-loop
-μ-loop turn₀ turn = 100000 - turn
-
-loop-holds : tie.Need-loop-holds Inv-loop μ-loop
-loop-holds c = search needs
-
-print-next-requires : tie.Need-print-next-requires Inv-loop μ-loop
-print-next-requires c κs = search needs
-
-returns : tie.Need-returns Inv-loop μ-loop
-returns c = search needs
-
-add-turn : tie.Need-add-turn Inv-loop μ-loop
-add-turn c = search needs
-
-loop-less : tie.Need-loop-less Inv-loop μ-loop
-loop-less c = search needs
-
-loop-again : tie.Need-loop-again Inv-loop μ-loop
-loop-again c = search needs
-
-returns-2 : tie.Need-returns-2 Inv-loop μ-loop
-returns-2 c = search needs
+μ-loop turn₀ turn = 2000 - turn
 
 pub main-spec : {M : Type 1} → statement M
 main-spec =
     tie.close
-    (tie.spec
-    Inv-loop
-    μ-loop
-    loop-holds
-    print-next-requires
-    returns
-    add-turn
-    loop-less
-    loop-again
-    returns-2)
+    (tie.spec Inv-loop μ-loop (λ c. search needs) (λ c κs. search needs) (λ c. search needs) (λ c. search needs) (λ c. search needs)
+    (λ c. search needs))

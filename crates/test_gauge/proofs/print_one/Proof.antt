@@ -22,19 +22,7 @@ array-share-prefix-out c = rw (put-long (c .before .print .ensures)) (c .before 
 slice-aggregate-write-all : tie.Need-slice-aggregate-write-all
 slice-aggregate-write-all c = sym (length-take-le _ _ (array-share-prefix-out (c .before)))
 
-write-all-requires : tie.Need-write-all-requires
-write-all-requires c κs = search needs
-
-returns : tie.Need-returns
-returns c = search needs
-
 pub print-one-spec : {M : Type 1} → statement M
 print-one-spec =
     tie.close
-    (tie.spec
-    slice-aggregate-print
-    print-requires
-    array-share-prefix-out
-    slice-aggregate-write-all
-    write-all-requires
-    returns)
+    (tie.spec slice-aggregate-print print-requires array-share-prefix-out slice-aggregate-write-all (λ c κs. search needs) (λ c. search needs))

@@ -5,9 +5,6 @@ use Rattle.test_words.specs.Words.{more}
 use Rattle.test_words.proofs.more.Statement.{statement}
 use Rattle.test_words.proofs.more.Tie as tie
 
-add-result : tie.Need-add-result
-add-result c = search needs
-
 returns : tie.Need-returns
 unfolding more
 returns c = rw (lt-ltb _ _ (c .before .if1 .taken), lt-ltb _ _ (c .if2 .taken))
@@ -21,4 +18,5 @@ unfolding more
 returns-3 c = rw (le-ltb _ _ (c .if1 .left))
 
 pub more-spec : {M : Type 1} → statement M
-more-spec = tie.close (tie.spec add-result returns returns-2 returns-3)
+more-spec = tie.close
+    (tie.spec (λ c. search needs) returns returns-2 returns-3)

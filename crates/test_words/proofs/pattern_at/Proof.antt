@@ -22,17 +22,12 @@ there s at w h e = rw (le-leb (at + 4) (length s) h) e
 returns : tie.Need-returns
 returns c = past _ _ (omega arith)
 
-sub-if2 : tie.Need-sub-if2
-sub-if2 c = search needs
-
 returns-2 : tie.Need-returns-2
 returns-2 c = past _ _ (omega arith)
-
-u32-at-requires : tie.Need-u32-at-requires
-u32-at-requires c κs = search needs
 
 returns-3 : tie.Need-returns-3
 returns-3 c = there _ _ _ (omega arith) (c .u32-at .ensures)
 
 pub pattern-at-spec : {M : Type 1} → statement M
-pattern-at-spec = tie.close (tie.spec returns sub-if2 returns-2 u32-at-requires returns-3)
+pattern-at-spec = tie.close
+    (tie.spec returns (λ c. search needs) returns-2 (λ c κs. search needs) returns-3)

@@ -5,15 +5,6 @@ use borrow.Author.Needs.{needs}
 use Rattle.test_angles.proofs.cases.case_at.Statement.{statement}
 use Rattle.test_angles.proofs.cases.case_at.Tie as tie
 
-root-case-requires : tie.Need-root-case-requires
-root-case-requires c κs = search needs
-
-angle-case-requires : tie.Need-angle-case-requires
-angle-case-requires c κs = search needs
-
-solid-case-requires : tie.Need-solid-case-requires
-solid-case-requires c κs = search needs
-
 returns : tie.Need-returns
 unfolding caseAt
 returns c = rw (eq-eqb _ _ (c .before .if1 .taken)) (c .root-case .ensures)
@@ -29,10 +20,4 @@ returns-3 c = rw (ne-eqb _ _ (c .before .before .if1 .left), ne-eqb _ _ (c .befo
 pub case-at-spec : {M : Type 1} → statement M
 case-at-spec =
     tie.close
-    (tie.spec
-    root-case-requires
-    returns
-    angle-case-requires
-    returns-2
-    solid-case-requires
-    returns-3)
+    (tie.spec (λ c κs. search needs) returns (λ c κs. search needs) returns-2 (λ c κs. search needs) returns-3)

@@ -4,12 +4,10 @@ use borrow.Author.Needs.{needs}
 use Rattle.test_angles.proofs.cases.is_near.Statement.{statement}
 use Rattle.test_angles.proofs.cases.is_near.Tie as tie
 
-absolute-requires : tie.Need-absolute-requires
-absolute-requires c κs = search needs
-
 returns : tie.Need-returns
 unfolding near
 returns c = rw (c .absolute .ensures)
 
 pub is-near-spec : {M : Type 1} → statement M
-is-near-spec = tie.close (tie.spec absolute-requires returns)
+is-near-spec = tie.close
+    (tie.spec (λ c κs. search needs) returns)

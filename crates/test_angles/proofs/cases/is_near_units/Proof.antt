@@ -22,23 +22,8 @@ module _ (ours a : Float) (found units below : ℕ) (A : a ≡ abs ours) (F : fo
   unfolding nearUnits
   under bits B h = rw (B, F, A, le-ltb _ _ (rw (F, A) at h))
 
-absolute-requires : tie.Need-absolute-requires
-absolute-requires c κs = search needs
-
-cut-requires : tie.Need-cut-requires
-cut-requires c κs = search needs
-
 returns : tie.Need-returns
 returns c = over _ _ _ _ _ (c .before .before .absolute .ensures) (c .before .cut .ensures) (c .if1 .taken)
-
-bits-of-requires : tie.Need-bits-of-requires
-bits-of-requires c κs = search needs
-
-add-result : tie.Need-add-result
-add-result c = search needs
-
-add-result-2 : tie.Need-add-result-2
-add-result-2 c = search needs
 
 returns-2 : tie.Need-returns-2
 returns-2 c = under _ _ _ _ _ (c .before .before .before .absolute .ensures) (c .before .before .cut .ensures) _ (c .bits-of .ensures) (c .before .if1 .left)
@@ -46,11 +31,4 @@ returns-2 c = under _ _ _ _ _ (c .before .before .before .absolute .ensures) (c 
 pub is-near-units-spec : {M : Type 1} → statement M
 is-near-units-spec =
     tie.close
-    (tie.spec
-    absolute-requires
-    cut-requires
-    returns
-    bits-of-requires
-    add-result
-    add-result-2
-    returns-2)
+    (tie.spec (λ c κs. search needs) (λ c κs. search needs) returns (λ c κs. search needs) (λ c. search needs) (λ c. search needs) returns-2)

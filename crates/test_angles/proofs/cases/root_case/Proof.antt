@@ -4,21 +4,6 @@ use borrow.Author.Needs.{needs}
 use Rattle.test_angles.proofs.cases.root_case.Statement.{statement}
 use Rattle.test_angles.proofs.cases.root_case.Tie as tie
 
-number-at-requires : tie.Need-number-at-requires
-number-at-requires c κs = search needs
-
-root-or-nan-requires : tie.Need-root-or-nan-requires
-root-or-nan-requires c κs = search needs
-
-place-requires : tie.Need-place-requires
-place-requires c κs = search needs
-
-word-at-requires : tie.Need-word-at-requires
-word-at-requires c κs = search needs
-
-bits-of-requires : tie.Need-bits-of-requires
-bits-of-requires c κs = search needs
-
 returns : tie.Need-returns
 unfolding rootCase
 returns c = rw (
@@ -32,10 +17,4 @@ returns c = rw (
 pub root-case-spec : {M : Type 1} → statement M
 root-case-spec =
     tie.close
-    (tie.spec
-    number-at-requires
-    root-or-nan-requires
-    place-requires
-    word-at-requires
-    bits-of-requires
-    returns)
+    (tie.spec (λ c κs. search needs) (λ c κs. search needs) (λ c κs. search needs) (λ c κs. search needs) (λ c κs. search needs) returns)

@@ -4,30 +4,6 @@ use borrow.Author.Needs.{needs}
 use Rattle.test_angles.proofs.cases.solid_case.Statement.{statement}
 use Rattle.test_angles.proofs.cases.solid_case.Tie as tie
 
-triangle-of-requires : tie.Need-triangle-of-requires
-triangle-of-requires c κs = search needs
-
-place-requires : tie.Need-place-requires
-place-requires c κs = search needs
-
-point-of-requires : tie.Need-point-of-requires
-point-of-requires c κs = search needs
-
-solid-angle-requires : tie.Need-solid-angle-requires
-solid-angle-requires c κs = search needs
-
-place-requires-2 : tie.Need-place-requires-2
-place-requires-2 c κs = search needs
-
-word-at-requires : tie.Need-word-at-requires
-word-at-requires c κs = search needs
-
-from-bits-requires : tie.Need-from-bits-requires
-from-bits-requires c κs = search needs
-
-is-near-requires : tie.Need-is-near-requires
-is-near-requires c κs = search needs
-
 returns : tie.Need-returns
 unfolding solidCase
 returns c =
@@ -51,13 +27,5 @@ returns c =
 pub solid-case-spec : {M : Type 1} → statement M
 solid-case-spec =
     tie.close
-    (tie.spec
-    triangle-of-requires
-    place-requires
-    point-of-requires
-    solid-angle-requires
-    place-requires-2
-    word-at-requires
-    from-bits-requires
-    is-near-requires
-    returns)
+    (tie.spec (λ c κs. search needs) (λ c κs. search needs) (λ c κs. search needs) (λ c κs. search needs) (λ c κs. search needs)
+    (λ c κs. search needs) (λ c κs. search needs) (λ c κs. search needs) returns)

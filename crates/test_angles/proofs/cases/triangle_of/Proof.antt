@@ -4,21 +4,6 @@ use borrow.Author.Needs.{needs}
 use Rattle.test_angles.proofs.cases.triangle_of.Statement.{statement}
 use Rattle.test_angles.proofs.cases.triangle_of.Tie as tie
 
-point-of-requires : tie.Need-point-of-requires
-point-of-requires c κs = search needs
-
-place-requires : tie.Need-place-requires
-place-requires c κs = search needs
-
-point-of-requires-2 : tie.Need-point-of-requires-2
-point-of-requires-2 c κs = search needs
-
-place-requires-2 : tie.Need-place-requires-2
-place-requires-2 c κs = search needs
-
-point-of-requires-3 : tie.Need-point-of-requires-3
-point-of-requires-3 c κs = search needs
-
 returns : tie.Need-returns
 unfolding triangleOf
 returns c = λ i. record {
@@ -30,10 +15,4 @@ returns c = λ i. record {
 pub triangle-of-spec : {M : Type 1} → statement M
 triangle-of-spec =
     tie.close
-    (tie.spec
-    point-of-requires
-    place-requires
-    point-of-requires-2
-    place-requires-2
-    point-of-requires-3
-    returns)
+    (tie.spec (λ c κs. search needs) (λ c κs. search needs) (λ c κs. search needs) (λ c κs. search needs) (λ c κs. search needs) returns)

@@ -4,15 +4,10 @@ use borrow.Author.Needs.{needs}
 use Rattle.test_angles.proofs.words.number_at.Statement.{statement}
 use Rattle.test_angles.proofs.words.number_at.Tie as tie
 
-word-at-requires : tie.Need-word-at-requires
-word-at-requires c κs = search needs
-
-from-bits-requires : tie.Need-from-bits-requires
-from-bits-requires c κs = search needs
-
 returns : tie.Need-returns
 unfolding numberAt
 returns c = rw (c .from-bits .ensures, c .before .word-at .ensures)
 
 pub number-at-spec : {M : Type 1} → statement M
-number-at-spec = tie.close (tie.spec word-at-requires from-bits-requires returns)
+number-at-spec = tie.close
+    (tie.spec (λ c κs. search needs) (λ c κs. search needs) returns)

@@ -4,24 +4,6 @@ use borrow.Author.Needs.{needs}
 use Rattle.test_angles.proofs.words.point_of.Statement.{statement}
 use Rattle.test_angles.proofs.words.point_of.Tie as tie
 
-place-requires : tie.Need-place-requires
-place-requires c κs = search needs
-
-number-at-requires : tie.Need-number-at-requires
-number-at-requires c κs = search needs
-
-place-requires-2 : tie.Need-place-requires-2
-place-requires-2 c κs = search needs
-
-number-at-requires-2 : tie.Need-number-at-requires-2
-number-at-requires-2 c κs = search needs
-
-place-requires-3 : tie.Need-place-requires-3
-place-requires-3 c κs = search needs
-
-number-at-requires-3 : tie.Need-number-at-requires-3
-number-at-requires-3 c κs = search needs
-
 returns : tie.Need-returns
 unfolding pointAt
 returns c =
@@ -41,11 +23,5 @@ returns c =
 pub point-of-spec : {M : Type 1} → statement M
 point-of-spec =
     tie.close
-    (tie.spec
-    place-requires
-    number-at-requires
-    place-requires-2
-    number-at-requires-2
-    place-requires-3
-    number-at-requires-3
-    returns)
+    (tie.spec (λ c κs. search needs) (λ c κs. search needs) (λ c κs. search needs) (λ c κs. search needs) (λ c κs. search needs)
+    (λ c κs. search needs) returns)

@@ -17,12 +17,6 @@ module _ (w v : ℕ) (e : w ≡ v) where
   large : 16384 ≤ w → 16384 ≡ cond (ltb v 16384) v 16384
   large h = rw (le-ltb v 16384 (rw e at h))
 
-word-at-requires : tie.Need-word-at-requires
-word-at-requires c κs = search needs
-
-cast-result : tie.Need-cast-result
-cast-result c = search needs
-
 returns : tie.Need-returns
 unfolding sizeAt
 returns c = small _ _ (c .before .word-at .ensures) (c .if1 .taken)
@@ -32,4 +26,5 @@ unfolding sizeAt
 returns-2 c = large _ _ (c .before .word-at .ensures) (c .if1 .left)
 
 pub size-at-spec : {M : Type 1} → statement M
-size-at-spec = tie.close (tie.spec word-at-requires cast-result returns returns-2)
+size-at-spec = tie.close
+    (tie.spec (λ c κs. search needs) (λ c. search needs) returns returns-2)

@@ -5,12 +5,6 @@ use Rattle.test_angles.specs.Words.{wordAt}
 use Rattle.test_angles.proofs.words.word_at.Statement.{statement}
 use Rattle.test_angles.proofs.words.word_at.Tie as tie
 
-mul-pattern-at : tie.Need-mul-pattern-at
-mul-pattern-at c = search needs
-
-pattern-at-requires : tie.Need-pattern-at-requires
-pattern-at-requires c κs = search needs
-
 returns : tie.Need-returns
 unfolding wordAt
 returns c = rw (c .pattern-at .ensures, lt-ltb _ _ (c .before .if1 .taken))
@@ -20,4 +14,5 @@ unfolding wordAt
 returns-2 c = rw (le-ltb _ _ (c .if1 .left))
 
 pub word-at-spec : {M : Type 1} → statement M
-word-at-spec = tie.close (tie.spec mul-pattern-at pattern-at-requires returns returns-2)
+word-at-spec = tie.close
+    (tie.spec (λ c. search needs) (λ c κs. search needs) returns returns-2)
