@@ -1,11 +1,14 @@
 -- What the answer about one record says of the bytes. The proofs of the layouts go from record to record by it.
-use mathlib.Core.Path.{_≡_, refl, sym, _∙_, subst}
+use mathlib.Core.Path.{_≡_, refl, sym, ap, _∙_, subst}
 use mathlib.Core.List.{List}
 use mathlib.Core.Bool.{Bool, true, false}
 use Prim.Native.Nat.{ℕ}
-use Rattle.spec_records.specs.Records.{sizeAt, isRecord, isRight}
-use Rattle.spec_records.proofs.Records.{RightRecord, right-parts}
-use Rattle.records.specs.Values.{bodyIf}
+use Rattle.spec_records.specs.Records.{Wants, wrong, whole, sizeAt, isRecord, isRight, laidOut}
+use Rattle.spec_records.specs.Layouts.{version1, settingsRight, opening}
+use Rattle.spec_records.proofs.Records.{RightRecord, right-parts, reach-start, reach-on, reach-wrong}
+use Rattle.spec_records.proofs.Layouts.{settings-right}
+use Rattle.records.specs.Values.{bodyIf, openingIf, openingOf}
+use Rattle.records.specs.declared.layout.Opening.the-variants as front
 use Rattle.records.specs.declared.bodies.Body.{Body}
 use Rattle.records.specs.declared.bodies.Body.the-variants.{Right, Wrong}
 
@@ -38,3 +41,35 @@ module _ (kind : ℕ) (test : List ℕ → Bool) (s : List ℕ) (at : ℕ) {r : 
   -- no body was answered: the record is not there, or its body fails the test
   pub is-wrong : r ≡ Wrong → isRight kind test s at ≡ false
   is-wrong e = if-wrong (isRight kind test s at) (sizeAt s at) (sym answer ∙ e)
+
+-- ---- the two records at the front
+-- settings and triangles are right, and the triangles' body has this size
+pub record Opened (s : List ℕ) (size : ℕ) : Type 0 where
+  pub settings : RightRecord 1 (settingsRight version1) s 0 8
+  pub triangles : RightRecord 2 (whole 36) s 14 size
+
+both-right : (settings triangles : Bool) (n size : ℕ) → openingIf settings triangles n ≡ front.Right size
+    → (settings ≡ true) × (triangles ≡ true) × (n ≡ size)
+both-right true true n size e = (refl, refl, (cc))
+both-right true false n size e = ((cc), (cc), (cc))
+both-right false triangles n size e = ((cc), (cc), (cc))
+
+-- a size was answered: both records are right
+pub is-opened : (s : List ℕ) {size : ℕ} → openingOf s ≡ front.Right size → Opened s size
+is-opened s {size} e =
+    let p = both-right (isRight 1 (settingsRight version1) s 0) (isRight 2 (whole 36) s 14) (sizeAt s 14) size e in
+    record {
+      settings = settings-right version1 s (p .0);
+      triangles = subst (RightRecord 2 (whole 36) s 14) (p .2) (right-parts 2 (whole 36) s 14 (p .1));
+    }
+
+module _ (next : List ℕ → Wants) (s : List ℕ) where
+  first-wrong : (settings triangles : Bool) → isRight 1 (settingsRight version1) s 0 ≡ settings → isRight 2 (whole 36) s 14 ≡ triangles
+      → (n at : ℕ) → openingIf settings triangles n ≡ front.Wrong at → laidOut (opening version1 next) s 0 ≡ wrong at
+  first-wrong false triangles e f n at g = reach-wrong (reach-start (opening version1 next) s) e ∙ ap wrong (cc)
+  first-wrong true false e f n at g = reach-wrong (reach-on (reach-start (opening version1 next) s) (settings-right version1 s e)) f ∙ ap wrong (cc)
+  first-wrong true true e f n at g = cc
+
+  -- an offset was answered: it is that of the first wrong record, whatever is wanted behind the two
+  pub not-opened : {at : ℕ} → openingOf s ≡ front.Wrong at → laidOut (opening version1 next) s 0 ≡ wrong at
+  not-opened {at} e = first-wrong (isRight 1 (settingsRight version1) s 0) (isRight 2 (whole 36) s 14) refl refl (sizeAt s 14) at e

@@ -1,10 +1,13 @@
 -- Bodies and layouts of the code as the definitions' own. The contracts compare by these.
 use Prim.Native.Nat.{ℕ}
 use mathlib.Core.Bool.{Bool, cond}
+use mathlib.Core.List.{List}
 use Rattle.records.specs.declared.bodies.Body.{Body}
 use Rattle.records.specs.declared.bodies.Body.the-variants as body
-use Rattle.spec_records.specs.Records.{Layout, wrong, bodies}
-use Rattle.spec_records.specs.Layouts.{version1, imageSpans, gaugeSpans}
+use Rattle.spec_records.specs.Records.{Layout, wrong, bodies, whole, sizeAt, isRight}
+use Rattle.spec_records.specs.Layouts.{version1, triangleSize, settingsRight, imageSpans, gaugeSpans}
+use Rattle.records.specs.declared.layout.Opening.{Opening}
+use Rattle.records.specs.declared.layout.Opening.the-variants as opening
 use Rattle.records.specs.declared.layout.ImageLayout.{ImageLayout}
 use Rattle.records.specs.declared.layout.ImageLayout.the-variants as image
 use Rattle.records.specs.declared.layout.GaugeLayout.{GaugeLayout}
@@ -13,6 +16,13 @@ use Rattle.records.specs.declared.layout.GaugeLayout.the-variants as gau
 -- the body that a record of this size has, if it is right
 abbrev pub bodyIf : Bool → ℕ → Body
 bodyIf right size = cond right (body.Right size) body.Wrong
+
+-- records 1 and 2 at the front: the size of the second's body, or the first that is wrong
+abbrev pub openingIf : (settings triangles : Bool) (size : ℕ) → Opening
+openingIf settings triangles size = cond settings (cond triangles (opening.Right size) (opening.Wrong 14)) (opening.Wrong 0)
+
+abbrev pub openingOf : List ℕ → Opening
+openingOf s = openingIf (isRight 1 (settingsRight version1) s 0) (isRight 2 (whole (triangleSize version1)) s 14) (sizeAt s 14)
 
 abbrev pub imageLaid : ImageLayout → Layout
 imageLaid (image.Right triangles nodes) = bodies (imageSpans version1 triangles nodes)

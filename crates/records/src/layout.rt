@@ -2,7 +2,8 @@
 ghost use mathlib.Core.Path.{_≡_};
 ghost use Rattle.spec_records.specs.Records.{laidOut};
 ghost use Rattle.spec_records.specs.Layouts.{version1, imageWants, gaugeWants};
-ghost use Rattle.records.specs.Values.{imageLaid, gaugeLaid};
+ghost use Rattle.records.specs.Values.{openingOf, imageLaid, gaugeLaid};
+ghost use Rattle.records.specs.declared.layout.Opening.the-variants.{Right};
 use crate::bodies::Body;
 use crate::bodies::has_body;
 use crate::bodies::has_settings;
@@ -20,16 +21,30 @@ pub enum GaugeLayout {
     Wrong(usize),
 }
 
-// The layout of an image.
-pub fn image_layout(bytes: &[u8]) -> ImageLayout
-    ensures { λ r. ⌜ imageLaid r ≡ laidOut (imageWants version1) (now (bytes .entry)) 0 ⌝ }
+// The size of the triangles' body, or the offset of the first wrong record.
+enum Opening {
+    Right(usize),
+    Wrong(usize),
+}
+
+// The two records that both begin with: settings and triangles.
+fn opening_of(bytes: &[u8]) -> Opening
+    ensures { λ r. ⌜ r ≡ openingOf (now (bytes .entry)) ⌝ }
 {
     if !has_settings(bytes) {
-        return ImageLayout::Wrong(0);
+        return Opening::Wrong(0);
     }
     let Body::Right(triangles) = whole_body(bytes, 14, 2, 36) else {
-        return ImageLayout::Wrong(14);
+        return Opening::Wrong(14);
     };
+    Opening::Right(triangles)
+}
+
+// The layout of an image whose triangles have this size.
+fn tree_layout(bytes: &[u8], triangles: usize) -> ImageLayout
+    requires { ⌜ openingOf (now bytes) ≡ Right triangles ⌝ }
+    ensures { λ r. ⌜ imageLaid r ≡ laidOut (imageWants version1) (now (bytes .entry)) 0 ⌝ }
+{
     let third = 20 + triangles;
     let order = 2 * (triangles / 36);
     if !has_body(bytes, third, 3, order) {
@@ -49,16 +64,21 @@ pub fn image_layout(bytes: &[u8]) -> ImageLayout
     }
 }
 
-// The layout of an input of `gauge`.
-pub fn gauge_layout(bytes: &[u8]) -> GaugeLayout
+// The layout of an image.
+pub fn image_layout(bytes: &[u8]) -> ImageLayout
+    ensures { λ r. ⌜ imageLaid r ≡ laidOut (imageWants version1) (now (bytes .entry)) 0 ⌝ }
+{
+    match opening_of(bytes) {
+        Opening::Right(triangles) => tree_layout(bytes, triangles),
+        Opening::Wrong(at) => ImageLayout::Wrong(at),
+    }
+}
+
+// The layout of an input of `gauge` whose triangles have this size.
+fn query_layout(bytes: &[u8], triangles: usize) -> GaugeLayout
+    requires { ⌜ openingOf (now bytes) ≡ Right triangles ⌝ }
     ensures { λ r. ⌜ gaugeLaid r ≡ laidOut gaugeWants (now (bytes .entry)) 0 ⌝ }
 {
-    if !has_settings(bytes) {
-        return GaugeLayout::Wrong(0);
-    }
-    let Body::Right(triangles) = whole_body(bytes, 14, 2, 36) else {
-        return GaugeLayout::Wrong(14);
-    };
     let third = 20 + triangles;
     let Body::Right(points) = whole_body(bytes, third, 5, 12) else {
         return GaugeLayout::Wrong(third);
@@ -74,5 +94,15 @@ pub fn gauge_layout(bytes: &[u8]) -> GaugeLayout
     GaugeLayout::Right {
         triangles: triangles / 36,
         points: points / 12,
+    }
+}
+
+// The layout of an input of `gauge`.
+pub fn gauge_layout(bytes: &[u8]) -> GaugeLayout
+    ensures { λ r. ⌜ gaugeLaid r ≡ laidOut gaugeWants (now (bytes .entry)) 0 ⌝ }
+{
+    match opening_of(bytes) {
+        Opening::Right(triangles) => query_layout(bytes, triangles),
+        Opening::Wrong(at) => GaugeLayout::Wrong(at),
     }
 }
