@@ -6,7 +6,7 @@ ghost use Rattle.spec_lists.specs.Reading.{triangleCount};
 ghost use Rattle.spec_host.specs.Status.{status};
 ghost use Rattle.spec_host.specs.Build.{imageMax, numbersOf, builtImage, bytesRefusal, ImagePut};
 ghost use Rattle.spec_host.specs.PointBytes.{answerBytes, windingBytes, afterBytes};
-ghost use Rattle.spec_search.specs.Calls.{sure, source};
+ghost use Rattle.spec_search.specs.Answers.{sure, source};
 ghost use Rattle.spec_host.specs.Requests.{contents, checkVerdict, queryVerdict, windingVerdict, answerIn};
 use host_ask::calls::check_image;
 use host_ask::calls::source_points;

@@ -8,7 +8,7 @@ ghost use Rattle.lists.specs.Values.{asVerdict};
 ghost use Rattle.spec_host.specs.PointBytes.{answerBytes, afterBytes};
 ghost use Rattle.spec_host.specs.Requests.{contents, requestRefusal, queryVerdict, answerIn};
 ghost use Rattle.spec_host.specs.Loading.{lateIn, Loaded, Ready};
-ghost use Rattle.queries.specs.Values.{asQuery};
+ghost use Rattle.walks.specs.Values.{asQuery};
 use crate::point_queries::ask_lists;
 use crate::tests::count_refusal;
 use crate::tests::early_refusal;
@@ -18,10 +18,10 @@ use image::get::settings_of;
 use lists::limits::MAX_NODES;
 use lists::limits::MAX_TRIANGLES;
 use lists::verdict::Verdict;
-use queries::query::Query;
 use records::entries::read_f32s;
 use records::layout::ImageLayout;
 use records::layout::image_layout;
+use walks::answer::Query;
 
 // Loads the tree, makes the tests 7, 8 and 9, and writes the answers.
 fn ask_tree(

@@ -6,16 +6,16 @@ ghost use Rattle.spec_lists.specs.Reading.{triangleCount};
 ghost use Rattle.lists.specs.Values.{asVerdict};
 ghost use Rattle.spec_host.specs.Status.{status, InPlace};
 ghost use Rattle.spec_host.specs.PointBytes.{answerBytes, windingBytes, afterBytes};
-ghost use Rattle.queries.specs.Values.{asQuery};
-ghost use Rattle.spec_search.specs.Calls.{sure, source};
+ghost use Rattle.walks.specs.Values.{asQuery};
+ghost use Rattle.spec_search.specs.Answers.{sure, source};
 ghost use Rattle.spec_host.specs.Requests.{contents, checkVerdict, queryVerdict, windingVerdict, answerIn};
 use crate::ask::ask;
 use crate::winding::winding_image;
 use host_bytes::status::encode;
 use lists::verdict::Verdict;
-use queries::query::Query;
 use records::layout::ImageLayout;
 use records::layout::image_layout;
+use walks::answer::Query;
 
 // The status of a verdict: the count, where it passed.
 fn encode_count(verdict: Verdict, count: usize) -> u64

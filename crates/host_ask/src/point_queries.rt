@@ -12,15 +12,15 @@ ghost use Rattle.spec_search.specs.Calls.{Searchable, answerBy};
 ghost use Rattle.spec_host.specs.Build.{numbersOf};
 ghost use Rattle.spec_host.specs.PointBytes.{answerBytes, afterBytes};
 ghost use Rattle.spec_host.specs.Loading.{lateRefusal, Ready};
-ghost use Rattle.queries.specs.Values.{asQuery};
+ghost use Rattle.walks.specs.Values.{asQuery};
 use host_bytes::answers::put_answer_bytes;
 use host_bytes::points::point_bytes_refusal;
 use host_bytes::points::point_in;
 use lists::tests::distance_refusal;
 use lists::verdict::Verdict;
-use queries::query::Query;
 use queries::query::answer_at;
 use tree::calls::tree_refusal;
+use walks::answer::Query;
 
 // The first of the tests 7, 8 and 9 that refuses.
 fn late_refusal(

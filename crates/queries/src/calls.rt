@@ -7,8 +7,7 @@ ghost use Rattle.spec_lists.specs.Reading as Reading;
 ghost use Rattle.lists.specs.Values as Verdicts;
 ghost use Rattle.spec_tables.specs.Tables as Tables;
 ghost use Rattle.spec_search.specs.Calls as Calls;
-ghost use Rattle.queries.specs.Values as Values;
-use crate::query::Query;
+ghost use Rattle.walks.specs.Values as Values;
 use crate::query::answer_at;
 use lists::reading::point_at;
 use lists::tests::distance_refusal;
@@ -18,6 +17,7 @@ use lists::tests::triangles_refusal;
 use lists::verdict::Verdict;
 use lists::verdict::room_refusal;
 use tree::calls::tree_refusal;
+use walks::answer::Query;
 use walks::words::put_answer;
 
 // The first of the tests 1 to 4, 6, 7, 8 and 9 that refuses.

@@ -1,21 +1,16 @@
-// Which of the two queries is made, and what it answers at one point.
+// What a query answers at one point.
 ghost use mathlib.Core.Path.{_≡_};
 ghost use lib.Ieee.{binary32};
 ghost use Rattle.shapes.specs.Values.{asPoint};
 ghost use Rattle.spec_numbers.specs.Axes.{Finite};
 ghost use Rattle.spec_shapes.specs.Points as Points;
 ghost use Rattle.spec_search.specs.Calls.{Searchable, answerBy};
-ghost use Rattle.walks.specs.Values.{asAnswer};
-ghost use Rattle.queries.specs.Values.{asQuery};
+ghost use Rattle.walks.specs.Values.{asQuery, asAnswer};
 use shapes::vec3::Vec3;
 use walks::answer::Answer;
 use walks::answer::Probe;
+use walks::answer::Query;
 use walks::sure;
-
-pub enum Query {
-    Sure,
-    Source,
-}
 
 // The answer at one point: that of a scan of all triangles, or that of the source walk.
 pub fn answer_at(

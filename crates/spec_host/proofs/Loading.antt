@@ -9,7 +9,8 @@ use Rattle.spec_image.specs.Image.{settingsIn, imageIn}
 use Rattle.spec_lists.specs.Limits.{maxTriangles}
 use Rattle.spec_lists.specs.Reading.{triangleCount}
 use Rattle.spec_lists.specs.Refusals.{refused, Settings}
-use Rattle.spec_search.specs.Calls.{Query, answerBy}
+use Rattle.spec_search.specs.Answers.{Query}
+use Rattle.spec_search.specs.Calls.{answerBy}
 use Rattle.spec_host.specs.Requests.{treeIn, answerIn}
 use Rattle.spec_host.specs.Loading.{earlyRefusal, lateRefusal, lateIn, Loaded, TreeLoaded}
 use Rattle.spec_host.proofs.Requests.{count-counts, triangles-long, too-many-nodes}

@@ -10,8 +10,8 @@ use Rattle.spec_image.specs.Reading.{sizeOf}
 use Rattle.spec_shapes.specs.Points.{Point}
 use Rattle.spec_lists.specs.Refusals.{Verdict, passes, refused, firstRefusal, trianglesRefusal, settingsRefusal, roomRefusal, distanceRefusal}
 use Rattle.spec_tree.specs.Refusals.{treeRefusal}
-use Rattle.spec_search.specs.Answers.{Answer}
-use Rattle.spec_search.specs.Calls.{Query, answerBy}
+use Rattle.spec_search.specs.Answers.{Query, Answer}
+use Rattle.spec_search.specs.Calls.{answerBy}
 use Rattle.spec_host.specs.PointBytes.{pointBytesRefusal}
 
 -- ---- the image

@@ -1,8 +1,13 @@
--- A query's answer: nothing, or a found surface point with its triangle number and squared distance; and its six numbers in a lent list.
+-- Which query is made, and its answer: nothing, or a found surface point with its triangle number and squared distance; and its six numbers in a lent list.
 use mathlib.Core.List.{List, [], _∷_}
 use Prim.Native.Nat.{ℕ}
 use lib.Ieee.{Float, Format, toBits}
 use Rattle.spec_shapes.specs.Points.{Point}
+
+-- the query that was added, or the one that is carried over
+pub data Query : Type 0 where
+  sure : Query
+  source : Query
 
 pub record Hit : Type 0 where
   pub point : Point

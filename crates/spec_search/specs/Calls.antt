@@ -11,7 +11,7 @@ use Rattle.spec_lists.specs.Passed.{GoodTriangles, GoodPoints}
 use Rattle.spec_lists.specs.Refusals.{Verdict, firstRefusal, trianglesRefusal, roomRefusal, pointsRefusal, distanceRefusal, afterVerdict}
 use Rattle.spec_tree.specs.Accepted.{accepted}
 use Rattle.spec_tree.specs.Refusals.{treeRefusal}
-use Rattle.spec_search.specs.Answers.{Answer, sixWords}
+use Rattle.spec_search.specs.Answers.{Query, sure, source, Answer, sixWords}
 use Rattle.spec_search.specs.Sure.{limitOf, scan}
 use Rattle.spec_search.specs.Source.{sourceWalk}
 
@@ -43,11 +43,7 @@ sureAnswer f triangles distance p = scan f triangles p (limitOf f distance)
 unfoldable pub sourceAnswer : Format → (triangles : List Float) (order links : List ℕ) (boxes : List Float) (nodes : ℕ) (distance : Float) → Point → Answer
 sourceAnswer f triangles order links boxes nodes distance p = sourceWalk f triangles order links boxes nodes p (limitOf f distance) .best
 
--- which of the two queries, and what it answers at a point
-pub data Query : Type 0 where
-  sure : Query
-  source : Query
-
+-- what either query answers at a point
 abbrev pub answerBy : Format → Query → (triangles : List Float) (order links : List ℕ) (boxes : List Float) (nodes : ℕ) (distance : Float) → Point → Answer
 answerBy f sure triangles order links boxes nodes distance = sureAnswer f triangles distance
 answerBy f source triangles order links boxes nodes distance = sourceAnswer f triangles order links boxes nodes distance

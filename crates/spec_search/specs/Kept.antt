@@ -6,7 +6,7 @@ use Prim.Native.Nat.{ℕ}
 use lib.Dec.{ltb}
 use lib.Ieee.{Float, Format, inf, lt, eq}
 use Rattle.spec_shapes.specs.Points.{Point}
-use Rattle.spec_search.specs.Answers.{Hit, Answer, nothing, found}
+use Rattle.spec_search.specs.Answers.{Query, sure, source, Hit, Answer, nothing, found}
 use Rattle.spec_search.specs.Sure.{tookSure}
 use Rattle.spec_search.specs.Source.{tookSource}
 
@@ -22,7 +22,7 @@ kept h = keptIf (eq (h .squared) (inf false)) h
 unfoldable pub nearer : Hit → Hit → Bool
 nearer h k = lt (h .squared) (k .squared) || (eq (h .squared) (k .squared) && ltb (h .triangle) (k .triangle))
 
--- what measuring a triangle does to what is kept: the sure query's way, or the source's
-abbrev pub tookBy : Bool → Format → List Float → Point → Float → ℕ → Answer → Answer
-tookBy true f triangles p limit = tookSure f triangles p limit
-tookBy false f triangles p limit = tookSource f triangles p
+-- what measuring a triangle does to what is kept, by the query that is made
+abbrev pub tookBy : Query → Format → List Float → Point → Float → ℕ → Answer → Answer
+tookBy sure f triangles p limit = tookSure f triangles p limit
+tookBy source f triangles p limit = tookSource f triangles p

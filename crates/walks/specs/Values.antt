@@ -1,4 +1,4 @@
--- The hits and answers of the code as the definitions' own, and the four lent numbers as what they stand for. The contracts compare by these.
+-- The queries, hits and answers of the code as the definitions' own, and the four lent numbers as what they stand for. The contracts compare by these.
 use mathlib.Core.List.{List}
 use Prim.Native.Nat.{ℕ}
 use lib.ListN.{getD}
@@ -8,10 +8,16 @@ use Rattle.spec_shapes.specs.Points.{Point}
 use Rattle.spec_search.specs.Answers as Answers
 use Rattle.spec_search.specs.Kept.{kept}
 use Rattle.spec_search.specs.Walk as Walk
+use Rattle.walks.specs.declared.answer.Query.{Query}
+use Rattle.walks.specs.declared.answer.Query.the-variants.{Sure, Source}
 use Rattle.walks.specs.declared.answer.Hit.{Hit}
 use Rattle.walks.specs.declared.answer.Sought.{Sought}
 use Rattle.walks.specs.declared.answer.Answer.{Answer}
 use Rattle.walks.specs.declared.answer.Answer.the-variants.{Nothing, Found}
+
+abbrev pub asQuery : Query → Answers.Query
+asQuery Sure = Answers.sure
+asQuery Source = Answers.source
 
 abbrev pub asHit : Hit → Answers.Hit
 asHit h = record { point = asPoint (h .point); squared = h .squared; triangle = h .triangle }

@@ -1,5 +1,11 @@
-// What a walk is given, and what it answers.
+// What a walk is given, and what it answers; which query is made.
 use shapes::vec3::Vec3;
+
+// The query that was added, or the one that is carried over.
+pub enum Query {
+    Sure,
+    Source,
+}
 
 // The probe: a point, and the square of the search distance as its limit.
 pub struct Probe {

@@ -11,6 +11,7 @@ ghost use Rattle.spec_search.specs.Safe as Safe;
 ghost use Rattle.spec_search.specs.Calls as Calls;
 ghost use Rattle.walks.specs.Values as Values;
 use crate::answer::Probe;
+use crate::answer::Query;
 use crate::answer::Sought;
 use crate::kept::answer_of;
 use crate::kept::point_of;
@@ -55,7 +56,7 @@ pub fn look(
             here.left,
             here.right,
             probe,
-            false,
+            Query::Source,
             measured,
             best,
             number,

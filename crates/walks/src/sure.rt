@@ -12,6 +12,7 @@ ghost use Rattle.spec_search.specs.Safe as Safe;
 ghost use Rattle.spec_search.specs.Calls as Calls;
 ghost use Rattle.walks.specs.Values as Values;
 use crate::answer::Probe;
+use crate::answer::Query;
 use crate::answer::Sought;
 use crate::kept::answer_of;
 use crate::kept::is_skipped;
@@ -61,7 +62,7 @@ pub fn node_walk(
             here.left,
             here.right,
             probe,
-            true,
+            Query::Sure,
             measured,
             best,
             number,

@@ -8,7 +8,7 @@ use Rattle.spec_host.specs.PointBytes.{answerBytes, afterBytes}
 use Rattle.spec_host.specs.Requests.{requestRefusal, queryVerdict, answerIn}
 use Rattle.spec_host.proofs.PointBytes.{as-it-was}
 use Rattle.spec_host.proofs.Requests.{layout-refuses, image-long, contents-are, inner-decides}
-use Rattle.queries.specs.Values.{asQuery}
+use Rattle.walks.specs.Values.{asQuery}
 use borrow.Author.Needs.{needs}
 use Rattle.host_ask.proofs.ask.ask.Statement.{statement}
 use Rattle.host_ask.proofs.ask.ask.Tie as tie

@@ -7,7 +7,7 @@ use Rattle.spec_shapes.specs.Points.{Point}
 use Rattle.spec_search.specs.Answers.{Answer}
 use Rattle.spec_host.specs.PointBytes.{answerBytes, afterBytes}
 use Rattle.spec_host.proofs.Loading.{loaded-count, late-same, answer-same}
-use Rattle.queries.specs.Values.{asQuery}
+use Rattle.walks.specs.Values.{asQuery}
 use Rattle.host_ask.proofs.Tree.{tree-read}
 use borrow.Author.Needs.{needs}
 use Rattle.host_ask.proofs.ask.ask_tree.Statement.{statement}

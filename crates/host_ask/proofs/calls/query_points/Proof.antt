@@ -8,7 +8,7 @@ use Rattle.spec_host.specs.Status.{status}
 use Rattle.spec_host.specs.PointBytes.{answerBytes, afterBytes}
 use Rattle.spec_host.specs.Requests.{contents, answerIn}
 use Rattle.spec_host.proofs.RequestsStatus.{query-encodable}
-use Rattle.queries.specs.Values.{asQuery}
+use Rattle.walks.specs.Values.{asQuery}
 use borrow.Author.Needs.{needs}
 use Rattle.host_ask.proofs.calls.query_points.Statement.{statement}
 use Rattle.host_ask.proofs.calls.query_points.Tie as tie

@@ -8,7 +8,7 @@ use Rattle.spec_search.specs.Calls.{answerBy}
 use Rattle.spec_host.specs.Build.{numbersOf}
 use Rattle.spec_host.proofs.Build.{numbers-long}
 use Rattle.spec_host.proofs.PointBytes.{Answered, answered-start, answered-more, answered-end}
-use Rattle.queries.specs.Values.{asQuery}
+use Rattle.walks.specs.Values.{asQuery}
 use Rattle.host_ask.proofs.point_queries.put_answers.Statement.{statement}
 use Rattle.host_ask.proofs.point_queries.put_answers.Tie as tie
 

@@ -5,7 +5,7 @@ use lib.ListN.{length}
 use Rattle.spec_lists.proofs.Verdicts.{did-pass}
 use Rattle.spec_search.specs.Calls.{answerBy}
 use Rattle.spec_search.proofs.Calls.{query-passed, as-it-was, is-answered}
-use Rattle.queries.specs.Values.{asQuery}
+use Rattle.walks.specs.Values.{asQuery}
 use borrow.Author.Needs.{needs}
 use Rattle.queries.proofs.calls.ask.Statement.{statement}
 use Rattle.queries.proofs.calls.ask.Tie as tie

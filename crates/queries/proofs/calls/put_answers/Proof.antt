@@ -7,7 +7,7 @@ use borrow.Author.Needs.{needs}
 use Rattle.spec_lists.proofs.Reading.{point-inside, point-finite}
 use Rattle.spec_search.specs.Calls.{answerBy}
 use Rattle.spec_search.proofs.Calls.{Answered, answered-start, answered-more, answered-end}
-use Rattle.queries.specs.Values.{asQuery}
+use Rattle.walks.specs.Values.{asQuery}
 use Rattle.queries.proofs.calls.put_answers.Statement.{statement}
 use Rattle.queries.proofs.calls.put_answers.Tie as tie
 

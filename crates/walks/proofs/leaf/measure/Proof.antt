@@ -18,37 +18,13 @@ use Rattle.walks.proofs.leaf.measure.Tie as tie
 abbrev seen : Point → Point → ℕ → Hit
 seen q p t = record { point = q; squared = squaredDistance binary32 q p; triangle = t }
 
-point-of-requires : tie.Need-point-of-requires
-point-of-requires c κs = search needs
-
-wide-requires : tie.Need-wide-requires
-wide-requires c κs = search needs
-
-triangle-at-requires : tie.Need-triangle-at-requires
-triangle-at-requires c κs = search needs
-
-closest-point-requires : tie.Need-closest-point-requires
-closest-point-requires c κs = search needs
-
-element-copy-out-offer : tie.Need-element-copy-out-offer
-element-copy-out-offer c = search needs
-
-held-requires : tie.Need-held-requires
-held-requires c κs = search needs
-
-hit-at-requires : tie.Need-hit-at-requires
-hit-at-requires c κs = search needs
-
-offer-requires : tie.Need-offer-requires
-offer-requires c κs = search needs
-
 returns : tie.Need-returns
 unfolding tookSure hit measured heldPoint
 returns c =
     let after-hit-at = c .before .before .before in
     let after-held = after-hit-at .before in
-    let chosen = after-held .before .before in
-    let after-closest-point = chosen .before in
+    let told = after-held .before .before in
+    let after-closest-point = told .before .before in
     let after-triangle-at = after-closest-point .before in
     let after-wide = after-triangle-at .before in
     let after-point-of = after-wide .before in
@@ -63,20 +39,14 @@ returns c =
     let is : asHit (after-hit-at .hit-at .result) ≡ hit binary32 (a .triangles .now) p (a .t) =
     after-hit-at .hit-at .ensures ∙ ap (λ (x : Point). seen (asPoint (after-held .held .result)) x (a .t)) (after-point-of .point-of .ensures)
     ∙ ap (λ (q : Point). seen q p (a .t)) point in
-    rw (chosen .if1 .taken) (c .offer .ensures ∙ ap (λ (h : Hit). offered (fourthOf (a .probe .now)) h (kept (hitOf (a .best .now) (a .number .now)))) is)
-
-hit-at-requires-2 : tie.Need-hit-at-requires-2
-hit-at-requires-2 c κs = search needs
-
-keep-smaller-requires : tie.Need-keep-smaller-requires
-keep-smaller-requires c κs = search needs
+    rw (told .enum-told .given .1) (c .offer .ensures ∙ ap (λ (h : Hit). offered (fourthOf (a .probe .now)) h (kept (hitOf (a .best .now) (a .number .now)))) is)
 
 returns-2 : tie.Need-returns-2
 unfolding tookSource sourceHit
 returns-2 c =
     let after-hit-at2 = c .before .before .before in
-    let chosen = after-hit-at2 .before in
-    let after-closest-point = chosen .before in
+    let told = after-hit-at2 .before in
+    let after-closest-point = told .before .before in
     let after-triangle-at = after-closest-point .before in
     let after-wide = after-triangle-at .before in
     let after-point-of = after-wide .before in
@@ -91,21 +61,11 @@ returns-2 c =
       after-wide .wide .ensures,
       after-point-of .point-of .ensures,
     ) in
-    rw (chosen .if1 .left) (c .keep-smaller .ensures ∙ ap (λ (h : Hit). keepSmaller h (kept (hitOf (a .best .now) (a .number .now)))) is)
+    rw (told .enum-told2 .given .1) (c .keep-smaller .ensures ∙ ap (λ (h : Hit). keepSmaller h (kept (hitOf (a .best .now) (a .number .now)))) is)
 
 pub measure-spec : {M : Type 1} → statement M
 measure-spec =
     tie.close
-    (tie.spec
-    point-of-requires
-    wide-requires
-    triangle-at-requires
-    closest-point-requires
-    element-copy-out-offer
-    held-requires
-    hit-at-requires
-    offer-requires
-    returns
-    hit-at-requires-2
-    keep-smaller-requires
+    (tie.spec (λ c κs. search needs) (λ c κs. search needs) (λ c κs. search needs) (λ c κs. search needs) (λ c. search needs) (λ c. search needs)
+    (λ c κs. search needs) (λ c κs. search needs) (λ c κs. search needs) (λ c. search needs) (λ c κs. search needs) (λ c κs. search needs) returns
     returns-2)
