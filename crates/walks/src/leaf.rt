@@ -77,8 +77,8 @@ fn measure_slice(
     requires { ⌜ Order.EntriesBelow (Reading.triangleCount (now triangles)) (now slice) ⌝ }
     requires { ⌜ measured + length (now slice) < 2 ^ 64 ⌝ }
     ensures { λ r. ⌜ Values.soughtOf (now (best .exit)) (now (number .exit)) r
-        ≡ Walk.tookAll (Kept.tookBy (Values.asQuery query) binary32 (now (triangles .entry)) (Values.pointOf (now (probe .entry))) (Values.fourthOf (now (probe .entry))))
-        (now (slice .entry)) (Values.soughtOf (now (best .entry)) (now (number .entry)) measured) ⌝ }
+        ≡ Walk.tookAll (Kept.tookBy (Values.asQuery query) binary32 (now (triangles .entry)) (Values.pointOf (now (probe .entry)))
+        (Values.fourthOf (now (probe .entry)))) (now (slice .entry)) (Values.soughtOf (now (best .entry)) (now (number .entry)) measured) ⌝ }
 {
     let mut i = 0;
     while i < slice.len() {
@@ -104,8 +104,9 @@ pub fn measure_leaf(
     requires { ⌜ (first ≤ last) × (last ≤ length (now order)) ⌝ }
     requires { ⌜ measured + (last - first) < 2 ^ 64 ⌝ }
     ensures { λ r. ⌜ Values.soughtOf (now (best .exit)) (now (number .exit)) r
-        ≡ Walk.tookAll (Kept.tookBy (Values.asQuery query) binary32 (now (triangles .entry)) (Values.pointOf (now (probe .entry))) (Values.fourthOf (now (probe .entry))))
-        (Tables.slice (now (order .entry)) first (last - first)) (Values.soughtOf (now (best .entry)) (now (number .entry)) measured) ⌝ }
+        ≡ Walk.tookAll (Kept.tookBy (Values.asQuery query) binary32 (now (triangles .entry)) (Values.pointOf (now (probe .entry)))
+        (Values.fourthOf (now (probe .entry)))) (Tables.slice (now (order .entry)) first (last - first))
+        (Values.soughtOf (now (best .entry)) (now (number .entry)) measured) ⌝ }
 {
     measure_slice(
         triangles,

@@ -13,15 +13,6 @@ use Rattle.gauge.proofs.main.Tie as tie
 slice-aggregate-read-full : tie.Need-slice-aggregate-read-full
 slice-aggregate-read-full c = sym (length-replicate {A = ℕ} 32769 0)
 
-read-full-requires : tie.Need-read-full-requires
-read-full-requires c κs = search needs
-
-array-share-prefix-input : tie.Need-array-share-prefix-input
-array-share-prefix-input c = search needs
-
-slice-aggregate-print : tie.Need-slice-aggregate-print
-slice-aggregate-print c = search needs
-
 slice-aggregate-print-2 : tie.Need-slice-aggregate-print-2
 slice-aggregate-print-2 c = sym (length-replicate {A = ℕ} 229405 0)
 
@@ -34,23 +25,8 @@ array-share-prefix-out c = rw (put-long (c .before .print .ensures)) (c .before 
 slice-aggregate-write-all : tie.Need-slice-aggregate-write-all
 slice-aggregate-write-all c = sym (length-take-le _ _ (array-share-prefix-out (c .before)))
 
-write-all-requires : tie.Need-write-all-requires
-write-all-requires c κs = search needs
-
-returns : tie.Need-returns
-returns c = search needs
-
 pub main-spec : {M : Type 1} → statement M
 main-spec =
     tie.close
-    (tie.spec
-    slice-aggregate-read-full
-    read-full-requires
-    array-share-prefix-input
-    slice-aggregate-print
-    slice-aggregate-print-2
-    print-requires
-    array-share-prefix-out
-    slice-aggregate-write-all
-    write-all-requires
-    returns)
+    (tie.spec slice-aggregate-read-full (λ c κs. search needs) (λ c. search needs) (λ c. search needs) slice-aggregate-print-2 print-requires
+    array-share-prefix-out slice-aggregate-write-all (λ c κs. search needs) (λ c. search needs))

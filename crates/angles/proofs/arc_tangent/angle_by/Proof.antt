@@ -11,12 +11,6 @@ use Rattle.spec_angles.proofs.Needs.{askable-is}
 use Rattle.angles.proofs.arc_tangent.angle_by.Statement.{statement}
 use Rattle.angles.proofs.arc_tangent.angle_by.Tie as tie
 
-is-finite-requires : tie.Need-is-finite-requires
-is-finite-requires c κs = search needs
-
-is-finite-requires-2 : tie.Need-is-finite-requires-2
-is-finite-requires-2 c κs = search needs
-
 -- t and u are what `is_finite` answered
 tested : (n d : Float) (t u b : Bool) → t ≡ finite n → u ≡ finite d → (t && u && ne n zero) ≡ b → askable n d ≡ b
 unfolding ne
@@ -49,4 +43,4 @@ returns-2 c =
 pub angle-by-spec : {M : Type 1} → statement M
 angle-by-spec =
     tie.close
-    (tie.spec is-finite-requires is-finite-requires-2 arc-tangent-requires returns returns-2)
+    (tie.spec (λ c κs. search needs) (λ c κs. search needs) arc-tangent-requires returns returns-2)

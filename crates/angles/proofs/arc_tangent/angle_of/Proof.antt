@@ -35,9 +35,6 @@ module _ (n d t : Float) (k : Askable n d) (T' : t ≡ ratio binary32 n d) where
         unfolding angle
         all a b r A B S R = rw (R, W, S, A, B, V', U, T') refl
 
-ratio-of-requires : tie.Need-ratio-of-requires
-ratio-of-requires c κs = search needs
-
 units-of-requires : tie.Need-units-of-requires
 units-of-requires c κs = at-most-one _ _ _ (c .before .pre .1) (c .ratio-of .ensures)
 
@@ -45,12 +42,6 @@ arc-of-requires : tie.Need-arc-of-requires
 arc-of-requires c κs =
     let start = c .before .before in
     (start .pre .0, few _ _ _ (start .pre .1) (c .before .ratio-of .ensures) _ (c .units-of .ensures))
-
-absolute-requires : tie.Need-absolute-requires
-absolute-requires c κs = search needs
-
-absolute-requires-2 : tie.Need-absolute-requires-2
-absolute-requires-2 c κs = search needs
 
 mirrored-requires : tie.Need-mirrored-requires
 mirrored-requires c κs =
@@ -75,12 +66,5 @@ returns c =
 pub angle-of-spec : {M : Type 1} → statement M
 angle-of-spec =
     tie.close
-    (tie.spec
-    ratio-of-requires
-    units-of-requires
-    arc-of-requires
-    absolute-requires
-    absolute-requires-2
-    mirrored-requires
-    mirrored-requires-2
-    returns)
+    (tie.spec (λ c κs. search needs) units-of-requires arc-of-requires (λ c κs. search needs) (λ c κs. search needs) mirrored-requires
+    mirrored-requires-2 returns)

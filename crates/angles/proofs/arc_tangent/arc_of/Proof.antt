@@ -7,14 +7,8 @@ use borrow.Author.Needs.{needs}
 use Rattle.angles.proofs.arc_tangent.arc_of.Statement.{statement}
 use Rattle.angles.proofs.arc_tangent.arc_of.Tie as tie
 
-entries-at-requires : tie.Need-entries-at-requires
-entries-at-requires c κs = search needs
-
 returns : tie.Need-returns
 returns c = c .entries-at .ensures .1 ∙ at-the-end (c .before .before .args .u) (c .before .if1 .taken)
-
-entries-at-requires-2 : tie.Need-entries-at-requires-2
-entries-at-requires-2 c κs = search needs
 
 sub-result : tie.Need-sub-result
 sub-result c =
@@ -42,11 +36,4 @@ returns-2 c =
 pub arc-of-spec : {M : Type 1} → statement M
 arc-of-spec =
     tie.close
-    (tie.spec
-    entries-at-requires
-    returns
-    entries-at-requires-2
-    sub-result
-    mul-result
-    add-result
-    returns-2)
+    (tie.spec (λ c κs. search needs) returns (λ c κs. search needs) sub-result mul-result add-result returns-2)

@@ -8,18 +8,13 @@ use Rattle.spec_angles.proofs.Arc.{angle-most}
 use Rattle.angles.proofs.arc_tangent.arc_tangent.Statement.{statement}
 use Rattle.angles.proofs.arc_tangent.arc_tangent.Tie as tie
 
-angle-of-requires : tie.Need-angle-of-requires
-angle-of-requires c κs = search needs
-
 cast-rounded : tie.Need-cast-rounded
 cast-rounded c = omega (arith, angle-most binary32 _ _ (c .before .pre .1), c .angle-of .ensures)
-
-rounded-requires : tie.Need-rounded-requires
-rounded-requires c κs = search needs
 
 returns : tie.Need-returns
 unfolding ofBits arcTangent
 returns c = rw (c .rounded .ensures, c .before .angle-of .ensures) refl
 
 pub arc-tangent-spec : {M : Type 1} → statement M
-arc-tangent-spec = tie.close (tie.spec angle-of-requires cast-rounded rounded-requires returns)
+arc-tangent-spec = tie.close
+    (tie.spec (λ c κs. search needs) cast-rounded (λ c κs. search needs) returns)

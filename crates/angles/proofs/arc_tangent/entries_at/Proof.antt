@@ -8,27 +8,6 @@ use borrow.Author.Needs.{needs}
 use Rattle.angles.proofs.arc_tangent.entries_at.Statement.{statement}
 use Rattle.angles.proofs.arc_tangent.entries_at.Tie as tie
 
-mul-wide : tie.Need-mul-wide
-mul-wide c = search needs
-
-element-copy-out-wide : tie.Need-element-copy-out-wide
-element-copy-out-wide c = search needs
-
-wide-requires : tie.Need-wide-requires
-wide-requires c κs = search needs
-
-add-wide : tie.Need-add-wide
-add-wide c = search needs
-
-mul-wide-2 : tie.Need-mul-wide-2
-mul-wide-2 c = search needs
-
-element-copy-out-wide-2 : tie.Need-element-copy-out-wide-2
-element-copy-out-wide-2 c = search needs
-
-wide-requires-2 : tie.Need-wide-requires-2
-wide-requires-2 c κs = search needs
-
 returns : tie.Need-returns
 unfolding entry
 returns c =
@@ -41,12 +20,5 @@ returns c =
 pub entries-at-spec : {M : Type 1} → statement M
 entries-at-spec =
     tie.close
-    (tie.spec
-    mul-wide
-    element-copy-out-wide
-    wide-requires
-    add-wide
-    mul-wide-2
-    element-copy-out-wide-2
-    wide-requires-2
-    returns)
+    (tie.spec (λ c. search needs) (λ c. search needs) (λ c κs. search needs) (λ c. search needs) (λ c. search needs) (λ c. search needs)
+    (λ c κs. search needs) returns)

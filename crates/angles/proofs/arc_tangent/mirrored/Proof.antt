@@ -4,9 +4,6 @@ use Rattle.spec_angles.specs.Angle.{mirrored}
 use Rattle.angles.proofs.arc_tangent.mirrored.Statement.{statement}
 use Rattle.angles.proofs.arc_tangent.mirrored.Tie as tie
 
-sub-result : tie.Need-sub-result
-sub-result c = search needs
-
 returns : tie.Need-returns
 unfolding mirrored
 returns c = rw (c .if1 .taken)
@@ -16,4 +13,5 @@ unfolding mirrored
 returns-2 c = rw (c .if1 .left)
 
 pub mirrored-spec : {M : Type 1} → statement M
-mirrored-spec = tie.close (tie.spec sub-result returns returns-2)
+mirrored-spec = tie.close
+    (tie.spec (λ c. search needs) returns returns-2)

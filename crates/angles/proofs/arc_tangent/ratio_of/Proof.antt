@@ -8,12 +8,6 @@ use Rattle.spec_angles.specs.Angle.{ratio}
 use Rattle.angles.proofs.arc_tangent.ratio_of.Statement.{statement}
 use Rattle.angles.proofs.arc_tangent.ratio_of.Tie as tie
 
-absolute-requires : tie.Need-absolute-requires
-absolute-requires c κs = search needs
-
-absolute-requires-2 : tie.Need-absolute-requires-2
-absolute-requires-2 c κs = search needs
-
 -- a and b are the magnitudes of n and d
 module _ (n d a b : Float) (p : a ≡ abs n) (q : b ≡ abs d) where
   steep : lt b a ≡ true → div binary32 b a ≡ ratio binary32 n d
@@ -31,4 +25,5 @@ returns-2 : tie.Need-returns-2
 returns-2 c = flat _ _ _ _ (c .before .before .absolute .ensures) (c .before .absolute2 .ensures) (c .if1 .left)
 
 pub ratio-of-spec : {M : Type 1} → statement M
-ratio-of-spec = tie.close (tie.spec absolute-requires absolute-requires-2 returns returns-2)
+ratio-of-spec = tie.close
+    (tie.spec (λ c κs. search needs) (λ c κs. search needs) returns returns-2)

@@ -5,9 +5,6 @@ use Rattle.spec_angles.proofs.Thirtieth.{rounds-once, rounds-once-negated}
 use Rattle.angles.proofs.arc_tangent.rounded.Statement.{statement}
 use Rattle.angles.proofs.arc_tangent.rounded.Tie as tie
 
-nearest-u32-to-f32-requires : tie.Need-nearest-u32-to-f32-requires
-nearest-u32-to-f32-requires c κs = search needs
-
 returns : tie.Need-returns
 unfolding ofBits ofInt
 returns c =
@@ -21,4 +18,5 @@ returns-2 c =
     rw (c .before .nearest-u32-to-f32 .ensures, c .if1 .left) (rounds-once binary32 (start .args .a) (start .fits .a .fits))
 
 pub rounded-spec : {M : Type 1} → statement M
-rounded-spec = tie.close (tie.spec nearest-u32-to-f32-requires returns returns-2)
+rounded-spec = tie.close
+    (tie.spec (λ c κs. search needs) returns returns-2)

@@ -29,9 +29,6 @@ module _ (n r : ℕ) (few : n < 2 ^ 48) (is : r ≡ wholeRoot 24 n) where
 guess-square : (g : ℕ) → g < 2 ^ 25 → g * g ≤ 2 ^ 50
 guess-square g l = square-mono {a = g} {b = 2 ^ 25} (omega arith)
 
-guess-requires : tie.Need-guess-requires
-guess-requires c κs = search needs
-
 mul-if1 : tie.Need-mul-if1
 mul-if1 c = omega (arith, guess-square _ (c .guess .ensures))
 
@@ -68,16 +65,4 @@ returns-3 c = stay _ _ (c .before .before .before .before .pre) (c .before .whol
 pub nearest-root-spec : {M : Type 1} → statement M
 nearest-root-spec =
     tie.close
-    (tie.spec
-    guess-requires
-    mul-if1
-    add-if1
-    mul-if2
-    add-if2
-    returns
-    whole-root-requires
-    mul-if3
-    sub-if3
-    add-result
-    returns-2
-    returns-3)
+    (tie.spec (λ c κs. search needs) mul-if1 add-if1 mul-if2 add-if2 returns whole-root-requires mul-if3 sub-if3 add-result returns-2 returns-3)

@@ -53,12 +53,6 @@ scaled-requires c κs =
     let x = c .before .args .x in
     (above-zero x (held (c .before)) (failed (c .if1 .left)), unsigned-bits x (held (c .before)) (unsigned-x c))
 
-nearest-root-requires : tie.Need-nearest-root-requires
-nearest-root-requires c κs = search needs
-
-mul-result : tie.Need-mul-result
-mul-result c = search needs
-
 -- r is what `nearest_root` found
 near : (n d k r : ℕ) → Scaled n d k → r ≡ nearer d (wholeRoot 24 d) → NearestRoot d r
 near n d k r s e = rw e (nearest-root d (s .least) (s .most))
@@ -90,13 +84,5 @@ returns-2 c =
 pub root-spec : {M : Type 1} → statement M
 root-spec =
     tie.close
-    (tie.spec
-    returns
-    float-to-bits-scaled
-    scaled-requires
-    nearest-root-requires
-    mul-result
-    cast-result
-    add-result
-    float-from-bits-result
+    (tie.spec returns float-to-bits-scaled scaled-requires (λ c κs. search needs) (λ c. search needs) cast-result add-result float-from-bits-result
     returns-2)

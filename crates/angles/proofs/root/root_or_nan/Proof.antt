@@ -11,9 +11,6 @@ use Rattle.spec_angles.proofs.Needs.{rootable-is}
 use Rattle.angles.proofs.root.root_or_nan.Statement.{statement}
 use Rattle.angles.proofs.root.root_or_nan.Tie as tie
 
-is-finite-requires : tie.Need-is-finite-requires
-is-finite-requires c κs = search needs
-
 -- t is what `is_finite` answered
 tested : (x : Float) (t b : Bool) → t ≡ finite x → (t && le zero x) ≡ b → rootable x ≡ b
 tested x t b p e = sym (rootable-is x) ∙ (rw p at e)
@@ -31,4 +28,5 @@ unfolding ofBits rootOrNan div
 returns-2 c = rw (tested (c .before .before .args .x) _ _ (c .before .is-finite .ensures) (c .if1 .left)) refl
 
 pub root-or-nan-spec : {M : Type 1} → statement M
-root-or-nan-spec = tie.close (tie.spec is-finite-requires root-requires returns returns-2)
+root-or-nan-spec = tie.close
+    (tie.spec (λ c κs. search needs) root-requires returns returns-2)

@@ -4,18 +4,6 @@ use Rattle.spec_angles.proofs.RootByBits.{scaled-subnormal, scaled-normal}
 use Rattle.angles.proofs.root.scaled.Statement.{statement}
 use Rattle.angles.proofs.root.scaled.Tie as tie
 
-by-fours-requires : tie.Need-by-fours-requires
-by-fours-requires c κs = search needs
-
-add-by-fours : tie.Need-add-by-fours
-add-by-fours c = search needs
-
-add-by-fours-2 : tie.Need-add-by-fours-2
-add-by-fours-2 c = search needs
-
-by-fours-requires-2 : tie.Need-by-fours-requires-2
-by-fours-requires-2 c κs = search needs
-
 returns : tie.Need-returns
 returns c = scaled-subnormal (c .before .before .args .bits) _ _ (c .before .if1 .taken) (c .by-fours .ensures)
 
@@ -25,4 +13,4 @@ returns-2 c = scaled-normal (c .before .before .args .bits) _ _ (c .before .if1 
 pub scaled-spec : {M : Type 1} → statement M
 scaled-spec =
     tie.close
-    (tie.spec by-fours-requires add-by-fours add-by-fours-2 by-fours-requires-2 returns returns-2)
+    (tie.spec (λ c κs. search needs) (λ c. search needs) (λ c. search needs) (λ c κs. search needs) returns returns-2)

@@ -19,12 +19,6 @@ Inv-loop n r₀ step₀ r step = Between n r step
 abbrev μ-loop : tie.MeasureT-loop
 μ-loop n r₀ step₀ r step = step
 
-loop-holds : tie.Need-loop-holds Inv-loop μ-loop
-loop-holds c = omega arith
-
-add-step : tie.Need-add-step Inv-loop μ-loop
-add-step c = omega arith
-
 -- r is below the root of 2 ^ 48
 small : {n r step : ℕ} → n < 2 ^ 48 → Between n r step → r < 2 ^ 24
 small h b = square-reflects (lt-of-le-of-lt (b .low) h)
@@ -39,9 +33,6 @@ mul-if1 c =
     let m : l .r + (l .step + 1) / 2 ≤ 2 ^ 26 = omega (arith, small (c .before .before .pre) (l .inv)) in
     record { fits = lt-of-le-of-lt (square-mono m) (omega arith) }
 
-loop-less : tie.Need-loop-less Inv-loop μ-loop
-loop-less c = omega arith
-
 loop-again : tie.Need-loop-again Inv-loop μ-loop
 loop-again c =
     let l = c .before .before .loop in
@@ -51,9 +42,6 @@ loop-again c =
       least = omega arith;
       most = omega arith;
     }
-
-loop-less-2 : tie.Need-loop-less-2 Inv-loop μ-loop
-loop-less-2 c = omega arith
 
 loop-again-2 : tie.Need-loop-again-2 Inv-loop μ-loop
 loop-again-2 c = record { low = c .before .before .loop .inv .low; high = c .if1 .left; least = omega arith; most = omega arith }
@@ -68,4 +56,5 @@ returns c =
 pub whole-root-spec : {M : Type 1} → statement M
 whole-root-spec =
     tie.close
-    (tie.spec Inv-loop μ-loop loop-holds add-step add-middle mul-if1 loop-less loop-again loop-less-2 loop-again-2 returns)
+    (tie.spec Inv-loop μ-loop (λ c. omega arith) (λ c. omega arith) add-middle mul-if1 (λ c. omega arith) loop-again (λ c. omega arith) loop-again-2
+    returns)

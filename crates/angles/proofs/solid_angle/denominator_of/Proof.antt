@@ -5,18 +5,10 @@ use borrow.Author.Needs.{needs}
 use Rattle.angles.proofs.solid_angle.denominator_of.Statement.{statement}
 use Rattle.angles.proofs.solid_angle.denominator_of.Tie as tie
 
-dot-requires : tie.Need-dot-requires
-dot-requires c κs = search needs
-
-dot-requires-2 : tie.Need-dot-requires-2
-dot-requires-2 c κs = search needs
-
-dot-requires-3 : tie.Need-dot-requires-3
-dot-requires-3 c κs = search needs
-
 returns : tie.Need-returns
 unfolding denominator ofBits
 returns c = rw (c .dot3 .ensures, c .before .dot2 .ensures, c .before .before .dot .ensures)
 
 pub denominator-of-spec : {M : Type 1} → statement M
-denominator-of-spec = tie.close (tie.spec dot-requires dot-requires-2 dot-requires-3 returns)
+denominator-of-spec = tie.close
+    (tie.spec (λ c κs. search needs) (λ c κs. search needs) (λ c κs. search needs) returns)

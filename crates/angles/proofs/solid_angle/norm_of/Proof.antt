@@ -4,15 +4,10 @@ use borrow.Author.Needs.{needs}
 use Rattle.angles.proofs.solid_angle.norm_of.Statement.{statement}
 use Rattle.angles.proofs.solid_angle.norm_of.Tie as tie
 
-dot-requires : tie.Need-dot-requires
-dot-requires c κs = search needs
-
-root-or-nan-requires : tie.Need-root-or-nan-requires
-root-or-nan-requires c κs = search needs
-
 returns : tie.Need-returns
 unfolding norm
 returns c = rw (c .root-or-nan .ensures, c .before .dot .ensures)
 
 pub norm-of-spec : {M : Type 1} → statement M
-norm-of-spec = tie.close (tie.spec dot-requires root-or-nan-requires returns)
+norm-of-spec = tie.close
+    (tie.spec (λ c κs. search needs) (λ c κs. search needs) returns)

@@ -10,15 +10,6 @@ use borrow.Author.Needs.{needs}
 use Rattle.angles.proofs.solid_angle.origin_angle.Statement.{statement}
 use Rattle.angles.proofs.solid_angle.origin_angle.Tie as tie
 
-norm-of-requires : tie.Need-norm-of-requires
-norm-of-requires c κs = search needs
-
-norm-of-requires-2 : tie.Need-norm-of-requires-2
-norm-of-requires-2 c κs = search needs
-
-norm-of-requires-3 : tie.Need-norm-of-requires-3
-norm-of-requires-3 c κs = search needs
-
 -- l, m, n are the norms of the corners
 module _ (t : Triangle) (l m n : Float) (L : l ≡ norm binary32 (t .a)) (M : m ≡ norm binary32 (t .b)) (N : n ≡ norm binary32 (t .c)) where
   here : (eq l zero || eq m zero || eq n zero) ≡ true → zero ≡ originAngle binary32 t
@@ -35,18 +26,6 @@ returns : tie.Need-returns
 unfolding ofBits
 returns c = here _ _ _ _ (c .before .before .before .norm-of .ensures) (c .before .before .norm-of2 .ensures) (c .before .norm-of3 .ensures) (c .if1 .taken)
 
-over-requires : tie.Need-over-requires
-over-requires c κs = search needs
-
-over-requires-2 : tie.Need-over-requires-2
-over-requires-2 c κs = search needs
-
-over-requires-3 : tie.Need-over-requires-3
-over-requires-3 c κs = search needs
-
-unit-angle-requires : tie.Need-unit-angle-requires
-unit-angle-requires c κs = search needs
-
 returns-2 : tie.Need-returns-2
 unfolding ofBits
 returns-2 c =
@@ -58,13 +37,5 @@ returns-2 c =
 pub origin-angle-spec : {M : Type 1} → statement M
 origin-angle-spec =
     tie.close
-    (tie.spec
-    norm-of-requires
-    norm-of-requires-2
-    norm-of-requires-3
-    returns
-    over-requires
-    over-requires-2
-    over-requires-3
-    unit-angle-requires
-    returns-2)
+    (tie.spec (λ c κs. search needs) (λ c κs. search needs) (λ c κs. search needs) returns (λ c κs. search needs) (λ c κs. search needs)
+    (λ c κs. search needs) (λ c κs. search needs) returns-2)

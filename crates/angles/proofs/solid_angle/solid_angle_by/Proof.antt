@@ -4,15 +4,10 @@ use borrow.Author.Needs.{needs}
 use Rattle.angles.proofs.solid_angle.solid_angle_by.Statement.{statement}
 use Rattle.angles.proofs.solid_angle.solid_angle_by.Tie as tie
 
-seen-from-requires : tie.Need-seen-from-requires
-seen-from-requires c κs = search needs
-
-origin-angle-requires : tie.Need-origin-angle-requires
-origin-angle-requires c κs = search needs
-
 returns : tie.Need-returns
 unfolding solidAngle
 returns c = rw (c .origin-angle .ensures, c .before .seen-from .ensures)
 
 pub solid-angle-by-spec : {M : Type 1} → statement M
-solid-angle-by-spec = tie.close (tie.spec seen-from-requires origin-angle-requires returns)
+solid-angle-by-spec = tie.close
+    (tie.spec (λ c κs. search needs) (λ c κs. search needs) returns)

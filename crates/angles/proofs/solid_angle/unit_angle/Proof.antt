@@ -5,18 +5,9 @@ use borrow.Author.Needs.{needs}
 use Rattle.angles.proofs.solid_angle.unit_angle.Statement.{statement}
 use Rattle.angles.proofs.solid_angle.unit_angle.Tie as tie
 
-numerator-of-requires : tie.Need-numerator-of-requires
-numerator-of-requires c κs = search needs
-
 returns : tie.Need-returns
 unfolding unitAngle ofBits
 returns c = rw (rw (c .before .numerator-of .ensures) at (c .if1 .taken))
-
-denominator-of-requires : tie.Need-denominator-of-requires
-denominator-of-requires c κs = search needs
-
-angle-by-requires : tie.Need-angle-by-requires
-angle-by-requires c κs = search needs
 
 returns-2 : tie.Need-returns-2
 unfolding unitAngle ofBits
@@ -33,9 +24,4 @@ returns-2 c =
 pub unit-angle-spec : {M : Type 1} → statement M
 unit-angle-spec =
     tie.close
-    (tie.spec
-    numerator-of-requires
-    returns
-    denominator-of-requires
-    angle-by-requires
-    returns-2)
+    (tie.spec (λ c κs. search needs) returns (λ c κs. search needs) (λ c κs. search needs) returns-2)

@@ -7,12 +7,6 @@ use borrow.Author.Needs.{needs}
 use Rattle.angles.proofs.winding.winding.Statement.{statement}
 use Rattle.angles.proofs.winding.winding.Tie as tie
 
-winding-refusal-requires : tie.Need-winding-refusal-requires
-winding-refusal-requires c κs = search needs
-
-refuses-requires : tie.Need-refuses-requires
-refuses-requires c κs = search needs
-
 returns : tie.Need-returns
 returns c =
     let after-winding-refusal = c .before .before in (
@@ -28,9 +22,6 @@ write-windings-requires c κs =
     room-for-all _ _ (start .args .out .now)
     (did-pass _ _ _ (after-winding-refusal .winding-refusal .ensures) (after-refuses .refuses .ensures) (c .before .if1 .left))
 
-same-length : tie.Need-same-length
-same-length c = search needs
-
 returns-2 : tie.Need-returns-2
 returns-2 c =
     let after-write-windings = c .before .before in
@@ -45,10 +36,4 @@ returns-2 c =
 pub winding-spec : {M : Type 1} → statement M
 winding-spec =
     tie.close
-    (tie.spec
-    winding-refusal-requires
-    refuses-requires
-    returns
-    write-windings-requires
-    same-length
-    returns-2)
+    (tie.spec (λ c κs. search needs) (λ c κs. search needs) returns write-windings-requires (λ c. search needs) returns-2)

@@ -16,9 +16,6 @@ Inv-loop table triangles q count sum₀ t₀ sum t = Summed binary32 triangles (
 abbrev μ-loop : tie.MeasureT-loop
 μ-loop table triangles q count sum₀ t₀ sum t = count - t
 
-triangle-count-requires : tie.Need-triangle-count-requires Inv-loop μ-loop
-triangle-count-requires c κs = search needs
-
 loop-holds : tie.Need-loop-holds Inv-loop μ-loop
 unfolding ofBits
 loop-holds c = sum-start _ _ _ _
@@ -26,15 +23,6 @@ loop-holds c = sum-start _ _ _ _
 triangle-at-requires : tie.Need-triangle-at-requires Inv-loop μ-loop
 unfolding triangleCount
 triangle-at-requires c κs = omega (arith, c .before .before .triangle-count .ensures)
-
-solid-angle-by-requires : tie.Need-solid-angle-by-requires Inv-loop μ-loop
-solid-angle-by-requires c κs = search needs
-
-add-t : tie.Need-add-t Inv-loop μ-loop
-add-t c = omega arith
-
-loop-less : tie.Need-loop-less Inv-loop μ-loop
-loop-less c = omega arith
 
 loop-again : tie.Need-loop-again Inv-loop μ-loop
 loop-again c =
@@ -48,14 +36,5 @@ returns c = sum-end _ _ _ _ _ _ (c .before .before .triangle-count .ensures) (c 
 pub winding-number-by-spec : {M : Type 1} → statement M
 winding-number-by-spec =
     tie.close
-    (tie.spec
-    Inv-loop
-    μ-loop
-    triangle-count-requires
-    loop-holds
-    triangle-at-requires
-    solid-angle-by-requires
-    add-t
-    loop-less
-    loop-again
-    returns)
+    (tie.spec Inv-loop μ-loop (λ c κs. search needs) loop-holds triangle-at-requires (λ c κs. search needs) (λ c. omega arith) (λ c. omega arith)
+    loop-again returns)

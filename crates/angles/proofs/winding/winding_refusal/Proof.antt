@@ -5,24 +5,6 @@ use borrow.Author.Needs.{needs}
 use Rattle.angles.proofs.winding.winding_refusal.Statement.{statement}
 use Rattle.angles.proofs.winding.winding_refusal.Tie as tie
 
-triangles-refusal-requires : tie.Need-triangles-refusal-requires
-triangles-refusal-requires c κs = search needs
-
-point-count-requires : tie.Need-point-count-requires
-point-count-requires c κs = search needs
-
-room-refusal-requires : tie.Need-room-refusal-requires
-room-refusal-requires c κs = search needs
-
-or-requires : tie.Need-or-requires
-or-requires c κs = search needs
-
-points-refusal-requires : tie.Need-points-refusal-requires
-points-refusal-requires c κs = search needs
-
-or-requires-2 : tie.Need-or-requires-2
-or-requires-2 c κs = search needs
-
 returns : tie.Need-returns
 unfolding windingRefusal
 returns c =
@@ -35,11 +17,5 @@ returns c =
 pub winding-refusal-spec : {M : Type 1} → statement M
 winding-refusal-spec =
     tie.close
-    (tie.spec
-    triangles-refusal-requires
-    point-count-requires
-    room-refusal-requires
-    or-requires
-    points-refusal-requires
-    or-requires-2
-    returns)
+    (tie.spec (λ c κs. search needs) (λ c κs. search needs) (λ c κs. search needs) (λ c κs. search needs) (λ c κs. search needs)
+    (λ c κs. search needs) returns)

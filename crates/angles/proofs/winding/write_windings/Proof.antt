@@ -15,12 +15,6 @@ Inv-loop triangles points out₀ count table k₀ out k = WindingsPut binary32 t
 abbrev μ-loop : tie.MeasureT-loop
 μ-loop triangles points out₀ count table k₀ out k = count - k
 
-point-count-requires : tie.Need-point-count-requires Inv-loop μ-loop
-point-count-requires c κs = search needs
-
-arc-table-requires : tie.Need-arc-table-requires Inv-loop μ-loop
-arc-table-requires c κs = search needs
-
 loop-holds : tie.Need-loop-holds Inv-loop μ-loop
 loop-holds c = fill-start _ _ _ _ _
 
@@ -39,20 +33,11 @@ point-at-requires c κs =
 winding-number-by-requires : tie.Need-winding-number-by-requires Inv-loop μ-loop
 winding-number-by-requires c κs = c .before .before .before .before .arc-table .ensures
 
-mul-out : tie.Need-mul-out Inv-loop μ-loop
-mul-out c = search needs
-
 slice-write-out : tie.Need-slice-write-out Inv-loop μ-loop
 slice-write-out c =
     let turn = c .before .before .before in
     let counted = turn .before .before .before in
     omega (arith, counted .before .before .before .before .pre, counted .point-count .ensures, turn .before .loop .inv .run .long, turn .loop-test .taken)
-
-add-k : tie.Need-add-k Inv-loop μ-loop
-add-k c = omega arith
-
-loop-less : tie.Need-loop-less Inv-loop μ-loop
-loop-less c = omega arith
 
 loop-again : tie.Need-loop-again Inv-loop μ-loop
 loop-again c =
@@ -70,19 +55,5 @@ returns c = fill-end _ _ _ _ _ _ _ (c .before .before .before .point-count .ensu
 pub write-windings-spec : {M : Type 1} → statement M
 write-windings-spec =
     tie.close
-    (tie.spec
-    Inv-loop
-    μ-loop
-    point-count-requires
-    arc-table-requires
-    loop-holds
-    mul-point-at
-    point-at-requires
-    winding-number-by-requires
-    mul-out
-    slice-write-out
-    add-k
-    loop-less
-    loop-again
-    same-length
-    returns)
+    (tie.spec Inv-loop μ-loop (λ c κs. search needs) (λ c κs. search needs) loop-holds mul-point-at point-at-requires winding-number-by-requires
+    (λ c. search needs) slice-write-out (λ c. omega arith) (λ c. omega arith) loop-again same-length returns)

@@ -7,9 +7,6 @@ use borrow.Author.Needs.{needs}
 use Rattle.build.proofs.calls.build_with.Statement.{statement}
 use Rattle.build.proofs.calls.build_with.Tie as tie
 
-triangle-count-requires : tie.Need-triangle-count-requires
-triangle-count-requires c κs = search needs
-
 put-bounds-requires : tie.Need-put-bounds-requires
 put-bounds-requires c κs =
     let known4 = c .before .before .before .before in
@@ -36,9 +33,6 @@ put-order-requires c κs =
     let known = known4 .before .before .before .before in
     let start = known .before in
     order-needs binary32 _ _ _ _ _ _ _ _ (start .pre) (λ i k. known .shared-slice-known .given i) _ (after-triangle-count .triangle-count .ensures)
-
-levels-below-requires : tie.Need-levels-below-requires
-levels-below-requires c κs = search needs
 
 slice-relend-prefix-grow : tie.Need-slice-relend-prefix-grow
 slice-relend-prefix-grow c =
@@ -128,18 +122,6 @@ same-length-2 c =
     let after-put-centres = after-put-order .before .before .before .before in
     after-put-centres .put-centres .kept .1 .1 .0
 
-same-length-3 : tie.Need-same-length-3
-same-length-3 c = search needs
-
-same-length-4 : tie.Need-same-length-4
-same-length-4 c = search needs
-
-same-length-5 : tie.Need-same-length-5
-same-length-5 c = search needs
-
-same-length-6 : tie.Need-same-length-6
-same-length-6 c = search needs
-
 returns : tie.Need-returns
 returns c =
     let at-boxes = c .before .before in
@@ -163,20 +145,6 @@ returns c =
 pub build-with-spec : {M : Type 1} → statement M
 build-with-spec =
     tie.close
-    (tie.spec
-    triangle-count-requires
-    put-bounds-requires
-    put-centres-requires
-    put-order-requires
-    levels-below-requires
-    slice-relend-prefix-grow
-    slice-aggregate-grow
-    grow-requires
-    add-t24
-    same-length
-    same-length-2
-    same-length-3
-    same-length-4
-    same-length-5
-    same-length-6
-    returns)
+    (tie.spec (λ c κs. search needs) put-bounds-requires put-centres-requires put-order-requires (λ c κs. search needs) slice-relend-prefix-grow
+    slice-aggregate-grow grow-requires add-t24 same-length same-length-2 (λ c. search needs) (λ c. search needs) (λ c. search needs)
+    (λ c. search needs) returns)

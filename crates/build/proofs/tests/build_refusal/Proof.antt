@@ -10,18 +10,6 @@ use borrow.Author.Needs.{needs}
 use Rattle.build.proofs.tests.build_refusal.Statement.{statement}
 use Rattle.build.proofs.tests.build_refusal.Tie as tie
 
-triangles-refusal-requires : tie.Need-triangles-refusal-requires
-triangles-refusal-requires c κs = search needs
-
-settings-refusal-requires : tie.Need-settings-refusal-requires
-settings-refusal-requires c κs = search needs
-
-or-requires : tie.Need-or-requires
-or-requires c κs = search needs
-
-refuses-requires : tie.Need-refuses-requires
-refuses-requires c κs = search needs
-
 returns : tie.Need-returns
 unfolding buildRefusal
 returns c =
@@ -29,9 +17,6 @@ returns c =
     row-stops _ _ _ _
     (or-test _ _ _ _ _ (ends _ _ (early .before .before .triangles-refusal .ensures)) (early .before .settings-refusal .ensures) (early .or .ensures))
     (c .before .refuses .ensures) (c .if1 .taken)
-
-triangle-count-requires : tie.Need-triangle-count-requires
-triangle-count-requires c κs = search needs
 
 mul-max-nodes : tie.Need-mul-max-nodes
 mul-max-nodes c =
@@ -49,9 +34,6 @@ sub-max-nodes c =
     (early .before .settings-refusal .ensures) (early .or .ensures)) (tested .before .refuses .ensures) (tested .if1 .left) .0) in
     omega (arith, good .some, c .triangle-count .ensures)
 
-room-refusal-requires : tie.Need-room-refusal-requires
-room-refusal-requires c κs = search needs
-
 mul-room-refusal : tie.Need-mul-room-refusal
 mul-room-refusal c =
     let counted = c .before in
@@ -61,12 +43,6 @@ mul-room-refusal c =
     (early .before .settings-refusal .ensures) (early .or .ensures)) (tested .before .refuses .ensures) (tested .if1 .left) .0) in
     omega (arith, good .few, counted .triangle-count .ensures)
 
-room-refusal-requires-2 : tie.Need-room-refusal-requires-2
-room-refusal-requires-2 c κs = search needs
-
-or-requires-2 : tie.Need-or-requires-2
-or-requires-2 c κs = search needs
-
 mul-room-refusal-2 : tie.Need-mul-room-refusal-2
 mul-room-refusal-2 c =
     let counted = c .before .before .before in
@@ -75,12 +51,6 @@ mul-room-refusal-2 c =
     let good = triangles-passed _ (row-passed _ _ _ (or-test _ _ _ _ _ (ends _ _ (early .before .before .triangles-refusal .ensures))
     (early .before .settings-refusal .ensures) (early .or .ensures)) (tested .before .refuses .ensures) (tested .if1 .left) .0) in
     omega (arith, good .few, counted .triangle-count .ensures)
-
-room-refusal-requires-3 : tie.Need-room-refusal-requires-3
-room-refusal-requires-3 c κs = search needs
-
-or-requires-3 : tie.Need-or-requires-3
-or-requires-3 c κs = search needs
 
 returns-2 : tie.Need-returns-2
 unfolding buildRefusal
@@ -103,20 +73,6 @@ returns-2 c =
 pub build-refusal-spec : {M : Type 1} → statement M
 build-refusal-spec =
     tie.close
-    (tie.spec
-    triangles-refusal-requires
-    settings-refusal-requires
-    or-requires
-    refuses-requires
-    returns
-    triangle-count-requires
-    mul-max-nodes
-    sub-max-nodes
-    room-refusal-requires
-    mul-room-refusal
-    room-refusal-requires-2
-    or-requires-2
-    mul-room-refusal-2
-    room-refusal-requires-3
-    or-requires-3
-    returns-2)
+    (tie.spec (λ c κs. search needs) (λ c κs. search needs) (λ c κs. search needs) (λ c κs. search needs) returns (λ c κs. search needs) mul-max-nodes
+    sub-max-nodes (λ c κs. search needs) mul-room-refusal (λ c κs. search needs) (λ c κs. search needs) mul-room-refusal-2 (λ c κs. search needs)
+    (λ c κs. search needs) returns-2)

@@ -15,8 +15,6 @@ returns : tie.Need-returns
 unfolding toBits
 returns c = ap (toBits binary32) (sym (differs-from-itself (c .before .args .x) (passed (c .if1 .taken))))
 
-returns-2 : tie.Need-returns-2
-returns-2 c = search needs
-
 pub bits-of-spec : {M : Type 1} → statement M
-bits-of-spec = tie.close (tie.spec float-to-bits-result returns returns-2)
+bits-of-spec = tie.close
+    (tie.spec float-to-bits-result returns (λ c. search needs))

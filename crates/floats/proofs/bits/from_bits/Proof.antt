@@ -12,8 +12,6 @@ float-from-bits-result c = reads-as-number binary32 (c .before .args .pattern) (
 returns : tie.Need-returns
 returns c = nought-over-nought binary32 ∙ reads-as-nan binary32 (c .before .args .pattern) (c .if1 .taken)
 
-returns-2 : tie.Need-returns-2
-returns-2 c = search needs
-
 pub from-bits-spec : {M : Type 1} → statement M
-from-bits-spec = tie.close (tie.spec float-from-bits-result returns returns-2)
+from-bits-spec = tie.close
+    (tie.spec float-from-bits-result returns (λ c. search needs))

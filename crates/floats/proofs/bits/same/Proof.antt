@@ -8,12 +8,6 @@ use Rattle.spec_numbers.proofs.Same.{patterns-same}
 use Rattle.floats.proofs.bits.same.Statement.{statement}
 use Rattle.floats.proofs.bits.same.Tie as tie
 
-bits-of-requires : tie.Need-bits-of-requires
-bits-of-requires c κs = search needs
-
-bits-of-requires-2 : tie.Need-bits-of-requires-2
-bits-of-requires-2 c κs = search needs
-
 returns : tie.Need-returns
 returns c =
     let start = c .before .before in
@@ -21,4 +15,5 @@ returns c =
     ∙ patterns-same binary32 (start .args .a) (start .args .b) (passed (start .good .0 .1)) (passed (start .good .1 .0 .1))
 
 pub same-spec : {M : Type 1} → statement M
-same-spec = tie.close (tie.spec bits-of-requires bits-of-requires-2 returns)
+same-spec = tie.close
+    (tie.spec (λ c κs. search needs) (λ c κs. search needs) returns)

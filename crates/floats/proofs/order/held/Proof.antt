@@ -5,14 +5,9 @@ use borrow.Author.Needs.{needs}
 use Rattle.floats.proofs.order.held.Statement.{statement}
 use Rattle.floats.proofs.order.held.Tie as tie
 
-raise-requires : tie.Need-raise-requires
-raise-requires c κs = search needs
-
-lower-requires : tie.Need-lower-requires
-lower-requires c κs = search needs
-
 returns : tie.Need-returns
 returns c = c .lower .ensures ∙ ap (lower (c .before .before .args .hi)) (c .before .raise .ensures)
 
 pub held-spec : {M : Type 1} → statement M
-held-spec = tie.close (tie.spec raise-requires lower-requires returns)
+held-spec = tie.close
+    (tie.spec (λ c κs. search needs) (λ c κs. search needs) returns)

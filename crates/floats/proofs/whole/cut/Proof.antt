@@ -17,12 +17,10 @@ truncating-f32-to-u64-requires c κs =
     let x = c .before .before .args .x in
     (above-minus-one x (passed (c .if2 .taken)), below-power 64 x (passed (c .if2 .taken)) (failed (c .before .if1 .left)))
 
-returns-2 : tie.Need-returns-2
-returns-2 c = search needs
-
 returns-3 : tie.Need-returns-3
 unfolding ofBits
 returns-3 c = sym (cut-below-zero 64 (c .before .before .args .x) (failed (c .if2 .left)))
 
 pub cut-spec : {M : Type 1} → statement M
-cut-spec = tie.close (tie.spec returns truncating-f32-to-u64-requires returns-2 returns-3)
+cut-spec = tie.close
+    (tie.spec returns truncating-f32-to-u64-requires (λ c. search needs) returns-3)

@@ -26,12 +26,6 @@ put-answer-line-requires c κs =
       omega (arith, start .pre .1, c .before .loop-test .taken, turn .loop .inv .room, turn .loop .inv .long),
     )
 
-add-k : tie.Need-add-k Inv-loop μ-loop
-add-k c = omega arith
-
-loop-less : tie.Need-loop-less Inv-loop μ-loop
-loop-less c = omega arith
-
 loop-again : tie.Need-loop-again Inv-loop μ-loop
 loop-again c =
     let after-put-answer-line = c .before .before in
@@ -49,13 +43,4 @@ returns c = lined-end _ _ _ _ _ _ _ (c .loop-test .left) (c .before .loop .inv)
 pub put-answer-lines-spec : {M : Type 1} → statement M
 put-answer-lines-spec =
     tie.close
-    (tie.spec
-    Inv-loop
-    μ-loop
-    loop-holds
-    put-answer-line-requires
-    add-k
-    loop-less
-    loop-again
-    same-length
-    returns)
+    (tie.spec Inv-loop μ-loop loop-holds put-answer-line-requires (λ c. omega arith) (λ c. omega arith) loop-again same-length returns)

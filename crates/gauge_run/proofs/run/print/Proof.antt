@@ -8,30 +8,12 @@ use borrow.Author.Needs.{needs}
 use Rattle.gauge_run.proofs.run.print.Statement.{statement}
 use Rattle.gauge_run.proofs.run.print.Tie as tie
 
-put-refused-requires : tie.Need-put-refused-requires
-put-refused-requires c κs = search needs
-
-same-length : tie.Need-same-length
-same-length c = search needs
-
 returns : tie.Need-returns
 returns c =
     let after-put-refused = c .before .before in
     let chosen = after-put-refused .before .before in
     let start = chosen .before .before .before in
     put-same (too-long (now (start .args .input)) (chosen .if1 .taken)) (after-put-refused .put-refused .ensures .0)
-
-gauge-layout-requires : tie.Need-gauge-layout-requires
-gauge-layout-requires c κs = search needs
-
-enum-known-at : tie.Need-enum-known-at
-enum-known-at c = search needs
-
-put-refused-requires-2 : tie.Need-put-refused-requires-2
-put-refused-requires-2 c κs = search needs
-
-enum-known-count : tie.Need-enum-known-count
-enum-known-count c = search needs
 
 print-sized-requires : tie.Need-print-sized-requires
 print-sized-requires c κs =
@@ -41,9 +23,6 @@ print-sized-requires c κs =
     let start = chosen .before .before .before in
     ((gauge-long _ _ _ (sym (after-gauge-layout .gauge-layout .ensures) ∙ ap gaugeLaid (at-count .count .given .1)), chosen .if1 .left), start .pre)
 
-same-length-2 : tie.Need-same-length-2
-same-length-2 c = search needs
-
 returns-2 : tie.Need-returns-2
 returns-2 c =
     let after-put-refused2 = c .before .before in
@@ -52,9 +31,6 @@ returns-2 c =
     let chosen = after-gauge-layout .before in
     put-same (wrong-printed _ (chosen .if1 .left) _ (sym (after-gauge-layout .gauge-layout .ensures) ∙ ap gaugeLaid (at-at .at .given .1)))
     (after-put-refused2 .put-refused2 .ensures .0)
-
-same-length-3 : tie.Need-same-length-3
-same-length-3 c = search needs
 
 returns-3 : tie.Need-returns-3
 returns-3 c =
@@ -68,16 +44,5 @@ returns-3 c =
 pub print-spec : {M : Type 1} → statement M
 print-spec =
     tie.close
-    (tie.spec
-    put-refused-requires
-    same-length
-    returns
-    gauge-layout-requires
-    enum-known-at
-    put-refused-requires-2
-    enum-known-count
-    print-sized-requires
-    same-length-2
-    returns-2
-    same-length-3
-    returns-3)
+    (tie.spec (λ c κs. search needs) (λ c. search needs) returns (λ c κs. search needs) (λ c. search needs) (λ c κs. search needs) (λ c. search needs)
+    print-sized-requires (λ c. search needs) returns-2 (λ c. search needs) returns-3)

@@ -7,18 +7,6 @@ use borrow.Author.Needs.{needs}
 use Rattle.gauge_run.proofs.run.print_request.Statement.{statement}
 use Rattle.gauge_run.proofs.run.print_request.Tie as tie
 
-request-refusal-requires : tie.Need-request-refusal-requires
-request-refusal-requires c κs = search needs
-
-enum-known-verdict : tie.Need-enum-known-verdict
-enum-known-verdict c = search needs
-
-put-refused-requires : tie.Need-put-refused-requires
-put-refused-requires c κs = search needs
-
-same-length : tie.Need-same-length
-same-length c = search needs
-
 returns : tie.Need-returns
 returns c =
     let after-put-refused = c .before .before in
@@ -27,17 +15,11 @@ returns c =
     put-same (refused-printed _ _ _ (sym (after-request-refusal .request-refusal .ensures) ∙ ap asVerdict (at-verdict .verdict .given .1)))
     (after-put-refused .put-refused .ensures .0)
 
-enum-told : tie.Need-enum-told
-enum-told c = search needs
-
 put-run-requires : tie.Need-put-run-requires
 put-run-requires c κs =
     let after-request-refusal = c .before .before .before in
     let start = after-request-refusal .before .before .before .before in
     (sym (after-request-refusal .request-refusal .ensures) ∙ ap asVerdict (c .before .enum-told .given .1), start .pre)
-
-same-length-2 : tie.Need-same-length-2
-same-length-2 c = search needs
 
 returns-2 : tie.Need-returns-2
 returns-2 c =
@@ -50,13 +32,5 @@ returns-2 c =
 pub print-request-spec : {M : Type 1} → statement M
 print-request-spec =
     tie.close
-    (tie.spec
-    request-refusal-requires
-    enum-known-verdict
-    put-refused-requires
-    same-length
-    returns
-    enum-told
-    put-run-requires
-    same-length-2
-    returns-2)
+    (tie.spec (λ c κs. search needs) (λ c. search needs) (λ c κs. search needs) (λ c. search needs) returns (λ c. search needs) put-run-requires
+    (λ c. search needs) returns-2)

@@ -11,45 +11,6 @@ use borrow.Author.Needs.{needs}
 use Rattle.gauge_run.proofs.run.print_sized.Statement.{statement}
 use Rattle.gauge_run.proofs.run.print_sized.Tie as tie
 
-mul-third : tie.Need-mul-third
-mul-third c = search needs
-
-add-third : tie.Need-add-third
-add-third c = search needs
-
-add-third-2 : tie.Need-add-third-2
-add-third-2 c = search needs
-
-mul-fourth : tie.Need-mul-fourth
-mul-fourth c = search needs
-
-add-fourth : tie.Need-add-fourth
-add-fourth c = search needs
-
-add-fourth-2 : tie.Need-add-fourth-2
-add-fourth-2 c = search needs
-
-mul-numbers : tie.Need-mul-numbers
-mul-numbers c = search needs
-
-slice-aggregate-read-f32s : tie.Need-slice-aggregate-read-f32s
-slice-aggregate-read-f32s c = search needs
-
-read-f32s-requires : tie.Need-read-f32s-requires
-read-f32s-requires c κs = search needs
-
-mul-coordinates : tie.Need-mul-coordinates
-mul-coordinates c = search needs
-
-slice-aggregate-read-f32s-2 : tie.Need-slice-aggregate-read-f32s-2
-slice-aggregate-read-f32s-2 c = search needs
-
-read-f32s-requires-2 : tie.Need-read-f32s-requires-2
-read-f32s-requires-2 c κs = search needs
-
-array-share-prefix-triangles : tie.Need-array-share-prefix-triangles
-array-share-prefix-triangles c = search needs
-
 slice-aggregate-print-request : tie.Need-slice-aggregate-print-request
 slice-aggregate-print-request c =
     let at-triangles2 = c .before .before .before .before in
@@ -57,24 +18,12 @@ slice-aggregate-print-request c =
     let start = after-read-f32s .before .before .before .before in
     sym (length-take-le _ _ (omega (arith, start .pre .0 .0, start .pre .0 .1, at-triangles2 .triangles2 .given)))
 
-settings-of-requires : tie.Need-settings-of-requires
-settings-of-requires c κs = search needs
-
-array-share-prefix-points : tie.Need-array-share-prefix-points
-array-share-prefix-points c = search needs
-
 slice-aggregate-print-request-2 : tie.Need-slice-aggregate-print-request-2
 slice-aggregate-print-request-2 c =
     let at-points2 = c .before .before .before in
     let after-read-f32s = at-points2 .before .before .before .before in
     let start = after-read-f32s .before .before .before .before in
     sym (length-take-le _ _ (omega (arith, start .pre .0 .0, start .pre .0 .1, at-points2 .points2 .given)))
-
-u32-at-requires : tie.Need-u32-at-requires
-u32-at-requires c κs = search needs
-
-from-bits-requires : tie.Need-from-bits-requires
-from-bits-requires c κs = search needs
 
 print-request-requires : tie.Need-print-request-requires
 print-request-requires c κs =
@@ -87,9 +36,6 @@ print-request-requires c κs =
     (length-take-le _ _ (omega (arith, start .pre .0 .0, start .pre .0 .1, at-triangles2 .triangles2 .given)))
     (length-take-le _ _ (omega (arith, start .pre .0 .0, start .pre .0 .1, at-points2 .points2 .given)))
     (omega (arith, start .pre .0 .0, start .pre .0 .1)) (start .pre .1)
-
-same-length : tie.Need-same-length
-same-length c = search needs
 
 returns : tie.Need-returns
 returns c =
@@ -109,26 +55,7 @@ returns c =
 pub print-sized-spec : {M : Type 1} → statement M
 print-sized-spec =
     tie.close
-    (tie.spec
-    mul-third
-    add-third
-    add-third-2
-    mul-fourth
-    add-fourth
-    add-fourth-2
-    mul-numbers
-    slice-aggregate-read-f32s
-    read-f32s-requires
-    mul-coordinates
-    slice-aggregate-read-f32s-2
-    read-f32s-requires-2
-    array-share-prefix-triangles
-    slice-aggregate-print-request
-    settings-of-requires
-    array-share-prefix-points
-    slice-aggregate-print-request-2
-    u32-at-requires
-    from-bits-requires
-    print-request-requires
-    same-length
-    returns)
+    (tie.spec (λ c. search needs) (λ c. search needs) (λ c. search needs) (λ c. search needs) (λ c. search needs) (λ c. search needs)
+    (λ c. search needs) (λ c. search needs) (λ c κs. search needs) (λ c. search needs) (λ c. search needs) (λ c κs. search needs) (λ c. search needs)
+    slice-aggregate-print-request (λ c κs. search needs) (λ c. search needs) slice-aggregate-print-request-2 (λ c κs. search needs)
+    (λ c κs. search needs) print-request-requires (λ c. search needs) returns)

@@ -9,18 +9,6 @@ use borrow.Author.Needs.{needs}
 use Rattle.gauge_run.proofs.run.put_answers.Statement.{statement}
 use Rattle.gauge_run.proofs.run.put_answers.Tie as tie
 
-slice-aggregate-sure-query : tie.Need-slice-aggregate-sure-query
-slice-aggregate-sure-query c = search needs
-
-sure-query-requires : tie.Need-sure-query-requires
-sure-query-requires c κs = search needs
-
-slice-aggregate-put-answer-lines : tie.Need-slice-aggregate-put-answer-lines
-slice-aggregate-put-answer-lines c = search needs
-
-point-count-requires : tie.Need-point-count-requires
-point-count-requires c κs = search needs
-
 put-answer-lines-requires : tie.Need-put-answer-lines-requires
 put-answer-lines-requires c κs =
     let at-answers2 = c .before .before .before in
@@ -31,9 +19,6 @@ put-answer-lines-requires c κs =
     let p = query-passed (now (a .triangles)) (now (a .order)) (now (a .links)) (now (a .boxes)) (a .nodes) (now (a .points)) (a .distance) 16380
     (start .pre .0) in
     (omega (arith, p .1, c .before .point-count .ensures, at-answers2 .answers2 .given), omega (arith, start .pre .1, c .before .point-count .ensures))
-
-same-length : tie.Need-same-length
-same-length c = search needs
 
 returns : tie.Need-returns
 returns c =
@@ -49,11 +34,5 @@ returns c =
 pub put-answers-spec : {M : Type 1} → statement M
 put-answers-spec =
     tie.close
-    (tie.spec
-    slice-aggregate-sure-query
-    sure-query-requires
-    slice-aggregate-put-answer-lines
-    point-count-requires
-    put-answer-lines-requires
-    same-length
+    (tie.spec (λ c. search needs) (λ c κs. search needs) (λ c. search needs) (λ c κs. search needs) put-answer-lines-requires (λ c. search needs)
     returns)

@@ -12,24 +12,6 @@ use borrow.Author.Needs.{needs}
 use Rattle.gauge_run.proofs.run.put_run.Statement.{statement}
 use Rattle.gauge_run.proofs.run.put_run.Tie as tie
 
-slice-aggregate-build : tie.Need-slice-aggregate-build
-slice-aggregate-build c = search needs
-
-slice-aggregate-build-2 : tie.Need-slice-aggregate-build-2
-slice-aggregate-build-2 c = search needs
-
-slice-aggregate-build-3 : tie.Need-slice-aggregate-build-3
-slice-aggregate-build-3 c = search needs
-
-build-requires : tie.Need-build-requires
-build-requires c κs = search needs
-
-enum-known-nodes : tie.Need-enum-known-nodes
-enum-known-nodes c = search needs
-
-enum-told : tie.Need-enum-told
-enum-told c = search needs
-
 returns : tie.Need-returns
 returns c =
     let at-boxes2 = c .before .before in
@@ -41,15 +23,6 @@ returns c =
     absurd (is-built request (all-passed request (start .pre .0)) _ _ _ (start .pre .1 .triangles-few) refl refl refl _ _ _ _ _
     (rw (c .enum-told .given .1) at (after-build .build .ensures)))
 
-triangle-count-requires : tie.Need-triangle-count-requires
-triangle-count-requires c κs = search needs
-
-put-counts-requires : tie.Need-put-counts-requires
-put-counts-requires c κs = search needs
-
-array-share-prefix-order : tie.Need-array-share-prefix-order
-array-share-prefix-order c = search needs
-
 slice-aggregate-put-answers : tie.Need-slice-aggregate-put-answers
 slice-aggregate-put-answers c =
     let after-put-counts = c .before .before .before in
@@ -59,12 +32,6 @@ slice-aggregate-put-answers c =
     let at-order = at-order2 .before .before .before .before in
     let start = at-order .before .before .before .before in
     sym (length-take-le _ _ (omega (arith, after-triangle-count .triangle-count .ensures, start .pre .1 .triangles-few, at-order2 .order2 .given)))
-
-slice-aggregate-put-answers-2 : tie.Need-slice-aggregate-put-answers-2
-slice-aggregate-put-answers-2 c = search needs
-
-slice-aggregate-put-answers-3 : tie.Need-slice-aggregate-put-answers-3
-slice-aggregate-put-answers-3 c = search needs
 
 put-answers-requires : tie.Need-put-answers-requires
 put-answers-requires c κs =
@@ -90,9 +57,6 @@ put-answers-requires c κs =
       ),
     )
 
-same-length : tie.Need-same-length
-same-length c = search needs
-
 returns-2 : tie.Need-returns-2
 returns-2 c =
     let after-put-answers = c .before .before in
@@ -115,20 +79,6 @@ returns-2 c =
 pub put-run-spec : {M : Type 1} → statement M
 put-run-spec =
     tie.close
-    (tie.spec
-    slice-aggregate-build
-    slice-aggregate-build-2
-    slice-aggregate-build-3
-    build-requires
-    enum-known-nodes
-    enum-told
-    returns
-    triangle-count-requires
-    put-counts-requires
-    array-share-prefix-order
-    slice-aggregate-put-answers
-    slice-aggregate-put-answers-2
-    slice-aggregate-put-answers-3
-    put-answers-requires
-    same-length
-    returns-2)
+    (tie.spec (λ c. search needs) (λ c. search needs) (λ c. search needs) (λ c κs. search needs) (λ c. search needs) (λ c. search needs) returns
+    (λ c κs. search needs) (λ c κs. search needs) (λ c. search needs) slice-aggregate-put-answers (λ c. search needs) (λ c. search needs)
+    put-answers-requires (λ c. search needs) returns-2)

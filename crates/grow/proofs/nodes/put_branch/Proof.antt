@@ -8,36 +8,6 @@ use borrow.Author.Needs.{needs}
 use Rattle.grow.proofs.nodes.put_branch.Statement.{statement}
 use Rattle.grow.proofs.nodes.put_branch.Tie as tie
 
-add-node : tie.Need-add-node
-add-node c = search needs
-
-union-box-requires : tie.Need-union-box-requires
-union-box-requires c κs = search needs
-
-cast-put-links : tie.Need-cast-put-links
-cast-put-links c = search needs
-
-cast-put-links-2 : tie.Need-cast-put-links-2
-cast-put-links-2 c = search needs
-
-put-links-requires : tie.Need-put-links-requires
-put-links-requires c κs = search needs
-
-put-box-requires : tie.Need-put-box-requires
-put-box-requires c κs = search needs
-
-deeper-requires : tie.Need-deeper-requires
-deeper-requires c κs = search needs
-
-add-t15 : tie.Need-add-t15
-add-t15 c = search needs
-
-same-length : tie.Need-same-length
-same-length c = search needs
-
-same-length-2 : tie.Need-same-length-2
-same-length-2 c = search needs
-
 returns : tie.Need-returns
 returns c =
     let after-put-box = c .before .before .before in
@@ -56,15 +26,5 @@ returns c =
 pub put-branch-spec : {M : Type 1} → statement M
 put-branch-spec =
     tie.close
-    (tie.spec
-    add-node
-    union-box-requires
-    cast-put-links
-    cast-put-links-2
-    put-links-requires
-    put-box-requires
-    deeper-requires
-    add-t15
-    same-length
-    same-length-2
-    returns)
+    (tie.spec (λ c. search needs) (λ c κs. search needs) (λ c. search needs) (λ c. search needs) (λ c κs. search needs) (λ c κs. search needs)
+    (λ c κs. search needs) (λ c. search needs) (λ c. search needs) (λ c. search needs) returns)

@@ -3,18 +3,6 @@ use borrow.Author.Needs.{needs}
 use Rattle.grow.proofs.tables.first_key.Statement.{statement}
 use Rattle.grow.proofs.tables.first_key.Tie as tie
 
-enum-told : tie.Need-enum-told
-enum-told c = search needs
-
-enum-told-2 : tie.Need-enum-told-2
-enum-told-2 c = search needs
-
-enum-told-3 : tie.Need-enum-told-3
-enum-told-3 c = search needs
-
-mul-result : tie.Need-mul-result
-mul-result c = search needs
-
 returns : tie.Need-returns
 returns c = rw (c .enum-told .given .1)
 
@@ -26,4 +14,5 @@ returns-3 c = rw (c .enum-told3 .given .1)
 
 pub first-key-spec : {M : Type 1} → statement M
 first-key-spec =
-    tie.close (tie.spec enum-told enum-told-2 enum-told-3 mul-result returns returns-2 returns-3)
+    tie.close
+    (tie.spec (λ c. search needs) (λ c. search needs) (λ c. search needs) (λ c. search needs) returns returns-2 returns-3)

@@ -10,29 +10,14 @@ use borrow.Author.Needs.{needs}
 use Rattle.grow.proofs.tables.put_axis.Statement.{statement}
 use Rattle.grow.proofs.tables.put_axis.Tie as tie
 
-first-key-requires : tie.Need-first-key-requires
-first-key-requires c κs = search needs
-
 add-put-keys : tie.Need-add-put-keys
 add-put-keys c = omega (arith, c .first-key .ensures, place-below (asAxis (c .before .before .before .args .axis)))
 
 mul-put-keys : tie.Need-mul-put-keys
 mul-put-keys c = omega (arith, c .first-key .ensures, place-below (asAxis (c .before .before .before .args .axis)))
 
-sub-put-keys : tie.Need-sub-put-keys
-sub-put-keys c = search needs
-
-part-put-keys-start : tie.Need-part-put-keys-start
-part-put-keys-start c = search needs
-
 part-put-keys-end : tie.Need-part-put-keys-end
 part-put-keys-end c = omega (arith, c .first-key .ensures, place-below (asAxis (c .before .before .before .args .axis)))
-
-put-keys-requires : tie.Need-put-keys-requires
-put-keys-requires c κs = search needs
-
-same-length : tie.Need-same-length
-same-length c = search needs
 
 returns : tie.Need-returns
 returns c =
@@ -46,13 +31,5 @@ returns c =
 pub put-axis-spec : {M : Type 1} → statement M
 put-axis-spec =
     tie.close
-    (tie.spec
-    first-key-requires
-    add-put-keys
-    mul-put-keys
-    sub-put-keys
-    part-put-keys-start
-    part-put-keys-end
-    put-keys-requires
-    same-length
-    returns)
+    (tie.spec (λ c κs. search needs) add-put-keys mul-put-keys (λ c. search needs) (λ c. search needs) part-put-keys-end (λ c κs. search needs)
+    (λ c. search needs) returns)

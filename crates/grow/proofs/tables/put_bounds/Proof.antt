@@ -20,17 +20,8 @@ abbrev μ-loop : tie.MeasureT-loop
 loop-holds : tie.Need-loop-holds Inv-loop μ-loop
 loop-holds c = run-start _ 6 0 _ _
 
-box-at-requires : tie.Need-box-at-requires Inv-loop μ-loop
-box-at-requires c κs = search needs
-
 put-box-requires : tie.Need-put-box-requires Inv-loop μ-loop
 put-box-requires c κs = omega (arith, c .before .before .before .loop .inv .long)
-
-add-t : tie.Need-add-t Inv-loop μ-loop
-add-t c = search needs
-
-loop-less : tie.Need-loop-less Inv-loop μ-loop
-loop-less c = search needs
 
 loop-again : tie.Need-loop-again Inv-loop μ-loop
 loop-again c =
@@ -51,14 +42,5 @@ returns c = run-end _ 0 _ _ _ _ (c .loop-test .left) (c .before .loop .inv)
 pub put-bounds-spec : {M : Type 1} → statement M
 put-bounds-spec =
     tie.close
-    (tie.spec
-    Inv-loop
-    μ-loop
-    loop-holds
-    box-at-requires
-    put-box-requires
-    add-t
-    loop-less
-    loop-again
-    same-length
+    (tie.spec Inv-loop μ-loop loop-holds (λ c κs. search needs) put-box-requires (λ c. search needs) (λ c. search needs) loop-again same-length
     returns)

@@ -4,18 +4,6 @@ use borrow.Author.Needs.{needs}
 use Rattle.grow.proofs.tables.put_centres.Statement.{statement}
 use Rattle.grow.proofs.tables.put_centres.Tie as tie
 
-put-axis-requires : tie.Need-put-axis-requires
-put-axis-requires c κs = search needs
-
-put-axis-requires-2 : tie.Need-put-axis-requires-2
-put-axis-requires-2 c κs = search needs
-
-put-axis-requires-3 : tie.Need-put-axis-requires-3
-put-axis-requires-3 c κs = search needs
-
-same-length : tie.Need-same-length
-same-length c = search needs
-
 returns : tie.Need-returns
 returns c =
     let after-put-axis3 = c .before .before in
@@ -26,4 +14,4 @@ returns c =
 pub put-centres-spec : {M : Type 1} → statement M
 put-centres-spec =
     tie.close
-    (tie.spec put-axis-requires put-axis-requires-2 put-axis-requires-3 same-length returns)
+    (tie.spec (λ c κs. search needs) (λ c κs. search needs) (λ c κs. search needs) (λ c. search needs) returns)

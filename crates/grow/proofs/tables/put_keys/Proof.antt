@@ -21,23 +21,11 @@ abbrev μ-loop : tie.MeasureT-loop
 loop-holds : tie.Need-loop-holds Inv-loop μ-loop
 loop-holds c = run-start _ 1 0 _ _
 
-cast-centre-on : tie.Need-cast-centre-on Inv-loop μ-loop
-cast-centre-on c = search needs
-
-centre-on-requires : tie.Need-centre-on-requires Inv-loop μ-loop
-centre-on-requires c κs = search needs
-
 mul-keys : tie.Need-mul-keys Inv-loop μ-loop
 mul-keys c = omega (arith, c .before .before .loop .inv .long)
 
 slice-write-keys : tie.Need-slice-write-keys Inv-loop μ-loop
 slice-write-keys c = omega (arith, c .before .before .loop .inv .long)
-
-add-t : tie.Need-add-t Inv-loop μ-loop
-add-t c = search needs
-
-loop-less : tie.Need-loop-less Inv-loop μ-loop
-loop-less c = search needs
 
 loop-again : tie.Need-loop-again Inv-loop μ-loop
 loop-again c =
@@ -55,16 +43,5 @@ returns c = run-end _ 0 _ _ _ _ (c .loop-test .left) (c .before .loop .inv)
 pub put-keys-spec : {M : Type 1} → statement M
 put-keys-spec =
     tie.close
-    (tie.spec
-    Inv-loop
-    μ-loop
-    loop-holds
-    cast-centre-on
-    centre-on-requires
-    mul-keys
-    slice-write-keys
-    add-t
-    loop-less
-    loop-again
-    same-length
-    returns)
+    (tie.spec Inv-loop μ-loop loop-holds (λ c. search needs) (λ c κs. search needs) mul-keys slice-write-keys (λ c. search needs) (λ c. search needs)
+    loop-again same-length returns)

@@ -5,19 +5,14 @@ use borrow.Author.Needs.{needs}
 use Rattle.grow.proofs.tries.rule.Statement.{statement}
 use Rattle.grow.proofs.tries.rule.Tie as tie
 
-median-split-requires : tie.Need-median-split-requires
-median-split-requires c κs = search needs
-
 returns : tie.Need-returns
 unfolding rule
 returns c = rw (eq-eqb (c .before .before .before .before .args .strategy) 1 (c .before .if1 .taken)) (c .median-split .ensures)
-
-area-split-requires : tie.Need-area-split-requires
-area-split-requires c κs = search needs
 
 returns-2 : tie.Need-returns-2
 unfolding rule
 returns-2 c = rw (ne-eqb (c .before .before .before .before .args .strategy) 1 (c .before .if1 .left)) (c .area-split .ensures)
 
 pub rule-spec : {M : Type 1} → statement M
-rule-spec = tie.close (tie.spec median-split-requires returns area-split-requires returns-2)
+rule-spec = tie.close
+    (tie.spec (λ c κs. search needs) returns (λ c κs. search needs) returns-2)

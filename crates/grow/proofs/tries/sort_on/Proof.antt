@@ -8,9 +8,6 @@ use borrow.Author.Needs.{needs}
 use Rattle.grow.proofs.tries.sort_on.Statement.{statement}
 use Rattle.grow.proofs.tries.sort_on.Tie as tie
 
-first-key-requires : tie.Need-first-key-requires
-first-key-requires c κs = search needs
-
 add-sort-by-key : tie.Need-add-sort-by-key
 add-sort-by-key c = omega (arith, c .first-key .ensures, place-below (asAxis (c .before .before .before .before .args .axis)))
 
@@ -18,12 +15,6 @@ mul-sort-by-key : tie.Need-mul-sort-by-key
 mul-sort-by-key c =
     let start = c .before .before .before .before in
     omega (arith, c .first-key .ensures, place-below (asAxis (start .args .axis)), start .pre .long)
-
-sub-sort-by-key : tie.Need-sub-sort-by-key
-sub-sort-by-key c = search needs
-
-part-sort-by-key-start : tie.Need-part-sort-by-key-start
-part-sort-by-key-start c = search needs
 
 part-sort-by-key-end : tie.Need-part-sort-by-key-end
 part-sort-by-key-end c =
@@ -38,12 +29,6 @@ sort-by-key-requires c κs =
     sort-needs (asAxis (start .args .axis)) (start .args .centres .now) _ _ first (first + 4096 - first) (after-first-key .first-key .ensures)
     (omega arith) (start .pre)
 
-same-length : tie.Need-same-length
-same-length c = search needs
-
-same-length-2 : tie.Need-same-length-2
-same-length-2 c = search needs
-
 returns : tie.Need-returns
 returns c =
     let after-sort-by-key = c .before .before .before .before in
@@ -56,14 +41,5 @@ returns c =
 pub sort-on-spec : {M : Type 1} → statement M
 sort-on-spec =
     tie.close
-    (tie.spec
-    first-key-requires
-    add-sort-by-key
-    mul-sort-by-key
-    sub-sort-by-key
-    part-sort-by-key-start
-    part-sort-by-key-end
-    sort-by-key-requires
-    same-length
-    same-length-2
-    returns)
+    (tie.spec (λ c κs. search needs) add-sort-by-key mul-sort-by-key (λ c. search needs) (λ c. search needs) part-sort-by-key-end sort-by-key-requires
+    (λ c. search needs) (λ c. search needs) returns)

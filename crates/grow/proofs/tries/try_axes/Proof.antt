@@ -9,24 +9,6 @@ use borrow.Author.Needs.{needs}
 use Rattle.grow.proofs.tries.try_axes.Statement.{statement}
 use Rattle.grow.proofs.tries.try_axes.Tie as tie
 
-sizes-requires : tie.Need-sizes-requires
-sizes-requires c κs = search needs
-
-axes-by-size-requires : tie.Need-axes-by-size-requires
-axes-by-size-requires c κs = search needs
-
-try-on-requires : tie.Need-try-on-requires
-try-on-requires c κs = search needs
-
-enum-known-once : tie.Need-enum-known-once
-enum-known-once c = search needs
-
-same-length : tie.Need-same-length
-same-length c = search needs
-
-same-length-2 : tie.Need-same-length-2
-same-length-2 c = search needs
-
 returns : tie.Need-returns
 returns c =
     let at-scratch = c .before .before .before .before in
@@ -35,9 +17,6 @@ returns c =
     let after-sizes = after-axes-by-size .before in
     in-turn binary32 _ _ _ _ _ _ (after-axes-by-size .axes-by-size .ensures ∙ ap (λ (p : Point). axesBySize (at p)) (after-sizes .sizes .ensures))
     (stays-cut binary32 _ _ _ _ _ _ _ _ _ (ap asSplit (c .before .once .given .1)) (after-try-on .try-on .ensures))
-
-enum-told : tie.Need-enum-told
-enum-told c = search needs
 
 try-on-requires-2 : tie.Need-try-on-requires-2
 try-on-requires-2 c κs =
@@ -48,15 +27,6 @@ try-on-requires-2 c κs =
     let start = known .before .before .before in
     next-needs binary32 _ _ (start .pre) _ _ _ _ _ (asSplit (after-try-on .try-on .result)) (after-try-on .try-on .ensures)
     (after-try-on .try-on .kept .1 .1 .1 .1 .1 .1 .0)
-
-enum-known-twice : tie.Need-enum-known-twice
-enum-known-twice c = search needs
-
-same-length-3 : tie.Need-same-length-3
-same-length-3 c = search needs
-
-same-length-4 : tie.Need-same-length-4
-same-length-4 c = search needs
 
 returns-2 : tie.Need-returns-2
 returns-2 c =
@@ -70,9 +40,6 @@ returns-2 c =
     in-turn binary32 _ _ _ _ _ _ (after-axes-by-size .axes-by-size .ensures ∙ ap (λ (p : Point). axesBySize (at p)) (after-sizes .sizes .ensures))
     (tries-next binary32 _ _ _ _ _ _ _ _ _ (ap asSplit (at-enum-told .enum-told .given .1)) (after-try-on .try-on .ensures)
     (stays-cut binary32 _ _ _ _ _ _ _ _ _ (ap asSplit (c .before .twice .given .1)) (after-try-on2 .try-on2 .ensures)))
-
-enum-told-2 : tie.Need-enum-told-2
-enum-told-2 c = search needs
 
 try-on-requires-3 : tie.Need-try-on-requires-3
 try-on-requires-3 c κs =
@@ -88,12 +55,6 @@ try-on-requires-3 c κs =
     (next-needs binary32 _ _ (start .pre) _ _ _ _ (after-try-on .try-on .last .1 .1 .1 .1 .1 .1 .0) (asSplit (after-try-on .try-on .result))
     (after-try-on .try-on .ensures) (after-try-on .try-on .kept .1 .1 .1 .1 .1 .1 .0))
     _ _ _ _ _ (asSplit (after-try-on2 .try-on2 .result)) (after-try-on2 .try-on2 .ensures) (after-try-on2 .try-on2 .kept .1 .1 .1 .1 .1 .1 .0)
-
-same-length-5 : tie.Need-same-length-5
-same-length-5 c = search needs
-
-same-length-6 : tie.Need-same-length-6
-same-length-6 c = search needs
 
 returns-3 : tie.Need-returns-3
 returns-3 c =
@@ -114,22 +75,6 @@ returns-3 c =
 pub try-axes-spec : {M : Type 1} → statement M
 try-axes-spec =
     tie.close
-    (tie.spec
-    sizes-requires
-    axes-by-size-requires
-    try-on-requires
-    enum-known-once
-    same-length
-    same-length-2
-    returns
-    enum-told
-    try-on-requires-2
-    enum-known-twice
-    same-length-3
-    same-length-4
-    returns-2
-    enum-told-2
-    try-on-requires-3
-    same-length-5
-    same-length-6
-    returns-3)
+    (tie.spec (λ c κs. search needs) (λ c κs. search needs) (λ c κs. search needs) (λ c. search needs) (λ c. search needs) (λ c. search needs) returns
+    (λ c. search needs) try-on-requires-2 (λ c. search needs) (λ c. search needs) (λ c. search needs) returns-2 (λ c. search needs) try-on-requires-3
+    (λ c. search needs) (λ c. search needs) returns-3)

@@ -21,12 +21,6 @@ rule-requires c κs =
     try-rule-needs binary32 _ _ (try-sorted binary32 _ _ (start .pre) (start .args .strategy) (asAxis (start .args .axis)) (asBox (start .args .parent)) _
     (after-sort-on .sort-on .ensures))
 
-same-length : tie.Need-same-length
-same-length c = search needs
-
-same-length-2 : tie.Need-same-length-2
-same-length-2 c = search needs
-
 returns : tie.Need-returns
 returns c =
     let at-scratch = c .before .before .before in
@@ -37,4 +31,5 @@ returns c =
     (c .rule .ensures)
 
 pub try-on-spec : {M : Type 1} → statement M
-try-on-spec = tie.close (tie.spec sort-on-requires rule-requires same-length same-length-2 returns)
+try-on-spec = tie.close
+    (tie.spec sort-on-requires rule-requires (λ c. search needs) (λ c. search needs) returns)

@@ -12,15 +12,6 @@ union-of-requires c κs =
     let start = known .before .before .before in
     (omega (arith, start .pre .some), try-rule-needs binary32 _ _ (start .pre) .boxed .in-table)
 
-try-axes-requires : tie.Need-try-axes-requires
-try-axes-requires c κs = search needs
-
-same-length : tie.Need-same-length
-same-length c = search needs
-
-same-length-2 : tie.Need-same-length-2
-same-length-2 c = search needs
-
 returns : tie.Need-returns
 returns c =
     let after-try-axes = c .before .before .before .before in
@@ -31,4 +22,5 @@ returns c =
 
 pub try-slice-spec : {M : Type 1} → statement M
 try-slice-spec =
-    tie.close (tie.spec union-of-requires try-axes-requires same-length same-length-2 returns)
+    tie.close
+    (tie.spec union-of-requires (λ c κs. search needs) (λ c. search needs) (λ c. search needs) returns)

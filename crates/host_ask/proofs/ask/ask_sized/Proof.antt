@@ -9,12 +9,6 @@ use borrow.Author.Needs.{needs}
 use Rattle.host_ask.proofs.ask.ask_sized.Statement.{statement}
 use Rattle.host_ask.proofs.ask.ask_sized.Tie as tie
 
-count-refusal-requires : tie.Need-count-refusal-requires
-count-refusal-requires c κs = search needs
-
-refuses-requires : tie.Need-refuses-requires
-refuses-requires c κs = search needs
-
 returns : tie.Need-returns
 unfolding requestRefusal
 returns c =
@@ -25,12 +19,6 @@ returns c =
           (c .before .refuses .ensures) (c .if1 .taken),
       as-it-was _ _ _ (sym (c .before .refuses .ensures) ∙ c .if1 .taken),
     )
-
-mul-numbers : tie.Need-mul-numbers
-mul-numbers c = search needs
-
-slice-aggregate-read-f32s : tie.Need-slice-aggregate-read-f32s
-slice-aggregate-read-f32s c = search needs
 
 read-f32s-requires : tie.Need-read-f32s-requires
 read-f32s-requires c κs =
@@ -64,24 +52,8 @@ ask-triangles-requires c κs =
     let a = start .args in
     record { long = start .pre; triangles-are = triangles-read (a .image .now) (a .count) (a .nodes) _ _ (after-read-f32s .read-f32s .ensures) }
 
-same-length : tie.Need-same-length
-same-length c = search needs
-
-returns-2 : tie.Need-returns-2
-returns-2 c = search needs
-
 pub ask-sized-spec : {M : Type 1} → statement M
 ask-sized-spec =
     tie.close
-    (tie.spec
-    count-refusal-requires
-    refuses-requires
-    returns
-    mul-numbers
-    slice-aggregate-read-f32s
-    read-f32s-requires
-    array-share-prefix-triangles
-    slice-aggregate-ask-triangles
-    ask-triangles-requires
-    same-length
-    returns-2)
+    (tie.spec (λ c κs. search needs) (λ c κs. search needs) returns (λ c. search needs) (λ c. search needs) read-f32s-requires
+    array-share-prefix-triangles slice-aggregate-ask-triangles ask-triangles-requires (λ c. search needs) (λ c. search needs))

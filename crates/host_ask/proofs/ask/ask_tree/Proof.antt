@@ -13,15 +13,6 @@ use borrow.Author.Needs.{needs}
 use Rattle.host_ask.proofs.ask.ask_tree.Statement.{statement}
 use Rattle.host_ask.proofs.ask.ask_tree.Tie as tie
 
-slice-aggregate-read-tree : tie.Need-slice-aggregate-read-tree
-slice-aggregate-read-tree c = search needs
-
-slice-aggregate-read-tree-2 : tie.Need-slice-aggregate-read-tree-2
-slice-aggregate-read-tree-2 c = search needs
-
-slice-aggregate-read-tree-3 : tie.Need-slice-aggregate-read-tree-3
-slice-aggregate-read-tree-3 c = search needs
-
 read-tree-requires : tie.Need-read-tree-requires
 read-tree-requires c κs =
     let known = c .before .before .before in
@@ -32,12 +23,6 @@ read-tree-requires c κs =
         (omega (arith, start .pre .1 .1), omega (arith, start .pre .1 .1)),
       ),
     )
-
-mul-links-end : tie.Need-mul-links-end
-mul-links-end c = search needs
-
-mul-boxes-end : tie.Need-mul-boxes-end
-mul-boxes-end c = search needs
 
 array-share-prefix-order : tie.Need-array-share-prefix-order
 array-share-prefix-order c =
@@ -55,9 +40,6 @@ slice-aggregate-ask-lists c =
     let start = known .before .before .before .before in
     sym (length-take-le _ _ (omega (arith, loaded-count (start .pre .0), start .pre .1 .0 .triangles-good .few, at-order2 .order2 .given)))
 
-array-share-prefix-links : tie.Need-array-share-prefix-links
-array-share-prefix-links c = search needs
-
 slice-aggregate-ask-lists-2 : tie.Need-slice-aggregate-ask-lists-2
 slice-aggregate-ask-lists-2 c =
     let at-links2 = c .before .before .before in
@@ -66,9 +48,6 @@ slice-aggregate-ask-lists-2 c =
     let start = known .before .before .before .before in
     sym (length-take-le _ _ (omega (arith, start .pre .1 .1, at-links2 .links2 .given)))
 
-array-share-prefix-boxes : tie.Need-array-share-prefix-boxes
-array-share-prefix-boxes c = search needs
-
 slice-aggregate-ask-lists-3 : tie.Need-slice-aggregate-ask-lists-3
 slice-aggregate-ask-lists-3 c =
     let at-boxes2 = c .before .before .before in
@@ -76,12 +55,6 @@ slice-aggregate-ask-lists-3 c =
     let known = after-read-tree .before .before .before .before in
     let start = known .before .before .before .before in
     sym (length-take-le _ _ (omega (arith, start .pre .1 .1, at-boxes2 .boxes2 .given)))
-
-ask-lists-requires : tie.Need-ask-lists-requires
-ask-lists-requires c κs = search needs
-
-same-length : tie.Need-same-length
-same-length c = search needs
 
 returns : tie.Need-returns
 returns c =
@@ -101,19 +74,6 @@ returns c =
 pub ask-tree-spec : {M : Type 1} → statement M
 ask-tree-spec =
     tie.close
-    (tie.spec
-    slice-aggregate-read-tree
-    slice-aggregate-read-tree-2
-    slice-aggregate-read-tree-3
-    read-tree-requires
-    mul-links-end
-    mul-boxes-end
-    array-share-prefix-order
-    slice-aggregate-ask-lists
-    array-share-prefix-links
-    slice-aggregate-ask-lists-2
-    array-share-prefix-boxes
-    slice-aggregate-ask-lists-3
-    ask-lists-requires
-    same-length
-    returns)
+    (tie.spec (λ c. search needs) (λ c. search needs) (λ c. search needs) read-tree-requires (λ c. search needs) (λ c. search needs)
+    array-share-prefix-order slice-aggregate-ask-lists (λ c. search needs) slice-aggregate-ask-lists-2 (λ c. search needs) slice-aggregate-ask-lists-3
+    (λ c κs. search needs) (λ c. search needs) returns)

@@ -12,15 +12,6 @@ use borrow.Author.Needs.{needs}
 use Rattle.host_ask.proofs.ask.ask_triangles.Statement.{statement}
 use Rattle.host_ask.proofs.ask.ask_triangles.Tie as tie
 
-settings-of-requires : tie.Need-settings-of-requires
-settings-of-requires c κs = search needs
-
-early-refusal-requires : tie.Need-early-refusal-requires
-early-refusal-requires c κs = search needs
-
-refuses-requires : tie.Need-refuses-requires
-refuses-requires c κs = search needs
-
 returns : tie.Need-returns
 returns c =
     let after-early-refusal = c .before .before in
@@ -33,12 +24,6 @@ returns c =
           ∙ early-same (start .pre) _ _ _ (after-settings-of .settings-of .ensures)) (c .before .refuses .ensures) (c .if1 .taken),
       as-it-was _ _ _ (sym (c .before .refuses .ensures) ∙ c .if1 .taken),
     )
-
-nodes-refusal-requires : tie.Need-nodes-refusal-requires
-nodes-refusal-requires c κs = search needs
-
-refuses-requires-2 : tie.Need-refuses-requires-2
-refuses-requires-2 c κs = search needs
 
 returns-2 : tie.Need-returns-2
 returns-2 c =
@@ -79,9 +64,6 @@ ask-tree-requires c κs =
       ),
     )
 
-same-length : tie.Need-same-length
-same-length c = search needs
-
 returns-3 : tie.Need-returns-3
 returns-3 c =
     let after-ask-tree = c .before .before in
@@ -103,14 +85,5 @@ returns-3 c =
 pub ask-triangles-spec : {M : Type 1} → statement M
 ask-triangles-spec =
     tie.close
-    (tie.spec
-    settings-of-requires
-    early-refusal-requires
-    refuses-requires
-    returns
-    nodes-refusal-requires
-    refuses-requires-2
-    returns-2
-    ask-tree-requires
-    same-length
-    returns-3)
+    (tie.spec (λ c κs. search needs) (λ c κs. search needs) (λ c κs. search needs) returns (λ c κs. search needs) (λ c κs. search needs) returns-2
+    ask-tree-requires (λ c. search needs) returns-3)

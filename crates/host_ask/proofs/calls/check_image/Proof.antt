@@ -11,18 +11,6 @@ use borrow.Author.Needs.{needs}
 use Rattle.host_ask.proofs.calls.check_image.Statement.{statement}
 use Rattle.host_ask.proofs.calls.check_image.Tie as tie
 
-slice-aggregate-ask : tie.Need-slice-aggregate-ask
-slice-aggregate-ask c = search needs
-
-slice-aggregate-ask-2 : tie.Need-slice-aggregate-ask-2
-slice-aggregate-ask-2 c = search needs
-
-ask-requires : tie.Need-ask-requires
-ask-requires c κs = search needs
-
-triangles-held-requires : tie.Need-triangles-held-requires
-triangles-held-requires c κs = search needs
-
 encode-count-requires : tie.Need-encode-count-requires
 unfolding ofBits
 encode-count-requires c κs =
@@ -43,10 +31,4 @@ returns c =
 pub check-image-spec : {M : Type 1} → statement M
 check-image-spec =
     tie.close
-    (tie.spec
-    slice-aggregate-ask
-    slice-aggregate-ask-2
-    ask-requires
-    triangles-held-requires
-    encode-count-requires
-    returns)
+    (tie.spec (λ c. search needs) (λ c. search needs) (λ c κs. search needs) (λ c κs. search needs) encode-count-requires returns)

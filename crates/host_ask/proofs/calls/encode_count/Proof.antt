@@ -6,12 +6,6 @@ use borrow.Author.Needs.{needs}
 use Rattle.host_ask.proofs.calls.encode_count.Statement.{statement}
 use Rattle.host_ask.proofs.calls.encode_count.Tie as tie
 
-refuses-requires : tie.Need-refuses-requires
-refuses-requires c κs = search needs
-
-encode-requires : tie.Need-encode-requires
-encode-requires c κs = search needs
-
 returns : tie.Need-returns
 returns c =
     let after-refuses = c .before .before in
@@ -25,4 +19,5 @@ returns-2 c =
     status-done (asVerdict (start .args .verdict)) (start .args .count) (sym (c .before .refuses .ensures) ∙ c .if1 .left)
 
 pub encode-count-spec : {M : Type 1} → statement M
-encode-count-spec = tie.close (tie.spec refuses-requires encode-requires returns returns-2)
+encode-count-spec = tie.close
+    (tie.spec (λ c κs. search needs) (λ c κs. search needs) returns returns-2)

@@ -13,9 +13,6 @@ use borrow.Author.Needs.{needs}
 use Rattle.host_ask.proofs.calls.query_points.Statement.{statement}
 use Rattle.host_ask.proofs.calls.query_points.Tie as tie
 
-ask-requires : tie.Need-ask-requires
-ask-requires c κs = search needs
-
 encode-count-requires : tie.Need-encode-count-requires
 encode-count-requires c κs =
     let after-ask = c .before .before in
@@ -24,9 +21,6 @@ encode-count-requires c κs =
     let a = start .args in
     rw (after-ask .ask .ensures .0) (query-encodable (a .image .now) (a .points .now)
     (record { below = λ i. omega (arith, known .shared-slice-known .given i) }) (omega arith) (length (a .answers .now)) (a .distance))
-
-same-length : tie.Need-same-length
-same-length c = search needs
 
 returns : tie.Need-returns
 returns c =
@@ -40,4 +34,5 @@ returns c =
     )
 
 pub query-points-spec : {M : Type 1} → statement M
-query-points-spec = tie.close (tie.spec ask-requires encode-count-requires same-length returns)
+query-points-spec = tie.close
+    (tie.spec (λ c κs. search needs) encode-count-requires (λ c. search needs) returns)

@@ -6,15 +6,6 @@ use borrow.Author.Needs.{needs}
 use Rattle.host_ask.proofs.calls.triangles_held.Statement.{statement}
 use Rattle.host_ask.proofs.calls.triangles_held.Tie as tie
 
-image-layout-requires : tie.Need-image-layout-requires
-image-layout-requires c κs = search needs
-
-enum-told : tie.Need-enum-told
-enum-told c = search needs
-
-enum-known-triangles : tie.Need-enum-known-triangles
-enum-known-triangles c = search needs
-
 returns : tie.Need-returns
 returns c =
     held-none (c .before .before .before .before .args .image .now) _ (sym (c .before .before .image-layout .ensures) ∙ ap imageLaid (c .enum-told .given .1))
@@ -27,4 +18,5 @@ returns-2 c =
 
 pub triangles-held-spec : {M : Type 1} → statement M
 triangles-held-spec =
-    tie.close (tie.spec image-layout-requires enum-told enum-known-triangles returns returns-2)
+    tie.close
+    (tie.spec (λ c κs. search needs) (λ c. search needs) (λ c. search needs) returns returns-2)

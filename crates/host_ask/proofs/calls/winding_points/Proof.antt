@@ -12,9 +12,6 @@ use borrow.Author.Needs.{needs}
 use Rattle.host_ask.proofs.calls.winding_points.Statement.{statement}
 use Rattle.host_ask.proofs.calls.winding_points.Tie as tie
 
-winding-image-requires : tie.Need-winding-image-requires
-winding-image-requires c κs = search needs
-
 encode-count-requires : tie.Need-encode-count-requires
 encode-count-requires c κs =
     let after-winding-image = c .before .before in
@@ -23,9 +20,6 @@ encode-count-requires c κs =
     let a = start .args in
     rw (after-winding-image .winding-image .ensures .0) (winding-encodable (a .image .now) (a .points .now)
     (record { below = λ i. omega (arith, known .shared-slice-known .given i) }) (omega arith) (length (a .out .now)))
-
-same-length : tie.Need-same-length
-same-length c = search needs
 
 returns : tie.Need-returns
 returns c =
@@ -39,4 +33,5 @@ returns c =
     )
 
 pub winding-points-spec : {M : Type 1} → statement M
-winding-points-spec = tie.close (tie.spec winding-image-requires encode-count-requires same-length returns)
+winding-points-spec = tie.close
+    (tie.spec (λ c κs. search needs) encode-count-requires (λ c. search needs) returns)

@@ -13,9 +13,6 @@ late-refusal-requires c κs =
     let start = known3 .before .before .before in
     start .pre .triangles-good .few
 
-refuses-requires : tie.Need-refuses-requires
-refuses-requires c κs = search needs
-
 returns : tie.Need-returns
 returns c = (c .before .before .late-refusal .ensures, as-it-was _ _ _ (sym (c .before .refuses .ensures) ∙ c .if1 .taken))
 
@@ -29,9 +26,6 @@ put-answers-requires c κs =
     let p = late-passed (a .triangles .now) (a .points .now) (a .order .now) (a .links .now) (a .boxes .now) (a .nodes) (a .distance)
     (start .pre .triangles-good) (did-pass _ _ _ (after-late-refusal .late-refusal .ensures) (after-refuses .refuses .ensures) (c .before .if1 .left)) in
     (p .0, (p .1, start .pre .room-enough))
-
-same-length : tie.Need-same-length
-same-length c = search needs
 
 returns-2 : tie.Need-returns-2
 returns-2 c =
@@ -47,10 +41,4 @@ returns-2 c =
 pub ask-lists-spec : {M : Type 1} → statement M
 ask-lists-spec =
     tie.close
-    (tie.spec
-    late-refusal-requires
-    refuses-requires
-    returns
-    put-answers-requires
-    same-length
-    returns-2)
+    (tie.spec late-refusal-requires (λ c κs. search needs) returns put-answers-requires (λ c. search needs) returns-2)

@@ -5,21 +5,6 @@ use borrow.Author.Needs.{needs}
 use Rattle.host_ask.proofs.point_queries.late_refusal.Statement.{statement}
 use Rattle.host_ask.proofs.point_queries.late_refusal.Tie as tie
 
-tree-refusal-requires : tie.Need-tree-refusal-requires
-tree-refusal-requires c κs = search needs
-
-point-bytes-refusal-requires : tie.Need-point-bytes-refusal-requires
-point-bytes-refusal-requires c κs = search needs
-
-or-requires : tie.Need-or-requires
-or-requires c κs = search needs
-
-distance-refusal-requires : tie.Need-distance-refusal-requires
-distance-refusal-requires c κs = search needs
-
-or-requires-2 : tie.Need-or-requires-2
-or-requires-2 c κs = search needs
-
 returns : tie.Need-returns
 unfolding lateRefusal
 returns c =
@@ -31,10 +16,4 @@ returns c =
 pub late-refusal-spec : {M : Type 1} → statement M
 late-refusal-spec =
     tie.close
-    (tie.spec
-    tree-refusal-requires
-    point-bytes-refusal-requires
-    or-requires
-    distance-refusal-requires
-    or-requires-2
-    returns)
+    (tie.spec (λ c κs. search needs) (λ c κs. search needs) (λ c κs. search needs) (λ c κs. search needs) (λ c κs. search needs) returns)

@@ -51,12 +51,6 @@ put-answer-bytes-requires c κs =
     let start = known4 .before .before .before .before in
     omega (arith, start .pre .1 .1, turn .loop .inv .long, tested .loop-test .taken)
 
-add-k : tie.Need-add-k Inv-loop μ-loop
-add-k c = omega arith
-
-loop-less : tie.Need-loop-less Inv-loop μ-loop
-loop-less c = omega arith
-
 loop-again : tie.Need-loop-again Inv-loop μ-loop
 loop-again c =
     let after-put-answer-bytes = c .before .before in
@@ -85,16 +79,5 @@ returns c =
 pub put-answers-spec : {M : Type 1} → statement M
 put-answers-spec =
     tie.close
-    (tie.spec
-    Inv-loop
-    μ-loop
-    loop-holds
-    point-in-requires
-    answer-at-requires
-    mul-put-answer-bytes
-    put-answer-bytes-requires
-    add-k
-    loop-less
-    loop-again
-    same-length
-    returns)
+    (tie.spec Inv-loop μ-loop loop-holds point-in-requires answer-at-requires mul-put-answer-bytes put-answer-bytes-requires (λ c. omega arith)
+    (λ c. omega arith) loop-again same-length returns)

@@ -15,9 +15,6 @@ Inv-loop triangles points out₀ count table k₀ out k = WindingsPut triangles 
 abbrev μ-loop : tie.MeasureT-loop
 μ-loop triangles points out₀ count table k₀ out k = count - k
 
-arc-table-requires : tie.Need-arc-table-requires Inv-loop μ-loop
-arc-table-requires c κs = search needs
-
 loop-holds : tie.Need-loop-holds Inv-loop μ-loop
 loop-holds c = let a = c .before .before .before .before .args in windings-start (a .triangles .now) (a .points .now) (a .out .now) _
 
@@ -35,12 +32,6 @@ put-winding-bytes-requires c κs =
     let turn = c .before .before .before .before in
     let laid = turn .before .before in
     omega (arith, laid .before .before .before .before .pre, turn .before .loop .inv .long, turn .loop-test .taken)
-
-add-k : tie.Need-add-k Inv-loop μ-loop
-add-k c = omega arith
-
-loop-less : tie.Need-loop-less Inv-loop μ-loop
-loop-less c = omega arith
 
 loop-again : tie.Need-loop-again Inv-loop μ-loop
 unfolding windingAt
@@ -67,17 +58,5 @@ returns c =
 pub put-windings-spec : {M : Type 1} → statement M
 put-windings-spec =
     tie.close
-    (tie.spec
-    Inv-loop
-    μ-loop
-    arc-table-requires
-    loop-holds
-    point-in-requires
-    winding-number-by-requires
-    mul-put-winding-bytes
-    put-winding-bytes-requires
-    add-k
-    loop-less
-    loop-again
-    same-length
-    returns)
+    (tie.spec Inv-loop μ-loop (λ c κs. search needs) loop-holds point-in-requires winding-number-by-requires mul-put-winding-bytes
+    put-winding-bytes-requires (λ c. omega arith) (λ c. omega arith) loop-again same-length returns)

@@ -8,12 +8,6 @@ use borrow.Author.Needs.{needs}
 use Rattle.host_ask.proofs.point_windings.winding_lists.Statement.{statement}
 use Rattle.host_ask.proofs.point_windings.winding_lists.Tie as tie
 
-winding-refusal-requires : tie.Need-winding-refusal-requires
-winding-refusal-requires c κs = search needs
-
-refuses-requires : tie.Need-refuses-requires
-refuses-requires c κs = search needs
-
 returns : tie.Need-returns
 returns c = (c .before .before .winding-refusal .ensures, as-it-was _ _ _ (sym (c .before .refuses .ensures) ∙ c .if1 .taken))
 
@@ -25,9 +19,6 @@ put-windings-requires c κs =
     let a = start .args in
     winding-passed (a .triangles .now) (a .points .now) (length (a .out .now))
     (did-pass _ _ _ (after-winding-refusal .winding-refusal .ensures) (after-refuses .refuses .ensures) (c .before .if1 .left))
-
-same-length : tie.Need-same-length
-same-length c = search needs
 
 returns-2 : tie.Need-returns-2
 returns-2 c =
@@ -43,10 +34,4 @@ returns-2 c =
 pub winding-lists-spec : {M : Type 1} → statement M
 winding-lists-spec =
     tie.close
-    (tie.spec
-    winding-refusal-requires
-    refuses-requires
-    returns
-    put-windings-requires
-    same-length
-    returns-2)
+    (tie.spec (λ c κs. search needs) (λ c κs. search needs) returns put-windings-requires (λ c. search needs) returns-2)

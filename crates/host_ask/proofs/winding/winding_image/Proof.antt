@@ -12,15 +12,6 @@ use borrow.Author.Needs.{needs}
 use Rattle.host_ask.proofs.winding.winding_image.Statement.{statement}
 use Rattle.host_ask.proofs.winding.winding_image.Tie as tie
 
-image-layout-requires : tie.Need-image-layout-requires
-image-layout-requires c κs = search needs
-
-enum-known-at : tie.Need-enum-known-at
-enum-known-at c = search needs
-
-enum-known-count : tie.Need-enum-known-count
-enum-known-count c = search needs
-
 winding-sized-requires : tie.Need-winding-sized-requires
 winding-sized-requires c κs =
     image-long _ _ _ (sym (c .before .before .before .before .image-layout .ensures) ∙ ap imageLaid (c .before .before .count .given .1))
@@ -32,9 +23,6 @@ returns c =
     let start = after-image-layout .before .before .before .before in
     let a = start .args in
     (layout-refuses (a .image .now) _ (sym (after-image-layout .image-layout .ensures) ∙ ap imageLaid (c .before .at .given .1)) _, as-it-was _ _ _ refl)
-
-same-length : tie.Need-same-length
-same-length c = search needs
 
 returns-2 : tie.Need-returns-2
 unfolding windingVerdict
@@ -54,11 +42,4 @@ returns-2 c =
 pub winding-image-spec : {M : Type 1} → statement M
 winding-image-spec =
     tie.close
-    (tie.spec
-    image-layout-requires
-    enum-known-at
-    enum-known-count
-    winding-sized-requires
-    returns
-    same-length
-    returns-2)
+    (tie.spec (λ c κs. search needs) (λ c. search needs) (λ c. search needs) winding-sized-requires returns (λ c. search needs) returns-2)

@@ -14,12 +14,6 @@ use borrow.Author.Needs.{needs}
 use Rattle.host_ask.proofs.winding.winding_sized.Statement.{statement}
 use Rattle.host_ask.proofs.winding.winding_sized.Tie as tie
 
-count-refusal-requires : tie.Need-count-refusal-requires
-count-refusal-requires c κs = search needs
-
-refuses-requires : tie.Need-refuses-requires
-refuses-requires c κs = search needs
-
 returns : tie.Need-returns
 unfolding windingBytesRefusal
 returns c =
@@ -30,12 +24,6 @@ returns c =
           (c .before .refuses .ensures) (c .if1 .taken),
       as-it-was _ _ _ (sym (c .before .refuses .ensures) ∙ c .if1 .taken),
     )
-
-mul-numbers : tie.Need-mul-numbers
-mul-numbers c = search needs
-
-slice-aggregate-read-f32s : tie.Need-slice-aggregate-read-f32s
-slice-aggregate-read-f32s c = search needs
 
 read-f32s-requires : tie.Need-read-f32s-requires
 read-f32s-requires c κs =
@@ -61,12 +49,6 @@ slice-aggregate-winding-lists c =
     let few = count-few _ _ _ (after-count-refusal .count-refusal .ensures) (after-refuses .refuses .ensures) (chosen .if1 .left) in
     sym (length-take-le _ _ (omega (arith, c .before .triangles2 .given)))
 
-winding-lists-requires : tie.Need-winding-lists-requires
-winding-lists-requires c κs = search needs
-
-same-length : tie.Need-same-length
-same-length c = search needs
-
 returns-2 : tie.Need-returns-2
 returns-2 c =
     let after-winding-lists = c .before .before in
@@ -83,15 +65,5 @@ returns-2 c =
 pub winding-sized-spec : {M : Type 1} → statement M
 winding-sized-spec =
     tie.close
-    (tie.spec
-    count-refusal-requires
-    refuses-requires
-    returns
-    mul-numbers
-    slice-aggregate-read-f32s
-    read-f32s-requires
-    array-share-prefix-triangles
-    slice-aggregate-winding-lists
-    winding-lists-requires
-    same-length
-    returns-2)
+    (tie.spec (λ c κs. search needs) (λ c κs. search needs) returns (λ c. search needs) (λ c. search needs) read-f32s-requires
+    array-share-prefix-triangles slice-aggregate-winding-lists (λ c κs. search needs) (λ c. search needs) returns-2)

@@ -9,12 +9,6 @@ use borrow.Author.Needs.{needs}
 use Rattle.host_build.proofs.from_bytes.build_image.Statement.{statement}
 use Rattle.host_build.proofs.from_bytes.build_image.Tie as tie
 
-length-refusal-requires : tie.Need-length-refusal-requires
-length-refusal-requires c κs = search needs
-
-enum-known-verdict : tie.Need-enum-known-verdict
-enum-known-verdict c = search needs
-
 encode-refusal-requires : tie.Need-encode-refusal-requires
 encode-refusal-requires c κs = length-encodable _ (sym (c .before .before .before .length-refusal .ensures) ∙ ap asVerdict (c .before .verdict .given .1))
 
@@ -22,12 +16,6 @@ returns : tie.Need-returns
 returns c =
     put-nothing (length-refused _ _ _ (sym (c .before .before .before .before .length-refusal .ensures) ∙ ap asVerdict (c .before .before .verdict .given .1)))
     (c .encode-refusal .ensures)
-
-enum-told : tie.Need-enum-told
-enum-told c = search needs
-
-slice-aggregate-read-triangles : tie.Need-slice-aggregate-read-triangles
-slice-aggregate-read-triangles c = search needs
 
 read-triangles-requires : tie.Need-read-triangles-requires
 read-triangles-requires c κs =
@@ -48,12 +36,6 @@ slice-aggregate-build-list c =
     let few = length-passed _ (sym (after-length-refusal .length-refusal .ensures) ∙ ap asVerdict (at-enum-told .enum-told .given .1)) in
     sym (length-take-le _ _ (omega (arith, c .before .list2 .given)))
 
-build-list-requires : tie.Need-build-list-requires
-build-list-requires c κs = search needs
-
-same-length : tie.Need-same-length
-same-length c = search needs
-
 returns-2 : tie.Need-returns-2
 returns-2 c =
     let after-build-list = c .before .before in
@@ -66,16 +48,5 @@ returns-2 c =
 pub build-image-spec : {M : Type 1} → statement M
 build-image-spec =
     tie.close
-    (tie.spec
-    length-refusal-requires
-    enum-known-verdict
-    encode-refusal-requires
-    returns
-    enum-told
-    slice-aggregate-read-triangles
-    read-triangles-requires
-    array-share-prefix-list
-    slice-aggregate-build-list
-    build-list-requires
-    same-length
-    returns-2)
+    (tie.spec (λ c κs. search needs) (λ c. search needs) encode-refusal-requires returns (λ c. search needs) (λ c. search needs)
+    read-triangles-requires array-share-prefix-list slice-aggregate-build-list (λ c κs. search needs) (λ c. search needs) returns-2)

@@ -67,12 +67,6 @@ slice-aggregate-build-2 c = sym links-long
 slice-aggregate-build-3 : tie.Need-slice-aggregate-build-3
 slice-aggregate-build-3 c = sym boxes-long
 
-build-requires : tie.Need-build-requires
-build-requires c κs = search needs
-
-enum-known-built : tie.Need-enum-known-built
-enum-known-built c = search needs
-
 encode-refusal-requires : tie.Need-encode-refusal-requires
 encode-refusal-requires c κs =
     let at-boxes2 = c .before .before .before in
@@ -82,12 +76,6 @@ encode-refusal-requires c κs =
     let a = start .args in
     build-encodable (now (a .triangles)) (asSettings (a .settings)) lent-order lent-links lent-boxes order-long links-long boxes-long
     (built after-build (c .before .built .given .1))
-
-enum-known-built-2 : tie.Need-enum-known-built-2
-enum-known-built-2 c = search needs
-
-triangle-count-requires : tie.Need-triangle-count-requires
-triangle-count-requires c κs = search needs
 
 array-share-prefix-order : tie.Need-array-share-prefix-order
 array-share-prefix-order c =
@@ -138,9 +126,6 @@ returns c =
     put-nothing (build-refused (now (a .triangles)) (asSettings (a .settings)) lent-order lent-links lent-boxes order-long links-long boxes-long
     (built after-build (at-built .built .given .1)) _) (c .encode-refusal .ensures)
 
-same-length : tie.Need-same-length
-same-length c = search needs
-
 returns-2 : tie.Need-returns-2
 returns-2 c =
     let after-put-built = c .before .before in
@@ -163,20 +148,6 @@ returns-2 c =
 pub build-list-spec : {M : Type 1} → statement M
 build-list-spec =
     tie.close
-    (tie.spec
-    slice-aggregate-build
-    slice-aggregate-build-2
-    slice-aggregate-build-3
-    build-requires
-    enum-known-built
-    encode-refusal-requires
-    enum-known-built-2
-    triangle-count-requires
-    array-share-prefix-order
-    slice-aggregate-put-built
-    slice-aggregate-put-built-2
-    slice-aggregate-put-built-3
-    put-built-requires
-    returns
-    same-length
-    returns-2)
+    (tie.spec slice-aggregate-build slice-aggregate-build-2 slice-aggregate-build-3 (λ c κs. search needs) (λ c. search needs) encode-refusal-requires
+    (λ c. search needs) (λ c κs. search needs) array-share-prefix-order slice-aggregate-put-built slice-aggregate-put-built-2
+    slice-aggregate-put-built-3 put-built-requires returns (λ c. search needs) returns-2)

@@ -17,15 +17,6 @@ returns-2 c =
     let start = c .before .before in
     rw (le-leb 1 (start .args .triangles) (c .before .if1 .left), lt-leb (start .args .triangles) maxTriangles (c .if2 .taken))
 
-mul-image-size : tie.Need-mul-image-size
-mul-image-size c = search needs
-
-sub-image-size : tie.Need-sub-image-size
-sub-image-size c = search needs
-
-image-size-requires : tie.Need-image-size-requires
-image-size-requires c κs = search needs
-
 returns-3 : tie.Need-returns-3
 unfolding imageMax
 returns-3 c =
@@ -36,4 +27,4 @@ returns-3 c =
 pub image-max-spec : {M : Type 1} → statement M
 image-max-spec =
     tie.close
-    (tie.spec returns returns-2 mul-image-size sub-image-size image-size-requires returns-3)
+    (tie.spec returns returns-2 (λ c. search needs) (λ c. search needs) (λ c κs. search needs) returns-3)

@@ -6,29 +6,11 @@ use borrow.Author.Needs.{needs}
 use Rattle.host_build.proofs.put.put_built.Statement.{statement}
 use Rattle.host_build.proofs.put.put_built.Tie as tie
 
-triangle-count-requires : tie.Need-triangle-count-requires
-triangle-count-requires c κs = search needs
-
-image-size-requires : tie.Need-image-size-requires
-image-size-requires c κs = search needs
-
-encode-refusal-requires : tie.Need-encode-refusal-requires
-encode-refusal-requires c κs = search needs
-
 returns : tie.Need-returns
 returns c =
     put-nothing
     (room-short _ _ (omega (arith, c .before .if1 .taken, c .before .before .image-size .ensures, c .before .before .before .triangle-count .ensures)))
     (c .encode-refusal .ensures)
-
-put-image-requires : tie.Need-put-image-requires
-put-image-requires c κs = search needs
-
-encode-requires : tie.Need-encode-requires
-encode-requires c κs = search needs
-
-same-length : tie.Need-same-length
-same-length c = search needs
 
 returns-2 : tie.Need-returns-2
 returns-2 c =
@@ -44,12 +26,5 @@ returns-2 c =
 pub put-built-spec : {M : Type 1} → statement M
 put-built-spec =
     tie.close
-    (tie.spec
-    triangle-count-requires
-    image-size-requires
-    encode-refusal-requires
-    returns
-    put-image-requires
-    encode-requires
-    same-length
-    returns-2)
+    (tie.spec (λ c κs. search needs) (λ c κs. search needs) (λ c κs. search needs) returns (λ c κs. search needs) (λ c κs. search needs)
+    (λ c. search needs) returns-2)

@@ -11,21 +11,6 @@ use borrow.Author.Needs.{needs}
 use Rattle.host_bytes.proofs.answers.put_answer_bytes.Statement.{statement}
 use Rattle.host_bytes.proofs.answers.put_answer_bytes.Tie as tie
 
-slice-aggregate-put-answer : tie.Need-slice-aggregate-put-answer
-slice-aggregate-put-answer c = search needs
-
-put-answer-requires : tie.Need-put-answer-requires
-put-answer-requires c κs = search needs
-
-slice-aggregate-put-u32s : tie.Need-slice-aggregate-put-u32s
-slice-aggregate-put-u32s c = search needs
-
-put-u32s-requires : tie.Need-put-u32s-requires
-put-u32s-requires c κs = search needs
-
-same-length : tie.Need-same-length
-same-length c = search needs
-
 returns : tie.Need-returns
 returns c =
     let after-put-u32s = c .before .before in
@@ -39,10 +24,4 @@ returns c =
 pub put-answer-bytes-spec : {M : Type 1} → statement M
 put-answer-bytes-spec =
     tie.close
-    (tie.spec
-    slice-aggregate-put-answer
-    put-answer-requires
-    slice-aggregate-put-u32s
-    put-u32s-requires
-    same-length
-    returns)
+    (tie.spec (λ c. search needs) (λ c κs. search needs) (λ c. search needs) (λ c κs. search needs) (λ c. search needs) returns)

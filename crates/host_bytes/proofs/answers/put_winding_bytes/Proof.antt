@@ -8,18 +8,6 @@ use borrow.Author.Needs.{needs}
 use Rattle.host_bytes.proofs.answers.put_winding_bytes.Statement.{statement}
 use Rattle.host_bytes.proofs.answers.put_winding_bytes.Tie as tie
 
-bits-of-requires : tie.Need-bits-of-requires
-bits-of-requires c κs = search needs
-
-cast-put-u32 : tie.Need-cast-put-u32
-cast-put-u32 c = search needs
-
-put-u32-requires : tie.Need-put-u32-requires
-put-u32-requires c κs = search needs
-
-same-length : tie.Need-same-length
-same-length c = search needs
-
 returns : tie.Need-returns
 returns c =
     let after-put-u32 = c .before .before in
@@ -30,4 +18,5 @@ returns c =
 
 pub put-winding-bytes-spec : {M : Type 1} → statement M
 put-winding-bytes-spec =
-    tie.close (tie.spec bits-of-requires cast-put-u32 put-u32-requires same-length returns)
+    tie.close
+    (tie.spec (λ c κs. search needs) (λ c. search needs) (λ c κs. search needs) (λ c. search needs) returns)

@@ -19,15 +19,6 @@ Inv-loop bytes count i₀ i = i + firstBad (drop i (numbersOf bytes)) ≡ firstB
 abbrev μ-loop : tie.MeasureT-loop
 μ-loop bytes count i₀ i = count - i
 
-loop-holds : tie.Need-loop-holds Inv-loop μ-loop
-loop-holds c = omega arith
-
-number-in-requires : tie.Need-number-in-requires Inv-loop μ-loop
-number-in-requires c κs = omega arith
-
-is-coordinate-requires : tie.Need-is-coordinate-requires Inv-loop μ-loop
-is-coordinate-requires c κs = search needs
-
 returns : tie.Need-returns Inv-loop μ-loop
 returns c =
     let after-number-in = c .before .before in
@@ -39,12 +30,6 @@ returns c =
     let found = bad-here (numbersOf s) (loop .i) (rw (numbers-long s) (tested .loop-test .taken))
     (ap isCoordinate (sym (after-number-in .number-in .ensures)) ∙ sym (c .before .is-coordinate .ensures) ∙ not-true _ (c .if1 .taken)) in
     omega (arith, loop .inv)
-
-add-i : tie.Need-add-i Inv-loop μ-loop
-add-i c = search needs
-
-loop-less : tie.Need-loop-less Inv-loop μ-loop
-loop-less c = omega arith
 
 loop-again : tie.Need-loop-again Inv-loop μ-loop
 loop-again c =
@@ -68,14 +53,5 @@ returns-2 c =
 pub first-bad-in-spec : {M : Type 1} → statement M
 first-bad-in-spec =
     tie.close
-    (tie.spec
-    Inv-loop
-    μ-loop
-    loop-holds
-    number-in-requires
-    is-coordinate-requires
-    returns
-    add-i
-    loop-less
-    loop-again
-    returns-2)
+    (tie.spec Inv-loop μ-loop (λ c. omega arith) (λ c κs. omega arith) (λ c κs. search needs) returns (λ c. search needs) (λ c. omega arith)
+    loop-again returns-2)

@@ -7,19 +7,11 @@ use borrow.Author.Needs.{needs}
 use Rattle.host_bytes.proofs.points.number_in.Statement.{statement}
 use Rattle.host_bytes.proofs.points.number_in.Tie as tie
 
-mul-u32-at : tie.Need-mul-u32-at
-mul-u32-at c = search needs
-
-u32-at-requires : tie.Need-u32-at-requires
-u32-at-requires c κs = search needs
-
-from-bits-requires : tie.Need-from-bits-requires
-from-bits-requires c κs = search needs
-
 returns : tie.Need-returns
 returns c =
     let start = c .before .before .before in
     c .from-bits .ensures ∙ ap (ofBits binary32) (c .before .u32-at .ensures) ∙ sym (number-is (start .args .bytes .now) (start .args .i) (omega arith))
 
 pub number-in-spec : {M : Type 1} → statement M
-number-in-spec = tie.close (tie.spec mul-u32-at u32-at-requires from-bits-requires returns)
+number-in-spec = tie.close
+    (tie.spec (λ c. search needs) (λ c κs. search needs) (λ c κs. search needs) returns)

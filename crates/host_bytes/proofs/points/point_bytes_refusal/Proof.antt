@@ -8,18 +8,6 @@ use borrow.Author.Needs.{needs}
 use Rattle.host_bytes.proofs.points.point_bytes_refusal.Statement.{statement}
 use Rattle.host_bytes.proofs.points.point_bytes_refusal.Tie as tie
 
-refused-if-requires : tie.Need-refused-if-requires
-refused-if-requires c κs = search needs
-
-first-bad-in-requires : tie.Need-first-bad-in-requires
-first-bad-in-requires c κs = search needs
-
-refused-if-requires-2 : tie.Need-refused-if-requires-2
-refused-if-requires-2 c κs = search needs
-
-or-requires : tie.Need-or-requires
-or-requires c κs = search needs
-
 returns : tie.Need-returns
 unfolding pointBytesRefusal coordinateRefusal
 returns c =
@@ -29,9 +17,4 @@ returns c =
 pub point-bytes-refusal-spec : {M : Type 1} → statement M
 point-bytes-refusal-spec =
     tie.close
-    (tie.spec
-    refused-if-requires
-    first-bad-in-requires
-    refused-if-requires-2
-    or-requires
-    returns)
+    (tie.spec (λ c κs. search needs) (λ c κs. search needs) (λ c κs. search needs) (λ c κs. search needs) returns)

@@ -6,33 +6,6 @@ use borrow.Author.Needs.{needs}
 use Rattle.host_bytes.proofs.points.point_in.Statement.{statement}
 use Rattle.host_bytes.proofs.points.point_in.Tie as tie
 
-mul-first : tie.Need-mul-first
-mul-first c = search needs
-
-number-in-requires : tie.Need-number-in-requires
-number-in-requires c κs = search needs
-
-plus-zero-requires : tie.Need-plus-zero-requires
-plus-zero-requires c κs = search needs
-
-add-number-in : tie.Need-add-number-in
-add-number-in c = search needs
-
-number-in-requires-2 : tie.Need-number-in-requires-2
-number-in-requires-2 c κs = search needs
-
-plus-zero-requires-2 : tie.Need-plus-zero-requires-2
-plus-zero-requires-2 c κs = search needs
-
-add-number-in-2 : tie.Need-add-number-in-2
-add-number-in-2 c = search needs
-
-number-in-requires-3 : tie.Need-number-in-requires-3
-number-in-requires-3 c κs = search needs
-
-plus-zero-requires-3 : tie.Need-plus-zero-requires-3
-plus-zero-requires-3 c κs = search needs
-
 returns : tie.Need-returns
 unfolding pointAt numberAt
 returns c =
@@ -49,14 +22,5 @@ returns c =
 pub point-in-spec : {M : Type 1} → statement M
 point-in-spec =
     tie.close
-    (tie.spec
-    mul-first
-    number-in-requires
-    plus-zero-requires
-    add-number-in
-    number-in-requires-2
-    plus-zero-requires-2
-    add-number-in-2
-    number-in-requires-3
-    plus-zero-requires-3
-    returns)
+    (tie.spec (λ c. search needs) (λ c κs. search needs) (λ c κs. search needs) (λ c. search needs) (λ c κs. search needs) (λ c κs. search needs)
+    (λ c. search needs) (λ c κs. search needs) (λ c κs. search needs) returns)

@@ -14,9 +14,6 @@ returns : tie.Need-returns
 unfolding refusalStatus
 returns c = rw (c .if1 .taken)
 
-mul-result : tie.Need-mul-result
-mul-result c = search needs
-
 add-result-2 : tie.Need-add-result-2
 add-result-2 c = let near : c .before .args .place < 2 ^ 56 = rw (ne-eqb (c .before .args .number) 8 (c .if1 .left)) at (c .before .pre .near) in omega arith
 
@@ -25,4 +22,5 @@ unfolding refusalStatus
 returns-2 c = rw (ne-eqb (c .before .args .number) 8 (c .if1 .left))
 
 pub encode-refusal-spec : {M : Type 1} → statement M
-encode-refusal-spec = tie.close (tie.spec add-result returns mul-result add-result-2 returns-2)
+encode-refusal-spec = tie.close
+    (tie.spec add-result returns (λ c. search needs) add-result-2 returns-2)

@@ -4,27 +4,6 @@ use borrow.Author.Needs.{needs}
 use Rattle.image.proofs.get.read_lists.Statement.{statement}
 use Rattle.image.proofs.get.read_lists.Tie as tie
 
-mul-read-f32s : tie.Need-mul-read-f32s
-mul-read-f32s c = search needs
-
-read-f32s-requires : tie.Need-read-f32s-requires
-read-f32s-requires c κs = search needs
-
-read-tree-requires : tie.Need-read-tree-requires
-read-tree-requires c κs = search needs
-
-same-length : tie.Need-same-length
-same-length c = search needs
-
-same-length-2 : tie.Need-same-length-2
-same-length-2 c = search needs
-
-same-length-3 : tie.Need-same-length-3
-same-length-3 c = search needs
-
-same-length-4 : tie.Need-same-length-4
-same-length-4 c = search needs
-
 returns : tie.Need-returns
 unfolding imageIn
 returns c =
@@ -42,12 +21,5 @@ returns c =
 pub read-lists-spec : {M : Type 1} → statement M
 read-lists-spec =
     tie.close
-    (tie.spec
-    mul-read-f32s
-    read-f32s-requires
-    read-tree-requires
-    same-length
-    same-length-2
-    same-length-3
-    same-length-4
-    returns)
+    (tie.spec (λ c. search needs) (λ c κs. search needs) (λ c κs. search needs) (λ c. search needs) (λ c. search needs) (λ c. search needs)
+    (λ c. search needs) returns)

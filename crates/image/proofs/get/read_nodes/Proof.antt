@@ -23,15 +23,6 @@ loop-holds c =
       run-start (sidesIn version1 (now (a .bytes)) (a .start)) 6 0 (a .nodes) (now (a .boxes)),
     )
 
-read-node-requires : tie.Need-read-node-requires Inv-loop μ-loop
-read-node-requires c κs = search needs
-
-add-i : tie.Need-add-i Inv-loop μ-loop
-add-i c = search needs
-
-loop-less : tie.Need-loop-less Inv-loop μ-loop
-loop-less c = search needs
-
 loop-again : tie.Need-loop-again Inv-loop μ-loop
 loop-again c =
     let after-read-node = c .before .before .before .before in
@@ -65,14 +56,4 @@ returns c =
 pub read-nodes-spec : {M : Type 1} → statement M
 read-nodes-spec =
     tie.close
-    (tie.spec
-    Inv-loop
-    μ-loop
-    loop-holds
-    read-node-requires
-    add-i
-    loop-less
-    loop-again
-    same-length
-    same-length-2
-    returns)
+    (tie.spec Inv-loop μ-loop loop-holds (λ c κs. search needs) (λ c. search needs) (λ c. search needs) loop-again same-length same-length-2 returns)

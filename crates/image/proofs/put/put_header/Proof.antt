@@ -6,15 +6,6 @@ use borrow.Author.Needs.{needs}
 use Rattle.image.proofs.put.put_header.Statement.{statement}
 use Rattle.image.proofs.put.put_header.Tie as tie
 
-put-u32-requires : tie.Need-put-u32-requires
-put-u32-requires c κs = search needs
-
-put-u16-requires : tie.Need-put-u16-requires
-put-u16-requires c κs = search needs
-
-same-length : tie.Need-same-length
-same-length c = search needs
-
 returns : tie.Need-returns
 unfolding header
 returns c =
@@ -23,4 +14,5 @@ returns c =
     (put-then (after-put-u32 .«put-u32» .ensures .0) (after-put-u16 .«put-u16» .ensures .0), omega arith)
 
 pub put-header-spec : {M : Type 1} → statement M
-put-header-spec = tie.close (tie.spec put-u32-requires put-u16-requires same-length returns)
+put-header-spec = tie.close
+    (tie.spec (λ c κs. search needs) (λ c κs. search needs) (λ c. search needs) returns)

@@ -12,27 +12,6 @@ use borrow.Author.Needs.{needs}
 use Rattle.image.proofs.put.put_image.Statement.{statement}
 use Rattle.image.proofs.put.put_image.Tie as tie
 
-put-settings-requires : tie.Need-put-settings-requires
-put-settings-requires c κs = search needs
-
-put-triangles-requires : tie.Need-put-triangles-requires
-put-triangles-requires c κs = search needs
-
-put-order-requires : tie.Need-put-order-requires
-put-order-requires c κs = search needs
-
-mul-put-header : tie.Need-mul-put-header
-mul-put-header c = search needs
-
-put-header-requires : tie.Need-put-header-requires
-put-header-requires c κs = search needs
-
-put-nodes-requires : tie.Need-put-nodes-requires
-put-nodes-requires c κs = search needs
-
-same-length : tie.Need-same-length
-same-length c = search needs
-
 returns : tie.Need-returns
 unfolding imageBytes
 returns c =
@@ -55,12 +34,5 @@ returns c =
 pub put-image-spec : {M : Type 1} → statement M
 put-image-spec =
     tie.close
-    (tie.spec
-    put-settings-requires
-    put-triangles-requires
-    put-order-requires
-    mul-put-header
-    put-header-requires
-    put-nodes-requires
-    same-length
-    returns)
+    (tie.spec (λ c κs. search needs) (λ c κs. search needs) (λ c κs. search needs) (λ c. search needs) (λ c κs. search needs) (λ c κs. search needs)
+    (λ c. search needs) returns)

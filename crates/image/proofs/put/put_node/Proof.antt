@@ -6,30 +6,6 @@ use borrow.Author.Needs.{needs}
 use Rattle.image.proofs.put.put_node.Statement.{statement}
 use Rattle.image.proofs.put.put_node.Tie as tie
 
-mul-put-u16s : tie.Need-mul-put-u16s
-mul-put-u16s c = search needs
-
-put-u16s-requires : tie.Need-put-u16s-requires
-put-u16s-requires c κs = search needs
-
-mul-put-u16s-2 : tie.Need-mul-put-u16s-2
-mul-put-u16s-2 c = search needs
-
-add-put-u16s : tie.Need-add-put-u16s
-add-put-u16s c = search needs
-
-put-u16s-requires-2 : tie.Need-put-u16s-requires-2
-put-u16s-requires-2 c κs = search needs
-
-mul-put-f32s : tie.Need-mul-put-f32s
-mul-put-f32s c = search needs
-
-put-f32s-requires : tie.Need-put-f32s-requires
-put-f32s-requires c κs = search needs
-
-same-length : tie.Need-same-length
-same-length c = search needs
-
 returns : tie.Need-returns
 unfolding nodeBytes
 returns c =
@@ -43,13 +19,5 @@ returns c =
 pub put-node-spec : {M : Type 1} → statement M
 put-node-spec =
     tie.close
-    (tie.spec
-    mul-put-u16s
-    put-u16s-requires
-    mul-put-u16s-2
-    add-put-u16s
-    put-u16s-requires-2
-    mul-put-f32s
-    put-f32s-requires
-    same-length
-    returns)
+    (tie.spec (λ c. search needs) (λ c κs. search needs) (λ c. search needs) (λ c. search needs) (λ c κs. search needs) (λ c. search needs)
+    (λ c κs. search needs) (λ c. search needs) returns)

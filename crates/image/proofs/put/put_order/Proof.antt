@@ -9,18 +9,6 @@ use borrow.Author.Needs.{needs}
 use Rattle.image.proofs.put.put_order.Statement.{statement}
 use Rattle.image.proofs.put.put_order.Tie as tie
 
-mul-put-header : tie.Need-mul-put-header
-mul-put-header c = search needs
-
-put-header-requires : tie.Need-put-header-requires
-put-header-requires c κs = search needs
-
-put-u16s-requires : tie.Need-put-u16s-requires
-put-u16s-requires c κs = search needs
-
-same-length : tie.Need-same-length
-same-length c = search needs
-
 returns : tie.Need-returns
 returns c =
     let after-put-u16s = c .before .before in
@@ -34,4 +22,5 @@ returns c =
 
 pub put-order-spec : {M : Type 1} → statement M
 put-order-spec =
-    tie.close (tie.spec mul-put-header put-header-requires put-u16s-requires same-length returns)
+    tie.close
+    (tie.spec (λ c. search needs) (λ c κs. search needs) (λ c κs. search needs) (λ c. search needs) returns)

@@ -10,24 +10,6 @@ use borrow.Author.Needs.{needs}
 use Rattle.image.proofs.put.put_settings.Statement.{statement}
 use Rattle.image.proofs.put.put_settings.Tie as tie
 
-put-header-requires : tie.Need-put-header-requires
-put-header-requires c κs = search needs
-
-put-u16-requires : tie.Need-put-u16-requires
-put-u16-requires c κs = search needs
-
-put-u16-requires-2 : tie.Need-put-u16-requires-2
-put-u16-requires-2 c κs = search needs
-
-put-u16-requires-3 : tie.Need-put-u16-requires-3
-put-u16-requires-3 c κs = search needs
-
-put-u16-requires-4 : tie.Need-put-u16-requires-4
-put-u16-requires-4 c κs = search needs
-
-same-length : tie.Need-same-length
-same-length c = search needs
-
 returns : tie.Need-returns
 unfolding settingsBytes
 returns c =
@@ -44,11 +26,5 @@ returns c =
 pub put-settings-spec : {M : Type 1} → statement M
 put-settings-spec =
     tie.close
-    (tie.spec
-    put-header-requires
-    put-u16-requires
-    put-u16-requires-2
-    put-u16-requires-3
-    put-u16-requires-4
-    same-length
+    (tie.spec (λ c κs. search needs) (λ c κs. search needs) (λ c κs. search needs) (λ c κs. search needs) (λ c κs. search needs) (λ c. search needs)
     returns)

@@ -10,18 +10,6 @@ use borrow.Author.Needs.{needs}
 use Rattle.image.proofs.put.put_triangles.Statement.{statement}
 use Rattle.image.proofs.put.put_triangles.Tie as tie
 
-mul-put-header : tie.Need-mul-put-header
-mul-put-header c = search needs
-
-put-header-requires : tie.Need-put-header-requires
-put-header-requires c κs = search needs
-
-put-f32s-requires : tie.Need-put-f32s-requires
-put-f32s-requires c κs = search needs
-
-same-length : tie.Need-same-length
-same-length c = search needs
-
 returns : tie.Need-returns
 returns c =
     let after-put-f32s = c .before .before in
@@ -35,4 +23,5 @@ returns c =
 
 pub put-triangles-spec : {M : Type 1} → statement M
 put-triangles-spec =
-    tie.close (tie.spec mul-put-header put-header-requires put-f32s-requires same-length returns)
+    tie.close
+    (tie.spec (λ c. search needs) (λ c κs. search needs) (λ c κs. search needs) (λ c. search needs) returns)

@@ -8,15 +8,6 @@ use borrow.Author.Needs.{needs}
 use Rattle.image.proofs.read.read_image.Statement.{statement}
 use Rattle.image.proofs.read.read_image.Tie as tie
 
-image-layout-requires : tie.Need-image-layout-requires
-image-layout-requires c κs = search needs
-
-enum-known-at : tie.Need-enum-known-at
-enum-known-at c = search needs
-
-enum-known-count : tie.Need-enum-known-count
-enum-known-count c = search needs
-
 has-room-requires : tie.Need-has-room-requires
 has-room-requires c κs =
     let after-image-layout = c .before .before .before in
@@ -49,18 +40,6 @@ settings-of-requires c κs =
     let known2 = after-image-layout .before .before .before in
     let start = known2 .before .before .before in
     omega (arith, image-long (now (start .args .bytes)) (after-image-layout .«image-layout» .ensures) (at-count .count .given .1))
-
-same-length : tie.Need-same-length
-same-length c = search needs
-
-same-length-2 : tie.Need-same-length-2
-same-length-2 c = search needs
-
-same-length-3 : tie.Need-same-length-3
-same-length-3 c = search needs
-
-same-length-4 : tie.Need-same-length-4
-same-length-4 c = search needs
 
 returns : tie.Need-returns
 returns c =
@@ -111,17 +90,5 @@ returns-3 c =
 pub read-image-spec : {M : Type 1} → statement M
 read-image-spec =
     tie.close
-    (tie.spec
-    image-layout-requires
-    enum-known-at
-    enum-known-count
-    has-room-requires
-    read-lists-requires
-    settings-of-requires
-    same-length
-    same-length-2
-    same-length-3
-    same-length-4
-    returns
-    returns-2
-    returns-3)
+    (tie.spec (λ c κs. search needs) (λ c. search needs) (λ c. search needs) has-room-requires read-lists-requires settings-of-requires
+    (λ c. search needs) (λ c. search needs) (λ c. search needs) (λ c. search needs) returns returns-2 returns-3)

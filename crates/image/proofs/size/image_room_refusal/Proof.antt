@@ -4,15 +4,10 @@ use borrow.Author.Needs.{needs}
 use Rattle.image.proofs.size.image_room_refusal.Statement.{statement}
 use Rattle.image.proofs.size.image_room_refusal.Tie as tie
 
-is-short-requires : tie.Need-is-short-requires
-is-short-requires c κs = search needs
-
-refused-if-requires : tie.Need-refused-if-requires
-refused-if-requires c κs = search needs
-
 returns : tie.Need-returns
 unfolding roomRefusal
 returns c = rw (← c .before .is-short .ensures) (c .refused-if .ensures)
 
 pub image-room-refusal-spec : {M : Type 1} → statement M
-image-room-refusal-spec = tie.close (tie.spec is-short-requires refused-if-requires returns)
+image-room-refusal-spec = tie.close
+    (tie.spec (λ c κs. search needs) (λ c κs. search needs) returns)

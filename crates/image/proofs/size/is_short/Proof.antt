@@ -10,11 +10,9 @@ use Rattle.image.proofs.size.is_short.Tie as tie
 returns : tie.Need-returns
 returns c = sym (lt-ltb (c .before .args .given) (imageSize version1 (c .before .args .triangles) (c .before .args .nodes)) (omega arith))
 
-image-size-requires : tie.Need-image-size-requires
-image-size-requires c κs = search needs
-
 returns-2 : tie.Need-returns-2
 returns-2 c = rw (c .image-size .ensures)
 
 pub is-short-spec : {M : Type 1} → statement M
-is-short-spec = tie.close (tie.spec returns image-size-requires returns-2)
+is-short-spec = tie.close
+    (tie.spec returns (λ c κs. search needs) returns-2)

@@ -6,15 +6,6 @@ use borrow.Author.Needs.{needs}
 use Rattle.image.proofs.write.write_image.Statement.{statement}
 use Rattle.image.proofs.write.write_image.Tie as tie
 
-write-refusal-requires : tie.Need-write-refusal-requires
-write-refusal-requires c κs = search needs
-
-enum-known-verdict : tie.Need-enum-known-verdict
-enum-known-verdict c = search needs
-
-enum-told : tie.Need-enum-told
-enum-told c = search needs
-
 put-image-requires : tie.Need-put-image-requires
 put-image-requires c κs =
     let after-write-refusal = c .before .before .before in
@@ -33,9 +24,6 @@ returns c =
     wrote-nothing (imageFrom (a .strategy) (a .leaf-minimum) (a .maximum-depth) (now (a .triangles)) (now (a .order)) (now (a .links)) (now (a .boxes))
     (a .nodes)) (now (a .out)) (after-write-refusal .write-refusal .ensures) (c .before .verdict .given .1)
 
-same-length : tie.Need-same-length
-same-length c = search needs
-
 returns-2 : tie.Need-returns-2
 returns-2 c =
     let after-put-image = c .before .before in
@@ -51,11 +39,4 @@ returns-2 c =
 pub write-image-spec : {M : Type 1} → statement M
 write-image-spec =
     tie.close
-    (tie.spec
-    write-refusal-requires
-    enum-known-verdict
-    enum-told
-    put-image-requires
-    returns
-    same-length
-    returns-2)
+    (tie.spec (λ c κs. search needs) (λ c. search needs) (λ c. search needs) put-image-requires returns (λ c. search needs) returns-2)

@@ -6,18 +6,6 @@ use borrow.Author.Needs.{needs}
 use Rattle.image.proofs.write.write_refusal.Statement.{statement}
 use Rattle.image.proofs.write.write_refusal.Tie as tie
 
-triangles-refusal-requires : tie.Need-triangles-refusal-requires
-triangles-refusal-requires c κs = search needs
-
-settings-refusal-requires : tie.Need-settings-refusal-requires
-settings-refusal-requires c κs = search needs
-
-or-requires : tie.Need-or-requires
-or-requires c κs = search needs
-
-refuses-requires : tie.Need-refuses-requires
-refuses-requires c κs = search needs
-
 returns : tie.Need-returns
 unfolding writeRefusal
 returns c =
@@ -25,9 +13,6 @@ returns c =
     row-stops _ _ _ _
     (or-test _ _ _ _ _ (ends _ _ (early .before .before .triangles-refusal .ensures)) (early .before .settings-refusal .ensures) (early .or .ensures))
     (c .before .refuses .ensures) (c .if1 .taken)
-
-triangle-count-requires : tie.Need-triangle-count-requires
-triangle-count-requires c κs = search needs
 
 image-room-refusal-requires : tie.Need-image-room-refusal-requires
 image-room-refusal-requires c κs =
@@ -47,9 +32,6 @@ tree-refusal-requires c κs =
     (or-test _ _ _ _ _ (ends _ _ (early .before .before .triangles-refusal .ensures)) (early .before .settings-refusal .ensures) (early .or .ensures))
     (tested .before .refuses .ensures) (tested .if1 .left) .0) .few
 
-or-requires-2 : tie.Need-or-requires-2
-or-requires-2 c κs = search needs
-
 returns-2 : tie.Need-returns-2
 unfolding writeRefusal
 returns-2 c =
@@ -65,14 +47,5 @@ returns-2 c =
 pub write-refusal-spec : {M : Type 1} → statement M
 write-refusal-spec =
     tie.close
-    (tie.spec
-    triangles-refusal-requires
-    settings-refusal-requires
-    or-requires
-    refuses-requires
-    returns
-    triangle-count-requires
-    image-room-refusal-requires
-    tree-refusal-requires
-    or-requires-2
-    returns-2)
+    (tie.spec (λ c κs. search needs) (λ c κs. search needs) (λ c κs. search needs) (λ c κs. search needs) returns (λ c κs. search needs)
+    image-room-refusal-requires tree-refusal-requires (λ c κs. search needs) returns-2)

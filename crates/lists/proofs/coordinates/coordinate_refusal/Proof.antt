@@ -4,15 +4,10 @@ use borrow.Author.Needs.{needs}
 use Rattle.lists.proofs.coordinates.coordinate_refusal.Statement.{statement}
 use Rattle.lists.proofs.coordinates.coordinate_refusal.Tie as tie
 
-first-bad-requires : tie.Need-first-bad-requires
-first-bad-requires c κs = search needs
-
-refused-if-requires : tie.Need-refused-if-requires
-refused-if-requires c κs = search needs
-
 returns : tie.Need-returns
 unfolding coordinateRefusal
 returns c = rw (c .refused-if .ensures, c .before .first-bad .ensures)
 
 pub coordinate-refusal-spec : {M : Type 1} → statement M
-coordinate-refusal-spec = tie.close (tie.spec first-bad-requires refused-if-requires returns)
+coordinate-refusal-spec = tie.close
+    (tie.spec (λ c κs. search needs) (λ c κs. search needs) returns)

@@ -16,18 +16,6 @@ Inv-loop numbers i₀ i = i + firstBad (drop i numbers) ≡ firstBad numbers
 abbrev μ-loop : tie.MeasureT-loop
 μ-loop numbers i₀ i = length numbers - i
 
-loop-holds : tie.Need-loop-holds Inv-loop μ-loop
-loop-holds c = omega arith
-
-mul-is-coordinate : tie.Need-mul-is-coordinate Inv-loop μ-loop
-mul-is-coordinate c = search needs
-
-shared-slice-read-is-coordinate : tie.Need-shared-slice-read-is-coordinate Inv-loop μ-loop
-shared-slice-read-is-coordinate c = search needs
-
-is-coordinate-requires : tie.Need-is-coordinate-requires Inv-loop μ-loop
-is-coordinate-requires c κs = search needs
-
 returns : tie.Need-returns Inv-loop μ-loop
 returns c =
     let tested = c .before .before .before in
@@ -37,12 +25,6 @@ returns c =
     let list = start .args .numbers .now in
     let found = bad-here list (loop .i) (tested .loop-test .taken) (sym (c .before .is-coordinate .ensures) ∙ not-true _ (c .if1 .taken)) in
     omega (arith, loop .inv)
-
-add-i : tie.Need-add-i Inv-loop μ-loop
-add-i c = search needs
-
-loop-less : tie.Need-loop-less Inv-loop μ-loop
-loop-less c = omega arith
 
 loop-again : tie.Need-loop-again Inv-loop μ-loop
 loop-again c =
@@ -63,15 +45,5 @@ returns-2 c =
 pub first-bad-spec : {M : Type 1} → statement M
 first-bad-spec =
     tie.close
-    (tie.spec
-    Inv-loop
-    μ-loop
-    loop-holds
-    mul-is-coordinate
-    shared-slice-read-is-coordinate
-    is-coordinate-requires
-    returns
-    add-i
-    loop-less
-    loop-again
-    returns-2)
+    (tie.spec Inv-loop μ-loop (λ c. omega arith) (λ c. search needs) (λ c. search needs) (λ c κs. search needs) returns (λ c. search needs)
+    (λ c. omega arith) loop-again returns-2)

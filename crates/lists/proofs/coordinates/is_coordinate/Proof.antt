@@ -5,12 +5,10 @@ use borrow.Author.Needs.{needs}
 use Rattle.lists.proofs.coordinates.is_coordinate.Statement.{statement}
 use Rattle.lists.proofs.coordinates.is_coordinate.Tie as tie
 
-is-within-requires : tie.Need-is-within-requires
-is-within-requires c κs = search needs
-
 returns : tie.Need-returns
 unfolding isCoordinate ofBits neg
 returns c = c .is-within .ensures
 
 pub is-coordinate-spec : {M : Type 1} → statement M
-is-coordinate-spec = tie.close (tie.spec is-within-requires returns)
+is-coordinate-spec = tie.close
+    (tie.spec (λ c κs. search needs) returns)

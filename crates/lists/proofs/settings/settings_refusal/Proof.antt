@@ -4,15 +4,10 @@ use borrow.Author.Needs.{needs}
 use Rattle.lists.proofs.settings.settings_refusal.Statement.{statement}
 use Rattle.lists.proofs.settings.settings_refusal.Tie as tie
 
-are-settings-requires : tie.Need-are-settings-requires
-are-settings-requires c κs = search needs
-
-refused-if-requires : tie.Need-refused-if-requires
-refused-if-requires c κs = search needs
-
 returns : tie.Need-returns
 unfolding settingsRefusal
 returns c = rw (c .refused-if .ensures, c .before .are-settings .ensures)
 
 pub settings-refusal-spec : {M : Type 1} → statement M
-settings-refusal-spec = tie.close (tie.spec are-settings-requires refused-if-requires returns)
+settings-refusal-spec = tie.close
+    (tie.spec (λ c κs. search needs) (λ c κs. search needs) returns)

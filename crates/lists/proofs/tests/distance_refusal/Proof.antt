@@ -5,15 +5,10 @@ use borrow.Author.Needs.{needs}
 use Rattle.lists.proofs.tests.distance_refusal.Statement.{statement}
 use Rattle.lists.proofs.tests.distance_refusal.Tie as tie
 
-is-within-requires : tie.Need-is-within-requires
-is-within-requires c κs = search needs
-
-refused-if-requires : tie.Need-refused-if-requires
-refused-if-requires c κs = search needs
-
 returns : tie.Need-returns
 unfolding distanceRefusal isDistance ofBits
 returns c = rw (c .refused-if .ensures, c .before .is-within .ensures)
 
 pub distance-refusal-spec : {M : Type 1} → statement M
-distance-refusal-spec = tie.close (tie.spec is-within-requires refused-if-requires returns)
+distance-refusal-spec = tie.close
+    (tie.spec (λ c κs. search needs) (λ c κs. search needs) returns)

@@ -4,15 +4,10 @@ use borrow.Author.Needs.{needs}
 use Rattle.lists.proofs.tests.none_refusal.Statement.{statement}
 use Rattle.lists.proofs.tests.none_refusal.Tie as tie
 
-triangle-count-requires : tie.Need-triangle-count-requires
-triangle-count-requires c κs = search needs
-
-refused-if-requires : tie.Need-refused-if-requires
-refused-if-requires c κs = search needs
-
 returns : tie.Need-returns
 unfolding noneRefusal
 returns c = rw (c .refused-if .ensures, c .before .triangle-count .ensures)
 
 pub none-refusal-spec : {M : Type 1} → statement M
-none-refusal-spec = tie.close (tie.spec triangle-count-requires refused-if-requires returns)
+none-refusal-spec = tie.close
+    (tie.spec (λ c κs. search needs) (λ c κs. search needs) returns)

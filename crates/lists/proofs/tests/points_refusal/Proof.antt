@@ -5,15 +5,6 @@ use borrow.Author.Needs.{needs}
 use Rattle.lists.proofs.tests.points_refusal.Statement.{statement}
 use Rattle.lists.proofs.tests.points_refusal.Tie as tie
 
-refused-if-requires : tie.Need-refused-if-requires
-refused-if-requires c κs = search needs
-
-coordinate-refusal-requires : tie.Need-coordinate-refusal-requires
-coordinate-refusal-requires c κs = search needs
-
-or-requires : tie.Need-or-requires
-or-requires c κs = search needs
-
 returns : tie.Need-returns
 unfolding pointsRefusal
 returns c =
@@ -22,8 +13,4 @@ returns c =
 pub points-refusal-spec : {M : Type 1} → statement M
 points-refusal-spec =
     tie.close
-    (tie.spec
-    refused-if-requires
-    coordinate-refusal-requires
-    or-requires
-    returns)
+    (tie.spec (λ c κs. search needs) (λ c κs. search needs) (λ c κs. search needs) returns)

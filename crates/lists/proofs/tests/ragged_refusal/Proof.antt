@@ -4,12 +4,10 @@ use borrow.Author.Needs.{needs}
 use Rattle.lists.proofs.tests.ragged_refusal.Statement.{statement}
 use Rattle.lists.proofs.tests.ragged_refusal.Tie as tie
 
-refused-if-requires : tie.Need-refused-if-requires
-refused-if-requires c κs = search needs
-
 returns : tie.Need-returns
 unfolding raggedRefusal
 returns c = c .refused-if .ensures
 
 pub ragged-refusal-spec : {M : Type 1} → statement M
-ragged-refusal-spec = tie.close (tie.spec refused-if-requires returns)
+ragged-refusal-spec = tie.close
+    (tie.spec (λ c κs. search needs) returns)

@@ -4,15 +4,10 @@ use borrow.Author.Needs.{needs}
 use Rattle.lists.proofs.tests.too_many_refusal.Statement.{statement}
 use Rattle.lists.proofs.tests.too_many_refusal.Tie as tie
 
-triangle-count-requires : tie.Need-triangle-count-requires
-triangle-count-requires c κs = search needs
-
-refused-if-requires : tie.Need-refused-if-requires
-refused-if-requires c κs = search needs
-
 returns : tie.Need-returns
 unfolding tooManyRefusal
 returns c = rw (c .refused-if .ensures, c .before .triangle-count .ensures)
 
 pub too-many-refusal-spec : {M : Type 1} → statement M
-too-many-refusal-spec = tie.close (tie.spec triangle-count-requires refused-if-requires returns)
+too-many-refusal-spec = tie.close
+    (tie.spec (λ c κs. search needs) (λ c κs. search needs) returns)

@@ -5,24 +5,6 @@ use borrow.Author.Needs.{needs}
 use Rattle.lists.proofs.tests.triangles_refusal.Statement.{statement}
 use Rattle.lists.proofs.tests.triangles_refusal.Tie as tie
 
-ragged-refusal-requires : tie.Need-ragged-refusal-requires
-ragged-refusal-requires c κs = search needs
-
-none-refusal-requires : tie.Need-none-refusal-requires
-none-refusal-requires c κs = search needs
-
-or-requires : tie.Need-or-requires
-or-requires c κs = search needs
-
-too-many-refusal-requires : tie.Need-too-many-refusal-requires
-too-many-refusal-requires c κs = search needs
-
-or-requires-2 : tie.Need-or-requires-2
-or-requires-2 c κs = search needs
-
-refuses-requires : tie.Need-refuses-requires
-refuses-requires c κs = search needs
-
 returns : tie.Need-returns
 unfolding trianglesRefusal
 returns c =
@@ -32,9 +14,6 @@ returns c =
     (or-test _ _ _ _ _ (ends _ _ (some .before .before .ragged-refusal .ensures)) (some .before .none-refusal .ensures) (some .or .ensures))
     (counted .before .too-many-refusal .ensures) (counted .or2 .ensures))
     (c .before .refuses .ensures) (c .if1 .taken)
-
-coordinate-refusal-requires : tie.Need-coordinate-refusal-requires
-coordinate-refusal-requires c κs = search needs
 
 returns-2 : tie.Need-returns-2
 unfolding trianglesRefusal
@@ -49,13 +28,5 @@ returns-2 c =
 pub triangles-refusal-spec : {M : Type 1} → statement M
 triangles-refusal-spec =
     tie.close
-    (tie.spec
-    ragged-refusal-requires
-    none-refusal-requires
-    or-requires
-    too-many-refusal-requires
-    or-requires-2
-    refuses-requires
-    returns
-    coordinate-refusal-requires
-    returns-2)
+    (tie.spec (λ c κs. search needs) (λ c κs. search needs) (λ c κs. search needs) (λ c κs. search needs) (λ c κs. search needs)
+    (λ c κs. search needs) returns (λ c κs. search needs) returns-2)

@@ -4,12 +4,10 @@ use borrow.Author.Needs.{needs}
 use Rattle.lists.proofs.verdict.room_refusal.Statement.{statement}
 use Rattle.lists.proofs.verdict.room_refusal.Tie as tie
 
-refused-if-requires : tie.Need-refused-if-requires
-refused-if-requires c κs = search needs
-
 returns : tie.Need-returns
 unfolding roomRefusal
 returns c = c .refused-if .ensures
 
 pub room-refusal-spec : {M : Type 1} → statement M
-room-refusal-spec = tie.close (tie.spec refused-if-requires returns)
+room-refusal-spec = tie.close
+    (tie.spec (λ c κs. search needs) returns)

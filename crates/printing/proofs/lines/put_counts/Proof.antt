@@ -6,30 +6,6 @@ use borrow.Author.Needs.{needs}
 use Rattle.printing.proofs.lines.put_counts.Statement.{statement}
 use Rattle.printing.proofs.lines.put_counts.Tie as tie
 
-slice-aggregate-put-named : tie.Need-slice-aggregate-put-named
-slice-aggregate-put-named c = search needs
-
-put-named-requires : tie.Need-put-named-requires
-put-named-requires c κs = search needs
-
-slice-aggregate-put-named-2 : tie.Need-slice-aggregate-put-named-2
-slice-aggregate-put-named-2 c = search needs
-
-put-named-requires-2 : tie.Need-put-named-requires-2
-put-named-requires-2 c κs = search needs
-
-slice-aggregate-put-named-3 : tie.Need-slice-aggregate-put-named-3
-slice-aggregate-put-named-3 c = search needs
-
-put-named-requires-3 : tie.Need-put-named-requires-3
-put-named-requires-3 c κs = search needs
-
-put-byte-requires : tie.Need-put-byte-requires
-put-byte-requires c κs = search needs
-
-same-length : tie.Need-same-length
-same-length c = search needs
-
 returns : tie.Need-returns
 unfolding trianglesWord nodesWord depthWord countsLine
 returns c =
@@ -47,13 +23,5 @@ returns c =
 pub put-counts-spec : {M : Type 1} → statement M
 put-counts-spec =
     tie.close
-    (tie.spec
-    slice-aggregate-put-named
-    put-named-requires
-    slice-aggregate-put-named-2
-    put-named-requires-2
-    slice-aggregate-put-named-3
-    put-named-requires-3
-    put-byte-requires
-    same-length
-    returns)
+    (tie.spec (λ c. search needs) (λ c κs. search needs) (λ c. search needs) (λ c κs. search needs) (λ c. search needs) (λ c κs. search needs)
+    (λ c κs. search needs) (λ c. search needs) returns)

@@ -6,33 +6,6 @@ use borrow.Author.Needs.{needs}
 use Rattle.printing.proofs.lines.put_found.Statement.{statement}
 use Rattle.printing.proofs.lines.put_found.Tie as tie
 
-put-decimal-requires : tie.Need-put-decimal-requires
-put-decimal-requires c κs = search needs
-
-slice-aggregate-put-named : tie.Need-slice-aggregate-put-named
-slice-aggregate-put-named c = search needs
-
-put-named-requires : tie.Need-put-named-requires
-put-named-requires c κs = search needs
-
-put-spaced-hex-requires : tie.Need-put-spaced-hex-requires
-put-spaced-hex-requires c κs = search needs
-
-put-spaced-hex-requires-2 : tie.Need-put-spaced-hex-requires-2
-put-spaced-hex-requires-2 c κs = search needs
-
-put-spaced-hex-requires-3 : tie.Need-put-spaced-hex-requires-3
-put-spaced-hex-requires-3 c κs = search needs
-
-put-spaced-hex-requires-4 : tie.Need-put-spaced-hex-requires-4
-put-spaced-hex-requires-4 c κs = search needs
-
-put-byte-requires : tie.Need-put-byte-requires
-put-byte-requires c κs = search needs
-
-same-length : tie.Need-same-length
-same-length c = search needs
-
 returns : tie.Need-returns
 unfolding foundWord foundLine
 returns c =
@@ -55,14 +28,5 @@ returns c =
 pub put-found-spec : {M : Type 1} → statement M
 put-found-spec =
     tie.close
-    (tie.spec
-    put-decimal-requires
-    slice-aggregate-put-named
-    put-named-requires
-    put-spaced-hex-requires
-    put-spaced-hex-requires-2
-    put-spaced-hex-requires-3
-    put-spaced-hex-requires-4
-    put-byte-requires
-    same-length
-    returns)
+    (tie.spec (λ c κs. search needs) (λ c. search needs) (λ c κs. search needs) (λ c κs. search needs) (λ c κs. search needs) (λ c κs. search needs)
+    (λ c κs. search needs) (λ c κs. search needs) (λ c. search needs) returns)

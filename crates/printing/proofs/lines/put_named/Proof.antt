@@ -6,15 +6,6 @@ use borrow.Author.Needs.{needs}
 use Rattle.printing.proofs.lines.put_named.Statement.{statement}
 use Rattle.printing.proofs.lines.put_named.Tie as tie
 
-put-word-requires : tie.Need-put-word-requires
-put-word-requires c κs = search needs
-
-put-spaced-decimal-requires : tie.Need-put-spaced-decimal-requires
-put-spaced-decimal-requires c κs = search needs
-
-same-length : tie.Need-same-length
-same-length c = search needs
-
 returns : tie.Need-returns
 unfolding named
 returns c =
@@ -24,4 +15,5 @@ returns c =
 
 pub put-named-spec : {M : Type 1} → statement M
 put-named-spec =
-    tie.close (tie.spec put-word-requires put-spaced-decimal-requires same-length returns)
+    tie.close
+    (tie.spec (λ c κs. search needs) (λ c κs. search needs) (λ c. search needs) returns)

@@ -6,21 +6,6 @@ use borrow.Author.Needs.{needs}
 use Rattle.printing.proofs.lines.put_nothing.Statement.{statement}
 use Rattle.printing.proofs.lines.put_nothing.Tie as tie
 
-put-decimal-requires : tie.Need-put-decimal-requires
-put-decimal-requires c κs = search needs
-
-slice-aggregate-put-word : tie.Need-slice-aggregate-put-word
-slice-aggregate-put-word c = search needs
-
-put-word-requires : tie.Need-put-word-requires
-put-word-requires c κs = search needs
-
-put-byte-requires : tie.Need-put-byte-requires
-put-byte-requires c κs = search needs
-
-same-length : tie.Need-same-length
-same-length c = search needs
-
 returns : tie.Need-returns
 unfolding nothingWord nothingLine
 returns c =
@@ -35,10 +20,4 @@ returns c =
 pub put-nothing-spec : {M : Type 1} → statement M
 put-nothing-spec =
     tie.close
-    (tie.spec
-    put-decimal-requires
-    slice-aggregate-put-word
-    put-word-requires
-    put-byte-requires
-    same-length
-    returns)
+    (tie.spec (λ c κs. search needs) (λ c. search needs) (λ c κs. search needs) (λ c κs. search needs) (λ c. search needs) returns)

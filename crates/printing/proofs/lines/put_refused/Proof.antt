@@ -6,21 +6,6 @@ use borrow.Author.Needs.{needs}
 use Rattle.printing.proofs.lines.put_refused.Statement.{statement}
 use Rattle.printing.proofs.lines.put_refused.Tie as tie
 
-slice-aggregate-put-named : tie.Need-slice-aggregate-put-named
-slice-aggregate-put-named c = search needs
-
-put-named-requires : tie.Need-put-named-requires
-put-named-requires c κs = search needs
-
-put-spaced-decimal-requires : tie.Need-put-spaced-decimal-requires
-put-spaced-decimal-requires c κs = search needs
-
-put-byte-requires : tie.Need-put-byte-requires
-put-byte-requires c κs = search needs
-
-same-length : tie.Need-same-length
-same-length c = search needs
-
 returns : tie.Need-returns
 unfolding refusedWord refusedLine
 returns c =
@@ -35,10 +20,4 @@ returns c =
 pub put-refused-spec : {M : Type 1} → statement M
 put-refused-spec =
     tie.close
-    (tie.spec
-    slice-aggregate-put-named
-    put-named-requires
-    put-spaced-decimal-requires
-    put-byte-requires
-    same-length
-    returns)
+    (tie.spec (λ c. search needs) (λ c κs. search needs) (λ c κs. search needs) (λ c κs. search needs) (λ c. search needs) returns)

@@ -6,15 +6,6 @@ use borrow.Author.Needs.{needs}
 use Rattle.printing.proofs.lines.put_spaced_decimal.Statement.{statement}
 use Rattle.printing.proofs.lines.put_spaced_decimal.Tie as tie
 
-put-byte-requires : tie.Need-put-byte-requires
-put-byte-requires c κs = search needs
-
-put-decimal-requires : tie.Need-put-decimal-requires
-put-decimal-requires c κs = search needs
-
-same-length : tie.Need-same-length
-same-length c = search needs
-
 returns : tie.Need-returns
 unfolding spacedDecimal
 returns c =
@@ -24,4 +15,5 @@ returns c =
 
 pub put-spaced-decimal-spec : {M : Type 1} → statement M
 put-spaced-decimal-spec =
-    tie.close (tie.spec put-byte-requires put-decimal-requires same-length returns)
+    tie.close
+    (tie.spec (λ c κs. search needs) (λ c κs. search needs) (λ c. search needs) returns)

@@ -6,15 +6,6 @@ use borrow.Author.Needs.{needs}
 use Rattle.printing.proofs.lines.put_spaced_hex.Statement.{statement}
 use Rattle.printing.proofs.lines.put_spaced_hex.Tie as tie
 
-put-byte-requires : tie.Need-put-byte-requires
-put-byte-requires c κs = search needs
-
-put-hex-requires : tie.Need-put-hex-requires
-put-hex-requires c κs = search needs
-
-same-length : tie.Need-same-length
-same-length c = search needs
-
 returns : tie.Need-returns
 unfolding spacedHex
 returns c =
@@ -23,4 +14,5 @@ returns c =
     (put-then (after-put-byte .«put-byte» .ensures .0) (after-put-hex .«put-hex» .ensures .0), omega arith)
 
 pub put-spaced-hex-spec : {M : Type 1} → statement M
-put-spaced-hex-spec = tie.close (tie.spec put-byte-requires put-hex-requires same-length returns)
+put-spaced-hex-spec = tie.close
+    (tie.spec (λ c κs. search needs) (λ c κs. search needs) (λ c. search needs) returns)

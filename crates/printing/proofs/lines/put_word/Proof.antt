@@ -20,21 +20,6 @@ loop-holds c =
     let a = c .args in
     run-start (λ j. getD (now (a .word)) j 0 ∷ []) 1 (a .at) (length (now (a .word))) (now (a .out))
 
-shared-slice-read-out : tie.Need-shared-slice-read-out Inv-loop μ-loop
-shared-slice-read-out c = search needs
-
-add-out : tie.Need-add-out Inv-loop μ-loop
-add-out c = search needs
-
-slice-write-out : tie.Need-slice-write-out Inv-loop μ-loop
-slice-write-out c = search needs
-
-add-i : tie.Need-add-i Inv-loop μ-loop
-add-i c = search needs
-
-loop-less : tie.Need-loop-less Inv-loop μ-loop
-loop-less c = search needs
-
 loop-again : tie.Need-loop-again Inv-loop μ-loop
 loop-again c =
     let turn = c .before .before in
@@ -42,9 +27,6 @@ loop-again c =
     let a = start .args in
     run-store (λ j. getD (now (a .word)) j 0) (a .at) (length (now (a .word))) (now (a .out)) _ (turn .loop .i) _ (start .pre) (c .before .«loop-test» .taken)
     (turn .loop .inv) refl
-
-add-result : tie.Need-add-result Inv-loop μ-loop
-add-result c = search needs
 
 same-length : tie.Need-same-length Inv-loop μ-loop
 same-length c = c .before .loop .inv .long
@@ -58,16 +40,5 @@ returns c =
 pub put-word-spec : {M : Type 1} → statement M
 put-word-spec =
     tie.close
-    (tie.spec
-    Inv-loop
-    μ-loop
-    loop-holds
-    shared-slice-read-out
-    add-out
-    slice-write-out
-    add-i
-    loop-less
-    loop-again
-    add-result
-    same-length
-    returns)
+    (tie.spec Inv-loop μ-loop loop-holds (λ c. search needs) (λ c. search needs) (λ c. search needs) (λ c. search needs) (λ c. search needs)
+    loop-again (λ c. search needs) same-length returns)

@@ -8,15 +8,6 @@ use borrow.Author.Needs.{needs}
 use Rattle.printing.proofs.numbers.put_decimal.Statement.{statement}
 use Rattle.printing.proofs.numbers.put_decimal.Tie as tie
 
-width-of-requires : tie.Need-width-of-requires
-width-of-requires c κs = search needs
-
-put-digits-requires : tie.Need-put-digits-requires
-put-digits-requires c κs = search needs
-
-same-length : tie.Need-same-length
-same-length c = search needs
-
 returns : tie.Need-returns
 unfolding decimal
 returns c =
@@ -26,4 +17,5 @@ returns c =
     (put-same (ap (λ (k : ℕ). digits 10 k (start .args .n)) (after-width-of .«width-of» .ensures .0)) (after-put-digits .«put-digits» .ensures .0), omega arith)
 
 pub put-decimal-spec : {M : Type 1} → statement M
-put-decimal-spec = tie.close (tie.spec width-of-requires put-digits-requires same-length returns)
+put-decimal-spec = tie.close
+    (tie.spec (λ c κs. search needs) (λ c κs. search needs) (λ c. search needs) returns)

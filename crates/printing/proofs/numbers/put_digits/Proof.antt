@@ -20,12 +20,6 @@ loop-holds c =
     let a = c .before .args in
     back-start (a .base) (a .at) (a .count) (a .n) (now (a .out))
 
-sub-remaining : tie.Need-sub-remaining Inv-loop μ-loop
-sub-remaining c = search needs
-
-rem-digit-of : tie.Need-rem-digit-of Inv-loop μ-loop
-rem-digit-of c = search needs
-
 digit-of-requires : tie.Need-digit-of-requires Inv-loop μ-loop
 digit-of-requires c κs = omega (arith, mod-lt (c .before .loop .rest) (c .before .before .before .pre .1 .0))
 
@@ -37,12 +31,6 @@ slice-write-out c =
     let turn = c .before .before in
     omega (arith, turn .loop .inv .sized, turn .loop .inv .long)
 
-div-rest : tie.Need-div-rest Inv-loop μ-loop
-div-rest c = search needs
-
-loop-less : tie.Need-loop-less Inv-loop μ-loop
-loop-less c = search needs
-
 loop-again : tie.Need-loop-again Inv-loop μ-loop
 loop-again c =
     let turn = c .before .before in
@@ -50,9 +38,6 @@ loop-again c =
     let a = start .args in
     back-more (a .base) (a .at) (a .count) (a .n) (now (a .out)) _ (turn .loop .remaining) (turn .loop .rest) _ (turn .loop .remaining - 1) (start .pre .0)
     (omega arith) (c .«digit-of» .ensures) (turn .loop .inv)
-
-add-result : tie.Need-add-result Inv-loop μ-loop
-add-result c = search needs
 
 same-length : tie.Need-same-length Inv-loop μ-loop
 same-length c = c .before .loop .inv .long
@@ -69,18 +54,5 @@ returns c =
 pub put-digits-spec : {M : Type 1} → statement M
 put-digits-spec =
     tie.close
-    (tie.spec
-    Inv-loop
-    μ-loop
-    loop-holds
-    sub-remaining
-    rem-digit-of
-    digit-of-requires
-    add-out
-    slice-write-out
-    div-rest
-    loop-less
-    loop-again
-    add-result
-    same-length
-    returns)
+    (tie.spec Inv-loop μ-loop loop-holds (λ c. search needs) (λ c. search needs) digit-of-requires add-out slice-write-out (λ c. search needs)
+    (λ c. search needs) loop-again (λ c. search needs) same-length returns)

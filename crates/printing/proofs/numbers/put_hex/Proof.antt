@@ -5,15 +5,10 @@ use borrow.Author.Needs.{needs}
 use Rattle.printing.proofs.numbers.put_hex.Statement.{statement}
 use Rattle.printing.proofs.numbers.put_hex.Tie as tie
 
-put-digits-requires : tie.Need-put-digits-requires
-put-digits-requires c κs = search needs
-
-same-length : tie.Need-same-length
-same-length c = search needs
-
 returns : tie.Need-returns
 unfolding hex
 returns c = (c .before .before .«put-digits» .ensures .0, omega arith)
 
 pub put-hex-spec : {M : Type 1} → statement M
-put-hex-spec = tie.close (tie.spec put-digits-requires same-length returns)
+put-hex-spec = tie.close
+    (tie.spec (λ c κs. search needs) (λ c. search needs) returns)

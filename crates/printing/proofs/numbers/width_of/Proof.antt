@@ -14,16 +14,10 @@ Inv-loop n count₀ rest₀ count rest = count + width rest ≡ width n + 1
 abbrev μ-loop : tie.MeasureT-loop
 μ-loop n count₀ rest₀ count rest = rest
 
-loop-holds : tie.Need-loop-holds Inv-loop μ-loop
-loop-holds c = omega arith
-
 add-count : tie.Need-add-count Inv-loop μ-loop
 add-count c =
     let start = c .before .before in
     omega (arith, width-pos (c .before .loop .rest), width-most (start .args .n) (start .fits .n .fits), c .before .loop .inv)
-
-loop-less : tie.Need-loop-less Inv-loop μ-loop
-loop-less c = search needs
 
 loop-again : tie.Need-loop-again Inv-loop μ-loop
 loop-again c = omega (arith, width-more (c .before .loop .rest) (c .«loop-test» .taken), c .before .loop .inv)
@@ -36,4 +30,5 @@ returns c =
 
 pub width-of-spec : {M : Type 1} → statement M
 width-of-spec =
-    tie.close (tie.spec Inv-loop μ-loop loop-holds add-count loop-less loop-again returns)
+    tie.close
+    (tie.spec Inv-loop μ-loop (λ c. omega arith) add-count (λ c. search needs) loop-again returns)

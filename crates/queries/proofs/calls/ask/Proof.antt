@@ -10,12 +10,6 @@ use borrow.Author.Needs.{needs}
 use Rattle.queries.proofs.calls.ask.Statement.{statement}
 use Rattle.queries.proofs.calls.ask.Tie as tie
 
-query-refusal-requires : tie.Need-query-refusal-requires
-query-refusal-requires c κs = search needs
-
-refuses-requires : tie.Need-refuses-requires
-refuses-requires c κs = search needs
-
 returns : tie.Need-returns
 returns c =
     let after-query-refusal = c .before .before in
@@ -37,9 +31,6 @@ put-answers-requires c κs =
     query-passed (a .triangles .now) (a .order .now) (a .links .now) (a .boxes .now) (a .nodes) (a .points .now) (a .distance) (length (a .answers .now))
     (did-pass _ _ _ (after-query-refusal .query-refusal .ensures) (after-refuses .refuses .ensures) (c .before .if1 .left))
 
-same-length : tie.Need-same-length
-same-length c = search needs
-
 returns-2 : tie.Need-returns-2
 returns-2 c =
     let after-put-answers = c .before .before in
@@ -58,10 +49,4 @@ returns-2 c =
 pub ask-spec : {M : Type 1} → statement M
 ask-spec =
     tie.close
-    (tie.spec
-    query-refusal-requires
-    refuses-requires
-    returns
-    put-answers-requires
-    same-length
-    returns-2)
+    (tie.spec (λ c κs. search needs) (λ c κs. search needs) returns put-answers-requires (λ c. search needs) returns-2)

@@ -18,9 +18,6 @@ Inv-loop query triangles order links boxes nodes points distance answers₀ coun
 abbrev μ-loop : tie.MeasureT-loop
 μ-loop query triangles order links boxes nodes points distance answers₀ count k₀ answers k = count - k
 
-point-count-requires : tie.Need-point-count-requires Inv-loop μ-loop
-point-count-requires c κs = search needs
-
 loop-holds : tie.Need-loop-holds Inv-loop μ-loop
 loop-holds c =
     let known4 = c .before .before .before in
@@ -45,9 +42,6 @@ answer-at-requires c κs =
           (omega (arith, point-inside _ _ (rw (after-point-count .point-count .ensures) at (c .before .loop-test .taken))))),
     )
 
-mul-put-answer : tie.Need-mul-put-answer Inv-loop μ-loop
-mul-put-answer c = search needs
-
 put-answer-requires : tie.Need-put-answer-requires Inv-loop μ-loop
 put-answer-requires c κs =
     let tested = c .before .before .before in
@@ -56,12 +50,6 @@ put-answer-requires c κs =
     let known4 = after-point-count .before .before .before in
     let start = known4 .before .before .before .before in
     omega (arith, start .pre .1, after-point-count .point-count .ensures, turn .loop .inv .long, tested .loop-test .taken)
-
-add-k : tie.Need-add-k Inv-loop μ-loop
-add-k c = omega arith
-
-loop-less : tie.Need-loop-less Inv-loop μ-loop
-loop-less c = omega arith
 
 loop-again : tie.Need-loop-again Inv-loop μ-loop
 loop-again c =
@@ -95,18 +83,5 @@ returns c =
 pub put-answers-spec : {M : Type 1} → statement M
 put-answers-spec =
     tie.close
-    (tie.spec
-    Inv-loop
-    μ-loop
-    point-count-requires
-    loop-holds
-    mul-point-at
-    point-at-requires
-    answer-at-requires
-    mul-put-answer
-    put-answer-requires
-    add-k
-    loop-less
-    loop-again
-    same-length
-    returns)
+    (tie.spec Inv-loop μ-loop (λ c κs. search needs) loop-holds mul-point-at point-at-requires answer-at-requires (λ c. search needs)
+    put-answer-requires (λ c. omega arith) (λ c. omega arith) loop-again same-length returns)

@@ -6,21 +6,6 @@ use borrow.Author.Needs.{needs}
 use Rattle.queries.proofs.calls.query_refusal.Statement.{statement}
 use Rattle.queries.proofs.calls.query_refusal.Tie as tie
 
-triangles-refusal-requires : tie.Need-triangles-refusal-requires
-triangles-refusal-requires c κs = search needs
-
-point-count-requires : tie.Need-point-count-requires
-point-count-requires c κs = search needs
-
-room-refusal-requires : tie.Need-room-refusal-requires
-room-refusal-requires c κs = search needs
-
-or-requires : tie.Need-or-requires
-or-requires c κs = search needs
-
-refuses-requires : tie.Need-refuses-requires
-refuses-requires c κs = search needs
-
 returns : tie.Need-returns
 unfolding queryRefusal
 returns c =
@@ -40,18 +25,6 @@ tree-refusal-requires c κs =
     (rw (counted .point-count .ensures) at (early .before .room-refusal .ensures)) (early .or .ensures))
     (c .before .refuses .ensures) (c .if1 .left) .0) .few
 
-points-refusal-requires : tie.Need-points-refusal-requires
-points-refusal-requires c κs = search needs
-
-or-requires-2 : tie.Need-or-requires-2
-or-requires-2 c κs = search needs
-
-distance-refusal-requires : tie.Need-distance-refusal-requires
-distance-refusal-requires c κs = search needs
-
-or-requires-3 : tie.Need-or-requires-3
-or-requires-3 c κs = search needs
-
 returns-2 : tie.Need-returns-2
 unfolding queryRefusal
 returns-2 c =
@@ -69,16 +42,5 @@ returns-2 c =
 pub query-refusal-spec : {M : Type 1} → statement M
 query-refusal-spec =
     tie.close
-    (tie.spec
-    triangles-refusal-requires
-    point-count-requires
-    room-refusal-requires
-    or-requires
-    refuses-requires
-    returns
-    tree-refusal-requires
-    points-refusal-requires
-    or-requires-2
-    distance-refusal-requires
-    or-requires-3
-    returns-2)
+    (tie.spec (λ c κs. search needs) (λ c κs. search needs) (λ c κs. search needs) (λ c κs. search needs) (λ c κs. search needs) returns
+    tree-refusal-requires (λ c κs. search needs) (λ c κs. search needs) (λ c κs. search needs) (λ c κs. search needs) returns-2)

@@ -10,18 +10,6 @@ use borrow.Author.Needs.{needs}
 use Rattle.queries.proofs.query.answer_at.Statement.{statement}
 use Rattle.queries.proofs.query.answer_at.Tie as tie
 
-enum-told : tie.Need-enum-told
-enum-told c = search needs
-
-search-requires : tie.Need-search-requires
-search-requires c κs = search needs
-
-enum-told-2 : tie.Need-enum-told-2
-enum-told-2 c = search needs
-
-search-requires-2 : tie.Need-search-requires-2
-search-requires-2 c κs = search needs
-
 returns : tie.Need-returns
 unfolding sureAnswer limitOf
 returns c =
@@ -39,4 +27,4 @@ returns-2 c = rw (c .before .enum-told2 .given .1) (ap (λ (s : Sought Answer). 
 pub answer-at-spec : {M : Type 1} → statement M
 answer-at-spec =
     tie.close
-    (tie.spec enum-told search-requires enum-told-2 search-requires-2 returns returns-2)
+    (tie.spec (λ c. search needs) (λ c κs. search needs) (λ c. search needs) (λ c κs. search needs) returns returns-2)

@@ -8,14 +8,11 @@ use borrow.Author.Needs.{needs}
 use Rattle.records.proofs.numbers.put_u16.Statement.{statement}
 use Rattle.records.proofs.numbers.put_u16.Tie as tie
 
-slice-write-out-2 : tie.Need-slice-write-out-2
-slice-write-out-2 c = simp length-set (omega arith)
-
 returns : tie.Need-returns
 returns c = (two-put (c .args .n) (c .args .at) (now (c .args .out)) (c .pre), refl)
 
 pub put-u16-spec : {M : Type 1} → statement M
 put-u16-spec =
     tie.close
-    (tie.spec (λ c. search needs) (λ c. search needs) (λ c. search needs) (λ c. search needs) slice-write-out-2 (λ c. search needs)
+    (tie.spec (λ c. search needs) (λ c. search needs) (λ c. search needs) (λ c. search needs) (λ c. simp length-set (omega arith)) (λ c. search needs)
     (λ c. search needs) returns)

@@ -4,15 +4,10 @@ use borrow.Author.Needs.{needs}
 use Rattle.shapes.proofs.box3.with_outside.Statement.{statement}
 use Rattle.shapes.proofs.box3.with_outside.Tie as tie
 
-with-excess-requires : tie.Need-with-excess-requires
-with-excess-requires c κs = search needs
-
-with-excess-requires-2 : tie.Need-with-excess-requires-2
-with-excess-requires-2 c κs = search needs
-
 returns : tie.Need-returns
 unfolding withOutside
 returns c = rw (c .with-excess2 .ensures, c .before .with-excess .ensures)
 
 pub with-outside-spec : {M : Type 1} → statement M
-with-outside-spec = tie.close (tie.spec with-excess-requires with-excess-requires-2 returns)
+with-outside-spec = tie.close
+    (tie.spec (λ c κs. search needs) (λ c κs. search needs) returns)

@@ -4,15 +4,6 @@ use borrow.Author.Needs.{needs}
 use Rattle.shapes.proofs.plane3.reach_of.Statement.{statement}
 use Rattle.shapes.proofs.plane3.reach_of.Tie as tie
 
-absolute-requires : tie.Need-absolute-requires
-absolute-requires c κs = search needs
-
-absolute-requires-2 : tie.Need-absolute-requires-2
-absolute-requires-2 c κs = search needs
-
-absolute-requires-3 : tie.Need-absolute-requires-3
-absolute-requires-3 c κs = search needs
-
 returns : tie.Need-returns
 unfolding reach
 returns c =
@@ -22,4 +13,5 @@ returns c =
 
 pub reach-of-spec : {M : Type 1} → statement M
 reach-of-spec =
-    tie.close (tie.spec absolute-requires absolute-requires-2 absolute-requires-3 returns)
+    tie.close
+    (tie.spec (λ c κs. search needs) (λ c κs. search needs) (λ c κs. search needs) returns)

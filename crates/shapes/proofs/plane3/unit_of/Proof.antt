@@ -5,15 +5,6 @@ use borrow.Author.Needs.{needs}
 use Rattle.shapes.proofs.plane3.unit_of.Statement.{statement}
 use Rattle.shapes.proofs.plane3.unit_of.Tie as tie
 
-enum-told : tie.Need-enum-told
-enum-told c = search needs
-
-enum-told-2 : tie.Need-enum-told-2
-enum-told-2 c = search needs
-
-enum-told-3 : tie.Need-enum-told-3
-enum-told-3 c = search needs
-
 returns : tie.Need-returns
 unfolding unit ofBits
 returns c = rw (c .enum-told .given .1)
@@ -27,4 +18,5 @@ unfolding unit ofBits
 returns-3 c = rw (c .enum-told3 .given .1)
 
 pub unit-of-spec : {M : Type 1} → statement M
-unit-of-spec = tie.close (tie.spec enum-told enum-told-2 enum-told-3 returns returns-2 returns-3)
+unit-of-spec = tie.close
+    (tie.spec (λ c. search needs) (λ c. search needs) (λ c. search needs) returns returns-2 returns-3)

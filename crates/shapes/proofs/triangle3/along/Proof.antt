@@ -4,15 +4,10 @@ use borrow.Author.Needs.{needs}
 use Rattle.shapes.proofs.triangle3.along.Statement.{statement}
 use Rattle.shapes.proofs.triangle3.along.Tie as tie
 
-scale-requires : tie.Need-scale-requires
-scale-requires c κs = search needs
-
-plus-requires : tie.Need-plus-requires
-plus-requires c κs = search needs
-
 returns : tie.Need-returns
 unfolding along
 returns c = rw (c .plus .ensures, c .before .scale .ensures)
 
 pub along-spec : {M : Type 1} → statement M
-along-spec = tie.close (tie.spec scale-requires plus-requires returns)
+along-spec = tie.close
+    (tie.spec (λ c κs. search needs) (λ c κs. search needs) returns)

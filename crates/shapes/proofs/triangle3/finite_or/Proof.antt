@@ -4,9 +4,6 @@ use borrow.Author.Needs.{needs}
 use Rattle.shapes.proofs.triangle3.finite_or.Statement.{statement}
 use Rattle.shapes.proofs.triangle3.finite_or.Tie as tie
 
-is-finite-requires : tie.Need-is-finite-requires
-is-finite-requires c κs = search needs
-
 returns : tie.Need-returns
 unfolding finiteOr
 returns c = rw (← c .before .is-finite .ensures, c .if1 .taken)
@@ -16,4 +13,5 @@ unfolding finiteOr
 returns-2 c = rw (← c .before .is-finite .ensures, c .if1 .left)
 
 pub finite-or-spec : {M : Type 1} → statement M
-finite-or-spec = tie.close (tie.spec is-finite-requires returns returns-2)
+finite-or-spec = tie.close
+    (tie.spec (λ c κs. search needs) returns returns-2)

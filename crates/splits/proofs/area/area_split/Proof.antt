@@ -11,12 +11,6 @@ use borrow.Author.Needs.{needs}
 use Rattle.splits.proofs.area.area_split.Statement.{statement}
 use Rattle.splits.proofs.area.area_split.Tie as tie
 
-centre-span-requires : tie.Need-centre-span-requires
-centre-span-requires c κs = search needs
-
-fill-requires : tie.Need-fill-requires
-fill-requires c κs = search needs
-
 costs-of-requires : tie.Need-costs-of-requires
 costs-of-requires c κs =
     let start = c .before .before .before .before in
@@ -25,12 +19,6 @@ costs-of-requires c κs =
       filled-small binary32 _ (boxesIn (args .bounds .now) (args .slice .now)) (rw length-map (start .pre .0)),
       filled-plain binary32 _ (boxIn (args .bounds .now)) (args .slice .now) (start .pre .1 .plain),
     )
-
-cheapest-of-requires : tie.Need-cheapest-of-requires
-cheapest-of-requires c κs = search needs
-
-cut-by-requires : tie.Need-cut-by-requires
-cut-by-requires c κs = search needs
 
 returns : tie.Need-returns
 unfolding areaSplit
@@ -52,10 +40,4 @@ returns c =
 pub area-split-spec : {M : Type 1} → statement M
 area-split-spec =
     tie.close
-    (tie.spec
-    centre-span-requires
-    fill-requires
-    costs-of-requires
-    cheapest-of-requires
-    cut-by-requires
-    returns)
+    (tie.spec (λ c κs. search needs) (λ c κs. search needs) costs-of-requires (λ c κs. search needs) (λ c κs. search needs) returns)

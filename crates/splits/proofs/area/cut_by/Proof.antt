@@ -5,15 +5,6 @@ use borrow.Author.Needs.{needs}
 use Rattle.splits.proofs.area.cut_by.Statement.{statement}
 use Rattle.splits.proofs.area.cut_by.Tie as tie
 
-cast-nearest-u32-to-f32 : tie.Need-cast-nearest-u32-to-f32
-cast-nearest-u32-to-f32 c = search needs
-
-nearest-u32-to-f32-requires : tie.Need-nearest-u32-to-f32-requires
-nearest-u32-to-f32-requires c κs = search needs
-
-first-later-requires : tie.Need-first-later-requires
-first-later-requires c κs = search needs
-
 returns : tie.Need-returns
 unfolding cutBy
 returns c = rw (length-map, ← c .before .before .before .before .nearest-u32-to-f32 .ensures, c .before .if1 .taken, c .first-later .ensures)
@@ -25,9 +16,4 @@ returns-2 c = rw (length-map, ← c .before .before .before .nearest-u32-to-f32 
 pub cut-by-spec : {M : Type 1} → statement M
 cut-by-spec =
     tie.close
-    (tie.spec
-    cast-nearest-u32-to-f32
-    nearest-u32-to-f32-requires
-    first-later-requires
-    returns
-    returns-2)
+    (tie.spec (λ c. search needs) (λ c κs. search needs) (λ c κs. search needs) returns returns-2)

@@ -25,12 +25,6 @@ abbrev μ-loop : tie.MeasureT-loop
 loop-holds : tie.Need-loop-holds Inv-loop μ-loop
 loop-holds c = refl
 
-mul-bucket-of : tie.Need-mul-bucket-of Inv-loop μ-loop
-mul-bucket-of c = search needs
-
-shared-slice-read-bucket-of : tie.Need-shared-slice-read-bucket-of Inv-loop μ-loop
-shared-slice-read-bucket-of c = search needs
-
 bucket-of-requires : tie.Need-bucket-of-requires Inv-loop μ-loop
 bucket-of-requires c κs =
     let turn = c .before .before in
@@ -47,12 +41,6 @@ returns c =
     looking-finds (bucketBetween binary32 (asAxis (args .axis)) (args .within .lo) (args .within .hi)) (args .k) (boxIn (args .bounds .now))
     (args .slice .now) (loop .i) _
     (tested .loop-test .taken) (sym (ap (ltb (args .k)) (c .before .bucket-of .ensures)) ∙ lt-ltb _ _ (c .if1 .taken)) (loop .inv)
-
-add-i : tie.Need-add-i Inv-loop μ-loop
-add-i c = search needs
-
-loop-less : tie.Need-loop-less Inv-loop μ-loop
-loop-less c = omega arith
 
 loop-again : tie.Need-loop-again Inv-loop μ-loop
 loop-again c =
@@ -75,15 +63,5 @@ returns-2 c =
 pub first-later-spec : {M : Type 1} → statement M
 first-later-spec =
     tie.close
-    (tie.spec
-    Inv-loop
-    μ-loop
-    loop-holds
-    mul-bucket-of
-    shared-slice-read-bucket-of
-    bucket-of-requires
-    returns
-    add-i
-    loop-less
-    loop-again
-    returns-2)
+    (tie.spec Inv-loop μ-loop loop-holds (λ c. search needs) (λ c. search needs) bucket-of-requires returns (λ c. search needs) (λ c. omega arith)
+    loop-again returns-2)

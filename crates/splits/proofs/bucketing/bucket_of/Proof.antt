@@ -4,19 +4,11 @@ use borrow.Author.Needs.{needs}
 use Rattle.splits.proofs.bucketing.bucket_of.Statement.{statement}
 use Rattle.splits.proofs.bucketing.bucket_of.Tie as tie
 
-centre-on-requires : tie.Need-centre-on-requires
-centre-on-requires c κs = search needs
-
-offset-on-requires : tie.Need-offset-on-requires
-offset-on-requires c κs = search needs
-
-bucket-for-requires : tie.Need-bucket-for-requires
-bucket-for-requires c κs = search needs
-
 returns : tie.Need-returns
 unfolding bucketBetween
 returns c = rw (c .bucket-for .ensures, c .before .offset-on .ensures, c .before .before .centre-on .ensures)
 
 pub bucket-of-spec : {M : Type 1} → statement M
 bucket-of-spec =
-    tie.close (tie.spec centre-on-requires offset-on-requires bucket-for-requires returns)
+    tie.close
+    (tie.spec (λ c κs. search needs) (λ c κs. search needs) (λ c κs. search needs) returns)

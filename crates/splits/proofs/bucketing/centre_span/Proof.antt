@@ -27,9 +27,6 @@ Inv-loop bounds slice axis lo₀ hi₀ i₀ lo hi i =
 abbrev μ-loop : tie.MeasureT-loop
 μ-loop bounds slice axis lo₀ hi₀ i₀ lo hi i = length slice - i
 
-empty-requires : tie.Need-empty-requires Inv-loop μ-loop
-empty-requires c κs = search needs
-
 loop-holds : tie.Need-loop-holds Inv-loop μ-loop
 unfolding empty
 loop-holds c =
@@ -37,29 +34,11 @@ loop-holds c =
     let hi : c .empty .result .max .x ≡ Values.least binary32 = ap (λ (b : Box). b .max .x) (c .empty .ensures) in
     (rw lo, rw hi)
 
-mul-centre-on : tie.Need-mul-centre-on Inv-loop μ-loop
-mul-centre-on c = search needs
-
-shared-slice-read-centre-on : tie.Need-shared-slice-read-centre-on Inv-loop μ-loop
-shared-slice-read-centre-on c = search needs
-
 centre-on-requires : tie.Need-centre-on-requires Inv-loop μ-loop
 centre-on-requires c κs =
     let turn = c .before .before in
     let start = turn .before .before .before .before in
     start .pre (turn .loop .i) (c .before .loop-test .taken)
-
-min2-requires : tie.Need-min2-requires Inv-loop μ-loop
-min2-requires c κs = search needs
-
-max2-requires : tie.Need-max2-requires Inv-loop μ-loop
-max2-requires c κs = search needs
-
-add-i : tie.Need-add-i Inv-loop μ-loop
-add-i c = search needs
-
-loop-less : tie.Need-loop-less Inv-loop μ-loop
-loop-less c = omega arith
 
 loop-again : tie.Need-loop-again Inv-loop μ-loop
 unfolding lowerEnd upperEnd
@@ -95,17 +74,5 @@ returns c =
 pub centre-span-spec : {M : Type 1} → statement M
 centre-span-spec =
     tie.close
-    (tie.spec
-    Inv-loop
-    μ-loop
-    empty-requires
-    loop-holds
-    mul-centre-on
-    shared-slice-read-centre-on
-    centre-on-requires
-    min2-requires
-    max2-requires
-    add-i
-    loop-less
-    loop-again
-    returns)
+    (tie.spec Inv-loop μ-loop (λ c κs. search needs) loop-holds (λ c. search needs) (λ c. search needs) centre-on-requires (λ c κs. search needs)
+    (λ c κs. search needs) (λ c. search needs) (λ c. omega arith) loop-again returns)

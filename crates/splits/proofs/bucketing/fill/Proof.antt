@@ -22,20 +22,11 @@ Inv-loop bounds slice axis within buckets₀ i₀ buckets i =
 abbrev μ-loop : tie.MeasureT-loop
 μ-loop bounds slice axis within buckets₀ i₀ buckets i = length slice - i
 
-empty-requires : tie.Need-empty-requires Inv-loop μ-loop
-empty-requires c κs = search needs
-
 loop-holds : tie.Need-loop-holds Inv-loop μ-loop
 loop-holds c =
     let args = c .before .before .before .args in
     filling-starts asBucket binary32 (bucketBetween binary32 (asAxis (args .axis)) (args .within .lo) (args .within .hi)) (boxIn (args .bounds .now))
     (args .slice .now) (c .empty .result .each) (c .empty .ensures)
-
-mul-t : tie.Need-mul-t Inv-loop μ-loop
-mul-t c = search needs
-
-shared-slice-read-t : tie.Need-shared-slice-read-t Inv-loop μ-loop
-shared-slice-read-t c = search needs
 
 bucket-of-requires : tie.Need-bucket-of-requires Inv-loop μ-loop
 bucket-of-requires c κs =
@@ -78,12 +69,6 @@ element-set-from-new c =
     let after-bucket-of = c .before .before .before in
     between-below binary32 _ _ _ _ (after-bucket-of .bucket-of .result) (after-bucket-of .bucket-of .ensures)
 
-add-i : tie.Need-add-i Inv-loop μ-loop
-add-i c = search needs
-
-loop-less : tie.Need-loop-less Inv-loop μ-loop
-loop-less c = omega arith
-
 loop-again : tie.Need-loop-again Inv-loop μ-loop
 loop-again c =
     let after-bucket-of = c .before .before .before in
@@ -109,21 +94,5 @@ returns c =
 pub fill-spec : {M : Type 1} → statement M
 fill-spec =
     tie.close
-    (tie.spec
-    Inv-loop
-    μ-loop
-    empty-requires
-    loop-holds
-    mul-t
-    shared-slice-read-t
-    bucket-of-requires
-    mul-old
-    element-copy-out-old
-    box-at-requires
-    with-box-requires
-    mul-new
-    element-set-from-new
-    add-i
-    loop-less
-    loop-again
-    returns)
+    (tie.spec Inv-loop μ-loop (λ c κs. search needs) loop-holds (λ c. search needs) (λ c. search needs) bucket-of-requires mul-old
+    element-copy-out-old box-at-requires with-box-requires mul-new element-set-from-new (λ c. search needs) (λ c. omega arith) loop-again returns)

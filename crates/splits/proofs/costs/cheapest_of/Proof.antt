@@ -19,28 +19,10 @@ Inv-loop costs best₀ i₀ best i = (i ≤ 11) × ((best .seen ≡ i) × (foldl
 abbrev μ-loop : tie.MeasureT-loop
 μ-loop costs best₀ i₀ best i = 11 - i
 
-none-yet-requires : tie.Need-none-yet-requires Inv-loop μ-loop
-none-yet-requires c κs = search needs
-
 loop-holds : tie.Need-loop-holds Inv-loop μ-loop
 unfolding noneYet cheapestOf
 loop-holds c =
     (omega arith, (ap (λ (s : Cheapest). s .seen) (c .none-yet .ensures), ap (λ (s : Cheapest). foldl withCost s (c .before .args .t1)) (c .none-yet .ensures)))
-
-mul-with-cost : tie.Need-mul-with-cost Inv-loop μ-loop
-mul-with-cost c = search needs
-
-array-read-with-cost : tie.Need-array-read-with-cost Inv-loop μ-loop
-array-read-with-cost c = search needs
-
-with-cost-requires : tie.Need-with-cost-requires Inv-loop μ-loop
-with-cost-requires c κs = omega arith
-
-add-i : tie.Need-add-i Inv-loop μ-loop
-add-i c = search needs
-
-loop-less : tie.Need-loop-less Inv-loop μ-loop
-loop-less c = omega arith
 
 loop-again : tie.Need-loop-again Inv-loop μ-loop
 loop-again c =
@@ -65,15 +47,5 @@ returns c =
 pub cheapest-of-spec : {M : Type 1} → statement M
 cheapest-of-spec =
     tie.close
-    (tie.spec
-    Inv-loop
-    μ-loop
-    none-yet-requires
-    loop-holds
-    mul-with-cost
-    array-read-with-cost
-    with-cost-requires
-    add-i
-    loop-less
-    loop-again
-    returns)
+    (tie.spec Inv-loop μ-loop (λ c κs. search needs) loop-holds (λ c. search needs) (λ c. search needs) (λ c κs. omega arith) (λ c. search needs)
+    (λ c. omega arith) loop-again returns)

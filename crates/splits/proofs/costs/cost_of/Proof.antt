@@ -9,19 +9,11 @@ returns : tie.Need-returns
 unfolding cost ofBits div
 returns c = rw (c .if1 .taken)
 
-weight-of-requires : tie.Need-weight-of-requires
-weight-of-requires c κs = search needs
-
-weight-of-requires-2 : tie.Need-weight-of-requires-2
-weight-of-requires-2 c κs = search needs
-
-area-requires : tie.Need-area-requires
-area-requires c κs = search needs
-
 returns-2 : tie.Need-returns-2
 unfolding cost ofBits
 returns-2 c = rw (c .before .before .before .if1 .left, c .area .ensures, c .before .weight-of2 .ensures, c .before .before .weight-of .ensures)
 
 pub cost-of-spec : {M : Type 1} → statement M
 cost-of-spec =
-    tie.close (tie.spec returns weight-of-requires weight-of-requires-2 area-requires returns-2)
+    tie.close
+    (tie.spec returns (λ c κs. search needs) (λ c κs. search needs) (λ c κs. search needs) returns-2)

@@ -25,23 +25,11 @@ Inv-loop parent buckets rights costs₀ left₀ i₀ costs left i =
 abbrev μ-loop : tie.MeasureT-loop
 μ-loop parent buckets rights costs₀ left₀ i₀ costs left i = 11 - i
 
-right-sides-requires : tie.Need-right-sides-requires Inv-loop μ-loop
-right-sides-requires c κs = search needs
-
-empty-requires : tie.Need-empty-requires Inv-loop μ-loop
-empty-requires c κs = search needs
-
 loop-holds : tie.Need-loop-holds Inv-loop μ-loop
 loop-holds c =
     let start = c .before .before in
     let up = up-starts asBucket binary32 (start .args .t1 .each) noBucket (search (unmapped, start .good)) _ (c .empty .ensures) in
     (up, (refl, λ (k : ℕ) (h : k < 0). absurd (omega arith)))
-
-mul-merged : tie.Need-mul-merged Inv-loop μ-loop
-mul-merged c = omega arith
-
-element-copy-out-merged : tie.Need-element-copy-out-merged Inv-loop μ-loop
-element-copy-out-merged c = omega arith
 
 merged-requires : tie.Need-merged-requires Inv-loop μ-loop
 merged-requires c κs =
@@ -49,27 +37,6 @@ merged-requires c κs =
     let start = turn .before .before .before in
     let loop = turn .loop in
     up-fits asBucket binary32 (start .args .t1 .each) noBucket (search (unmapped, start .good)) _ (loop .i) (loop .inv .0) (start .pre .0)
-
-mul-cost-of : tie.Need-mul-cost-of Inv-loop μ-loop
-mul-cost-of c = omega arith
-
-element-copy-out-cost-of : tie.Need-element-copy-out-cost-of Inv-loop μ-loop
-element-copy-out-cost-of c = omega arith
-
-cost-of-requires : tie.Need-cost-of-requires Inv-loop μ-loop
-cost-of-requires c κs = search needs
-
-mul-costs : tie.Need-mul-costs Inv-loop μ-loop
-mul-costs c = omega arith
-
-array-write-costs : tie.Need-array-write-costs Inv-loop μ-loop
-array-write-costs c = omega arith
-
-add-i : tie.Need-add-i Inv-loop μ-loop
-add-i c = search needs
-
-loop-less : tie.Need-loop-less Inv-loop μ-loop
-loop-less c = omega arith
 
 loop-again : tie.Need-loop-again Inv-loop μ-loop
 unfolding costAt
@@ -100,21 +67,6 @@ returns c =
 pub costs-of-spec : {M : Type 1} → statement M
 costs-of-spec =
     tie.close
-    (tie.spec
-    Inv-loop
-    μ-loop
-    right-sides-requires
-    empty-requires
-    loop-holds
-    mul-merged
-    element-copy-out-merged
-    merged-requires
-    mul-cost-of
-    element-copy-out-cost-of
-    cost-of-requires
-    mul-costs
-    array-write-costs
-    add-i
-    loop-less
-    loop-again
-    returns)
+    (tie.spec Inv-loop μ-loop (λ c κs. search needs) (λ c κs. search needs) loop-holds (λ c. omega arith) (λ c. omega arith) merged-requires
+    (λ c. omega arith) (λ c. omega arith) (λ c κs. search needs) (λ c. omega arith) (λ c. omega arith) (λ c. search needs) (λ c. omega arith)
+    loop-again returns)

@@ -17,12 +17,6 @@ Inv-loop buckets sides₀ right₀ i₀ sides right i = Down asBucket binary32 (
 abbrev μ-loop : tie.MeasureT-loop
 μ-loop buckets sides₀ right₀ i₀ sides right i = i
 
-empty-requires : tie.Need-empty-requires Inv-loop μ-loop
-empty-requires c κs = search needs
-
-empty-requires-2 : tie.Need-empty-requires-2 Inv-loop μ-loop
-empty-requires-2 c κs = search needs
-
 loop-holds : tie.Need-loop-holds Inv-loop μ-loop
 loop-holds c =
     let start = c .before .before in
@@ -41,17 +35,11 @@ merged-requires c κs =
     let loop = turn .loop in
     down-fits asBucket binary32 (start .args .t1 .each) noBucket (search (unmapped, start .good)) _ _ (loop .i) (loop .inv) (start .pre)
 
-sub-i : tie.Need-sub-i Inv-loop μ-loop
-sub-i c = search needs
-
 mul-right : tie.Need-mul-right Inv-loop μ-loop
 mul-right c = omega (arith, c .before .before .before .loop .inv .within)
 
 element-set-from-right : tie.Need-element-set-from-right Inv-loop μ-loop
 element-set-from-right c = omega (arith, c .before .before .before .loop .inv .within)
-
-loop-less : tie.Need-loop-less Inv-loop μ-loop
-loop-less c = omega arith
 
 loop-again : tie.Need-loop-again Inv-loop μ-loop
 loop-again c =
@@ -69,18 +57,5 @@ returns c =
 pub right-sides-spec : {M : Type 1} → statement M
 right-sides-spec =
     tie.close
-    (tie.spec
-    Inv-loop
-    μ-loop
-    empty-requires
-    empty-requires-2
-    loop-holds
-    mul-merged
-    element-copy-out-merged
-    merged-requires
-    sub-i
-    mul-right
-    element-set-from-right
-    loop-less
-    loop-again
-    returns)
+    (tie.spec Inv-loop μ-loop (λ c κs. search needs) (λ c κs. search needs) loop-holds mul-merged element-copy-out-merged merged-requires
+    (λ c. search needs) mul-right element-set-from-right (λ c. omega arith) loop-again returns)

@@ -4,15 +4,10 @@ use borrow.Author.Needs.{needs}
 use Rattle.splits.proofs.costs.weight_of.Statement.{statement}
 use Rattle.splits.proofs.costs.weight_of.Tie as tie
 
-nearest-u32-to-f32-requires : tie.Need-nearest-u32-to-f32-requires
-nearest-u32-to-f32-requires c κs = search needs
-
-area-requires : tie.Need-area-requires
-area-requires c κs = search needs
-
 returns : tie.Need-returns
 unfolding weight
 returns c = rw (c .area .ensures, c .before .nearest-u32-to-f32 .ensures)
 
 pub weight-of-spec : {M : Type 1} → statement M
-weight-of-spec = tie.close (tie.spec nearest-u32-to-f32-requires area-requires returns)
+weight-of-spec = tie.close
+    (tie.spec (λ c κs. search needs) (λ c κs. search needs) returns)

@@ -22,20 +22,11 @@ abbrev μ-loop : tie.MeasureT-loop
 loop-holds : tie.Need-loop-holds Inv-loop μ-loop
 loop-holds c = refl
 
-mul-box-at : tie.Need-mul-box-at Inv-loop μ-loop
-mul-box-at c = search needs
-
-shared-slice-read-box-at : tie.Need-shared-slice-read-box-at Inv-loop μ-loop
-shared-slice-read-box-at c = search needs
-
 box-at-requires : tie.Need-box-at-requires Inv-loop μ-loop
 box-at-requires c κs =
     let turn = c .before .before in
     let start = turn .before .before .before in
     start .pre (turn .loop .i) (c .before .loop-test .taken)
-
-intersects-box3-requires : tie.Need-intersects-box3-requires Inv-loop μ-loop
-intersects-box3-requires c κs = search needs
 
 returns : tie.Need-returns Inv-loop μ-loop
 returns c =
@@ -48,12 +39,6 @@ returns c =
     let test = sym (c .before .intersects-box3 .ensures ∙ ap (meetsBox binary32 (asPlane (args .plane))) (after-box-at .box-at .ensures)) in
     meeting-stops binary32 (asPlane (args .plane)) (boxIn (args .bounds .now)) (args .slice .now) (loop .i) _ (tested .loop-test .taken)
     (test ∙ not-true _ (c .if1 .taken)) (loop .inv)
-
-add-i : tie.Need-add-i Inv-loop μ-loop
-add-i c = search needs
-
-loop-less : tie.Need-loop-less Inv-loop μ-loop
-loop-less c = omega arith
 
 loop-again : tie.Need-loop-again Inv-loop μ-loop
 loop-again c =
@@ -76,16 +61,5 @@ returns-2 c =
 pub all-meet-spec : {M : Type 1} → statement M
 all-meet-spec =
     tie.close
-    (tie.spec
-    Inv-loop
-    μ-loop
-    loop-holds
-    mul-box-at
-    shared-slice-read-box-at
-    box-at-requires
-    intersects-box3-requires
-    returns
-    add-i
-    loop-less
-    loop-again
-    returns-2)
+    (tie.spec Inv-loop μ-loop loop-holds (λ c. search needs) (λ c. search needs) box-at-requires (λ c κs. search needs) returns (λ c. search needs)
+    (λ c. omega arith) loop-again returns-2)

@@ -20,18 +20,6 @@ is-large-requires c κs =
     let inside = pre .1 .0 in
     (simp length-take (omega arith), in-table-before (args .bounds .now) (args .slice .now) (pre .1 .1) (args .cut) (omega arith))
 
-mul-is-large : tie.Need-mul-is-large
-mul-is-large c = search needs
-
-sub-is-large : tie.Need-sub-is-large
-sub-is-large c = search needs
-
-part-is-large-start : tie.Need-part-is-large-start
-part-is-large-start c = search needs
-
-part-is-large-end : tie.Need-part-is-large-end
-part-is-large-end c = search needs
-
 is-large-requires-2 : tie.Need-is-large-requires-2
 is-large-requires-2 c κs =
     let after-is-large = c .before .before in
@@ -63,13 +51,5 @@ returns-2 c =
 pub are-both-large-spec : {M : Type 1} → statement M
 are-both-large-spec =
     tie.close
-    (tie.spec
-    slice-aggregate-is-large
-    is-large-requires
-    mul-is-large
-    sub-is-large
-    part-is-large-start
-    part-is-large-end
-    is-large-requires-2
-    returns
-    returns-2)
+    (tie.spec slice-aggregate-is-large is-large-requires (λ c. search needs) (λ c. search needs) (λ c. search needs) (λ c. search needs)
+    is-large-requires-2 returns returns-2)

@@ -5,18 +5,10 @@ use borrow.Author.Needs.{needs}
 use Rattle.splits.proofs.median.is_large.Statement.{statement}
 use Rattle.splits.proofs.median.is_large.Tie as tie
 
-union-of-requires : tie.Need-union-of-requires
-union-of-requires c κs = search needs
-
-volume-requires : tie.Need-volume-requires
-volume-requires c κs = search needs
-
-volume-requires-2 : tie.Need-volume-requires-2
-volume-requires-2 c κs = search needs
-
 returns : tie.Need-returns
 unfolding isLarge ofBits div
 returns c = rw (c .volume2 .ensures, c .before .volume .ensures, c .before .before .union-of .ensures)
 
 pub is-large-spec : {M : Type 1} → statement M
-is-large-spec = tie.close (tie.spec union-of-requires volume-requires volume-requires-2 returns)
+is-large-spec = tie.close
+    (tie.spec (λ c κs. search needs) (λ c κs. search needs) (λ c κs. search needs) returns)

@@ -7,12 +7,6 @@ use borrow.Author.Needs.{needs}
 use Rattle.splits.proofs.table.centre_on.Statement.{statement}
 use Rattle.splits.proofs.table.centre_on.Tie as tie
 
-mul-at : tie.Need-mul-at
-mul-at c = search needs
-
-place-of-requires : tie.Need-place-of-requires
-place-of-requires c κs = search needs
-
 add-at : tie.Need-add-at
 add-at c = omega (arith, c .place-of .ensures, place-below (asAxis (c .before .before .args .axis)))
 
@@ -41,13 +35,5 @@ returns c =
 pub centre-on-spec : {M : Type 1} → statement M
 centre-on-spec =
     tie.close
-    (tie.spec
-    mul-at
-    place-of-requires
-    add-at
-    mul-result
-    shared-slice-read-result
-    add-result
-    mul-result-2
-    shared-slice-read-result-2
+    (tie.spec (λ c. search needs) (λ c κs. search needs) add-at mul-result shared-slice-read-result add-result mul-result-2 shared-slice-read-result-2
     returns)

@@ -20,9 +20,6 @@ Inv-loop bounds slice joined₀ i₀ joined i = foldl union (asBox joined) (boxe
 abbrev μ-loop : tie.MeasureT-loop
 μ-loop bounds slice joined₀ i₀ joined i = length slice - i
 
-shared-slice-read-box-at : tie.Need-shared-slice-read-box-at Inv-loop μ-loop
-shared-slice-read-box-at c = search needs
-
 box-at-requires : tie.Need-box-at-requires Inv-loop μ-loop
 box-at-requires c κs =
     let start = c .before .before .before in
@@ -35,27 +32,12 @@ loop-holds c =
     ap (λ (b : Box). foldl union b (boxesIn (args .bounds .now) (drop 1 (args .slice .now)))) (c .box-at .ensures)
     ∙ union-from-first binary32 (boxIn (args .bounds .now)) (args .slice .now) (start .pre .0)
 
-mul-box-at : tie.Need-mul-box-at Inv-loop μ-loop
-mul-box-at c = search needs
-
-shared-slice-read-box-at-2 : tie.Need-shared-slice-read-box-at-2 Inv-loop μ-loop
-shared-slice-read-box-at-2 c = search needs
-
 box-at-requires-2 : tie.Need-box-at-requires-2 Inv-loop μ-loop
 box-at-requires-2 c κs =
     let turn = c .before .before in
     let after-box-at = turn .before in
     let start = after-box-at .before .before .before .before in
     start .pre .1 (turn .loop .i) (c .before .loop-test .taken)
-
-union-box-requires : tie.Need-union-box-requires Inv-loop μ-loop
-union-box-requires c κs = search needs
-
-add-i : tie.Need-add-i Inv-loop μ-loop
-add-i c = search needs
-
-loop-less : tie.Need-loop-less Inv-loop μ-loop
-loop-less c = omega arith
 
 loop-again : tie.Need-loop-again Inv-loop μ-loop
 loop-again c =
@@ -80,17 +62,5 @@ returns c =
 pub union-of-spec : {M : Type 1} → statement M
 union-of-spec =
     tie.close
-    (tie.spec
-    Inv-loop
-    μ-loop
-    shared-slice-read-box-at
-    box-at-requires
-    loop-holds
-    mul-box-at
-    shared-slice-read-box-at-2
-    box-at-requires-2
-    union-box-requires
-    add-i
-    loop-less
-    loop-again
-    returns)
+    (tie.spec Inv-loop μ-loop (λ c. search needs) box-at-requires loop-holds (λ c. search needs) (λ c. search needs) box-at-requires-2
+    (λ c κs. search needs) (λ c. search needs) (λ c. omega arith) loop-again returns)

@@ -19,9 +19,6 @@ abbrev μ-loop : tie.MeasureT-loop
 loop-holds : tie.Need-loop-holds Inv-loop μ-loop
 loop-holds c = run-start _ 1 0 720 _
 
-array-write-numbers : tie.Need-array-write-numbers Inv-loop μ-loop
-array-write-numbers c = omega arith
-
 loop-again : tie.Need-loop-again Inv-loop μ-loop
 loop-again c =
     run-store-front _ 720 _ _ _ _ (omega arith) (c .before .before .loop-test .taken) (c .before .before .before .loop .inv)
@@ -34,5 +31,5 @@ returns c = (run-whole _ _ _ _ (c .loop-test .left) (c .before .loop .inv), c .b
 pub numbers-from-spec : {M : Type 1} → statement M
 numbers-from-spec =
     tie.close
-    (tie.spec Inv-loop μ-loop loop-holds (λ c κs. search needs) (λ c κs. search needs) (λ c. search needs) array-write-numbers (λ c. search needs)
+    (tie.spec Inv-loop μ-loop loop-holds (λ c κs. search needs) (λ c κs. search needs) (λ c. search needs) (λ c. omega arith) (λ c. search needs)
     (λ c. search needs) loop-again returns)

@@ -13,9 +13,6 @@ Inv-loop triangles₀ range state₀ i₀ triangles state i = (i ≤ length tria
 abbrev μ-loop : tie.MeasureT-loop
 μ-loop triangles₀ range state₀ i₀ triangles state i = length triangles - i
 
-loop-less : tie.Need-loop-less Inv-loop μ-loop
-loop-less c = simp length-set (omega arith)
-
 loop-again : tie.Need-loop-again Inv-loop μ-loop
 loop-again c = (simp length-set (omega arith), simp length-set (omega arith))
 
@@ -23,4 +20,4 @@ pub fill-spec : {M : Type 1} → statement M
 fill-spec =
     tie.close
     (tie.spec Inv-loop μ-loop (λ c. search needs) (λ c κs. search needs) (λ c κs. search needs) (λ c. search needs) (λ c. search needs)
-    (λ c. search needs) loop-less loop-again (λ c. search needs) (λ c. search needs))
+    (λ c. search needs) (λ c. simp length-set (omega arith)) loop-again (λ c. search needs) (λ c. search needs))

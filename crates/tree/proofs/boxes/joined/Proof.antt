@@ -19,12 +19,6 @@ Inv-loop triangles slice over₀ i₀ over i = joinedTo (boxAt triangles) (asBox
 abbrev μ-loop : tie.MeasureT-loop
 μ-loop triangles slice over₀ i₀ over i = length slice - i
 
-shared-slice-read-wide : tie.Need-shared-slice-read-wide Inv-loop μ-loop
-shared-slice-read-wide c = search needs
-
-wide-requires : tie.Need-wide-requires Inv-loop μ-loop
-wide-requires c κs = search needs
-
 box-at-requires : tie.Need-box-at-requires Inv-loop μ-loop
 box-at-requires c κs =
     let start = c .before .before .before .before in
@@ -36,15 +30,6 @@ loop-holds c =
     let start = after-wide .before .before .before .before in
     joining-starts _ _ _ (start .pre .0) (c .box-at .ensures ∙ ap (boxAt _) (after-wide .wide .ensures))
 
-mul-wide : tie.Need-mul-wide Inv-loop μ-loop
-mul-wide c = search needs
-
-shared-slice-read-wide-2 : tie.Need-shared-slice-read-wide-2 Inv-loop μ-loop
-shared-slice-read-wide-2 c = search needs
-
-wide-requires-2 : tie.Need-wide-requires-2 Inv-loop μ-loop
-wide-requires-2 c κs = search needs
-
 box-at-requires-2 : tie.Need-box-at-requires-2 Inv-loop μ-loop
 box-at-requires-2 c κs =
     let tested = c .before .before in
@@ -53,18 +38,12 @@ box-at-requires-2 c κs =
     let start = after-wide .before .before .before .before in
     rw (c .wide2 .ensures) (triangle-inside _ _ (start .pre .1 (turn .loop .i) (tested .loop-test .taken)))
 
-union-box-requires : tie.Need-union-box-requires Inv-loop μ-loop
-union-box-requires c κs = search needs
-
 add-i : tie.Need-add-i Inv-loop μ-loop
 add-i c =
     let tested = c .before .before .before .before in
     let after-wide = tested .before .before .before in
     let start = after-wide .before .before .before .before in
     omega (arith, tested .loop-test .taken, start .good .1 .0)
-
-loop-less : tie.Need-loop-less Inv-loop μ-loop
-loop-less c = search needs
 
 loop-again : tie.Need-loop-again Inv-loop μ-loop
 loop-again c =
@@ -80,19 +59,5 @@ returns c = joining-ends _ _ (c .before .loop .i) _ (c .loop-test .left) (c .bef
 pub joined-spec : {M : Type 1} → statement M
 joined-spec =
     tie.close
-    (tie.spec
-    Inv-loop
-    μ-loop
-    shared-slice-read-wide
-    wide-requires
-    box-at-requires
-    loop-holds
-    mul-wide
-    shared-slice-read-wide-2
-    wide-requires-2
-    box-at-requires-2
-    union-box-requires
-    add-i
-    loop-less
-    loop-again
-    returns)
+    (tie.spec Inv-loop μ-loop (λ c. search needs) (λ c κs. search needs) box-at-requires loop-holds (λ c. search needs) (λ c. search needs)
+    (λ c κs. search needs) box-at-requires-2 (λ c κs. search needs) add-i (λ c. search needs) loop-again returns)

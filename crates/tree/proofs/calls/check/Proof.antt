@@ -6,12 +6,6 @@ use borrow.Author.Needs.{needs}
 use Rattle.tree.proofs.calls.check.Statement.{statement}
 use Rattle.tree.proofs.calls.check.Tie as tie
 
-triangles-refusal-requires : tie.Need-triangles-refusal-requires
-triangles-refusal-requires c κs = search needs
-
-refuses-requires : tie.Need-refuses-requires
-refuses-requires c κs = search needs
-
 returns : tie.Need-returns
 unfolding checkRefusal
 returns c = stops _ _ _ _ (c .before .before .triangles-refusal .ensures) (c .before .refuses .ensures) (c .if1 .taken)
@@ -29,4 +23,4 @@ returns-2 c =
 pub check-spec : {M : Type 1} → statement M
 check-spec =
     tie.close
-    (tie.spec triangles-refusal-requires refuses-requires returns tree-refusal-requires returns-2)
+    (tie.spec (λ c κs. search needs) (λ c κs. search needs) returns tree-refusal-requires returns-2)

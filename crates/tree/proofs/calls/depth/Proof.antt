@@ -8,15 +8,6 @@ use borrow.Author.Needs.{needs}
 use Rattle.tree.proofs.calls.depth.Statement.{statement}
 use Rattle.tree.proofs.calls.depth.Tie as tie
 
-check-requires : tie.Need-check-requires
-check-requires c κs = search needs
-
-enum-known-verdict : tie.Need-enum-known-verdict
-enum-known-verdict c = search needs
-
-enum-told : tie.Need-enum-told
-enum-told c = search needs
-
 depth-of-requires : tie.Need-depth-of-requires
 depth-of-requires c κs =
     let p = sym (c .before .before .check .ensures) ∙ ap asVerdict (c .enum-told .given .1) in
@@ -30,4 +21,5 @@ returns-2 : tie.Need-returns-2
 returns-2 c = depth-read _ _ _ _ _ _ (sym (c .before .before .before .check .ensures) ∙ ap asVerdict (c .before .enum-told .given .1)) (c .depth-of .ensures)
 
 pub depth-spec : {M : Type 1} → statement M
-depth-spec = tie.close (tie.spec check-requires enum-known-verdict enum-told depth-of-requires returns returns-2)
+depth-spec = tie.close
+    (tie.spec (λ c κs. search needs) (λ c. search needs) (λ c. search needs) depth-of-requires returns returns-2)

@@ -7,15 +7,10 @@ use borrow.Author.Needs.{needs}
 use Rattle.tree.proofs.calls.tree_refusal.Statement.{statement}
 use Rattle.tree.proofs.calls.tree_refusal.Tie as tie
 
-is-accepted-requires : tie.Need-is-accepted-requires
-is-accepted-requires c κs = search needs
-
-refused-if-requires : tie.Need-refused-if-requires
-refused-if-requires c κs = search needs
-
 returns : tie.Need-returns
 unfolding treeRefusal
 returns c = c .refused-if .ensures ∙ ap (λ (b : Bool). refusedIf (not b) 7 0) (c .before .is-accepted .ensures)
 
 pub tree-refusal-spec : {M : Type 1} → statement M
-tree-refusal-spec = tie.close (tie.spec is-accepted-requires refused-if-requires returns)
+tree-refusal-spec = tie.close
+    (tie.spec (λ c κs. search needs) (λ c κs. search needs) returns)

@@ -5,12 +5,6 @@ use borrow.Author.Needs.{needs}
 use Rattle.tree.proofs.check.boxed.Statement.{statement}
 use Rattle.tree.proofs.check.boxed.Tie as tie
 
-node-box-requires : tie.Need-node-box-requires
-node-box-requires c κs = search needs
-
-same-box-requires : tie.Need-same-box-requires
-same-box-requires c κs = search needs
-
 returns : tie.Need-returns
 unfolding boxed
 returns c = rw (← c .before .before .node-box .ensures, sym (c .before .same-box .ensures) ∙ c .if1 .taken)
@@ -20,4 +14,5 @@ unfolding boxed
 returns-2 c = rw (← c .before .before .node-box .ensures, sym (c .before .same-box .ensures) ∙ c .if1 .left)
 
 pub boxed-spec : {M : Type 1} → statement M
-boxed-spec = tie.close (tie.spec node-box-requires same-box-requires returns returns-2)
+boxed-spec = tie.close
+    (tie.spec (λ c κs. search needs) (λ c κs. search needs) returns returns-2)

@@ -6,29 +6,11 @@ use borrow.Author.Needs.{needs}
 use Rattle.tree.proofs.check.check_leaf.Statement.{statement}
 use Rattle.tree.proofs.check.check_leaf.Tie as tie
 
-left-at-requires : tie.Need-left-at-requires
-left-at-requires c κs = search needs
-
 returns : tie.Need-returns
 returns c = sym (leaf-late _ _ _ _ _ _ _ (c .before .left-at .ensures) (c .if1 .taken))
 
-right-at-requires : tie.Need-right-at-requires
-right-at-requires c κs = search needs
-
 returns-2 : tie.Need-returns-2
 returns-2 c = sym (leaf-misses _ _ _ _ _ _ _ (c .before .before .before .left-at .ensures) (λ q. c .if2 .taken (c .before .right-at .ensures ∙ q)))
-
-mul-joined : tie.Need-mul-joined
-mul-joined c = search needs
-
-sub-joined : tie.Need-sub-joined
-sub-joined c = search needs
-
-part-joined-start : tie.Need-part-joined-start
-part-joined-start c = search needs
-
-part-joined-end : tie.Need-part-joined-end
-part-joined-end c = search needs
 
 joined-requires : tie.Need-joined-requires
 joined-requires c κs =
@@ -39,9 +21,6 @@ joined-requires c κs =
     let entry = after-left-at .left-at .result in
     let size = start .args .last - entry in
     (slice-some _ _ _ (chosen .if1 .left) (start .pre .room .order-there), slice-entries _ (start .args .order .now) entry size (start .pre .entries))
-
-boxed-requires : tie.Need-boxed-requires
-boxed-requires c κs = search needs
 
 returns-3 : tie.Need-returns-3
 returns-3 c =
@@ -57,15 +36,5 @@ returns-3 c =
 pub check-leaf-spec : {M : Type 1} → statement M
 check-leaf-spec =
     tie.close
-    (tie.spec
-    left-at-requires
-    returns
-    right-at-requires
-    returns-2
-    mul-joined
-    sub-joined
-    part-joined-start
-    part-joined-end
-    joined-requires
-    boxed-requires
-    returns-3)
+    (tie.spec (λ c κs. search needs) returns (λ c κs. search needs) returns-2 (λ c. search needs) (λ c. search needs) (λ c. search needs)
+    (λ c. search needs) joined-requires (λ c κs. search needs) returns-3)

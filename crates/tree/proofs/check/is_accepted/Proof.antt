@@ -8,19 +8,10 @@ use borrow.Author.Needs.{needs}
 use Rattle.tree.proofs.check.is_accepted.Statement.{statement}
 use Rattle.tree.proofs.check.is_accepted.Tie as tie
 
-triangle-count-requires : tie.Need-triangle-count-requires
-triangle-count-requires c κs = search needs
-
-is-permutation-requires : tie.Need-is-permutation-requires
-is-permutation-requires c κs = search needs
-
 returns : tie.Need-returns
 returns c =
     rw (← c .before .before .triangle-count .ensures)
     (sym (accepted-unordered _ _ _ _ _ _ (sym (c .before .is-permutation .ensures) ∙ not-true _ (c .if1 .taken))))
-
-is-present-requires : tie.Need-is-present-requires
-is-present-requires c κs = search needs
 
 returns-2 : tie.Need-returns-2
 returns-2 c = sym (accepted-absent _ _ _ _ _ _ (sym (c .before .is-present .ensures) ∙ not-true _ (c .if2 .taken)))
@@ -32,9 +23,6 @@ check-node-requires : tie.Need-check-node-requires
 check-node-requires c κs =
     root-needs _ _ _ _ _ _ (c .before .before .before .before .triangle-count .ensures) (sym (c .before .before .before .is-permutation .ensures)
     ∙ not-false _ (c .before .before .if1 .left)) (sym (c .before .is-present .ensures) ∙ not-false _ (c .if2 .left))
-
-is-whole-requires : tie.Need-is-whole-requires
-is-whole-requires c κs = search needs
 
 returns-3 : tie.Need-returns-3
 returns-3 c =
@@ -53,13 +41,5 @@ returns-3 c =
 pub is-accepted-spec : {M : Type 1} → statement M
 is-accepted-spec =
     tie.close
-    (tie.spec
-    triangle-count-requires
-    is-permutation-requires
-    returns
-    is-present-requires
-    returns-2
-    sub-check-node
-    check-node-requires
-    is-whole-requires
-    returns-3)
+    (tie.spec (λ c κs. search needs) (λ c κs. search needs) returns (λ c κs. search needs) returns-2 sub-check-node check-node-requires
+    (λ c κs. search needs) returns-3)

@@ -3,17 +3,9 @@ use borrow.Author.Needs.{needs}
 use Rattle.tree.proofs.check.is_whole.Statement.{statement}
 use Rattle.tree.proofs.check.is_whole.Tie as tie
 
-enum-told : tie.Need-enum-told
-enum-told c = search needs
-
-enum-known-found : tie.Need-enum-known-found
-enum-known-found c = search needs
-
-returns : tie.Need-returns
-returns c = search needs
-
 returns-2 : tie.Need-returns-2
 returns-2 c = rw (c .before .found .given .1)
 
 pub is-whole-spec : {M : Type 1} → statement M
-is-whole-spec = tie.close (tie.spec enum-told enum-known-found returns returns-2)
+is-whole-spec = tie.close
+    (tie.spec (λ c. search needs) (λ c. search needs) (λ c. search needs) returns-2)

@@ -5,15 +5,10 @@ use borrow.Author.Needs.{needs}
 use Rattle.tree.proofs.check.same_box.Statement.{statement}
 use Rattle.tree.proofs.check.same_box.Tie as tie
 
-same-point-requires : tie.Need-same-point-requires
-same-point-requires c κs = search needs
-
-same-point-requires-2 : tie.Need-same-point-requires-2
-same-point-requires-2 c κs = search needs
-
 returns : tie.Need-returns
 unfolding sameBox
 returns c = λ i. c .before .same-point .ensures i && c .same-point2 .ensures i
 
 pub same-box-spec : {M : Type 1} → statement M
-same-box-spec = tie.close (tie.spec same-point-requires same-point-requires-2 returns)
+same-box-spec = tie.close
+    (tie.spec (λ c κs. search needs) (λ c κs. search needs) returns)

@@ -6,15 +6,6 @@ use borrow.Author.Needs.{needs}
 use Rattle.tree.proofs.leaves.leaf.Statement.{statement}
 use Rattle.tree.proofs.leaves.leaf.Tie as tie
 
-check-requires : tie.Need-check-requires
-check-requires c κs = search needs
-
-enum-known-verdict : tie.Need-enum-known-verdict
-enum-known-verdict c = search needs
-
-enum-told : tie.Need-enum-told
-enum-told c = search needs
-
 leaf-from-requires : tie.Need-leaf-from-requires
 leaf-from-requires c κs = passed-there _ _ _ _ _ (sym (c .before .before .check .ensures) ∙ ap asVerdict (c .enum-told .given .1))
 
@@ -28,4 +19,4 @@ returns-2 c =
 pub leaf-spec : {M : Type 1} → statement M
 leaf-spec =
     tie.close
-    (tie.spec check-requires enum-known-verdict enum-told leaf-from-requires returns returns-2)
+    (tie.spec (λ c κs. search needs) (λ c. search needs) (λ c. search needs) leaf-from-requires returns returns-2)

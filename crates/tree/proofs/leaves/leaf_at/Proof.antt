@@ -4,15 +4,6 @@ use borrow.Author.Needs.{needs}
 use Rattle.tree.proofs.leaves.leaf_at.Statement.{statement}
 use Rattle.tree.proofs.leaves.leaf_at.Tie as tie
 
-left-at-requires : tie.Need-left-at-requires
-left-at-requires c κs = search needs
-
-right-at-requires : tie.Need-right-at-requires
-right-at-requires c κs = search needs
-
-node-box-requires : tie.Need-node-box-requires
-node-box-requires c κs = search needs
-
 returns : tie.Need-returns
 returns c =
     let after-left-at = c .before .before in
@@ -25,4 +16,5 @@ returns c =
     })
 
 pub leaf-at-spec : {M : Type 1} → statement M
-leaf-at-spec = tie.close (tie.spec left-at-requires right-at-requires node-box-requires returns)
+leaf-at-spec = tie.close
+    (tie.spec (λ c κs. search needs) (λ c κs. search needs) (λ c κs. search needs) returns)

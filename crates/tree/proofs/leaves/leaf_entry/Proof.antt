@@ -6,21 +6,6 @@ use borrow.Author.Needs.{needs}
 use Rattle.tree.proofs.leaves.leaf_entry.Statement.{statement}
 use Rattle.tree.proofs.leaves.leaf_entry.Tie as tie
 
-leaf-requires : tie.Need-leaf-requires
-leaf-requires c κs = search needs
-
-enum-told : tie.Need-enum-told
-enum-told c = search needs
-
-enum-known-found : tie.Need-enum-known-found
-enum-known-found c = search needs
-
-entry-of-requires : tie.Need-entry-of-requires
-entry-of-requires c κs = search needs
-
-enum-known-found-2 : tie.Need-enum-known-found-2
-enum-known-found-2 c = search needs
-
 returns : tie.Need-returns
 returns c = entry-none _ _ _ _ _ _ _ (sym (c .before .before .leaf .ensures) ∙ ap asLeafFound (c .enum-told .given .1))
 
@@ -35,12 +20,4 @@ returns-3 c = entry-refused _ _ _ _ _ _ _ _ _ (sym (c .before .before .before .l
 pub leaf-entry-spec : {M : Type 1} → statement M
 leaf-entry-spec =
     tie.close
-    (tie.spec
-    leaf-requires
-    enum-told
-    enum-known-found
-    entry-of-requires
-    enum-known-found-2
-    returns
-    returns-2
-    returns-3)
+    (tie.spec (λ c κs. search needs) (λ c. search needs) (λ c. search needs) (λ c κs. search needs) (λ c. search needs) returns returns-2 returns-3)

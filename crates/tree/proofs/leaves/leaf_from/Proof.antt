@@ -40,12 +40,6 @@ returns c =
 sub-remaining : tie.Need-sub-remaining Inv-loop μ-loop
 sub-remaining c = omega (arith, c .if2 .left)
 
-add-node : tie.Need-add-node Inv-loop μ-loop
-add-node c = search needs
-
-loop-less : tie.Need-loop-less Inv-loop μ-loop
-loop-less c = search needs
-
 loop-again : tie.Need-loop-again Inv-loop μ-loop
 loop-again c =
     let tested = c .before .before in
@@ -62,15 +56,5 @@ returns-2 c = sym (seek-ends _ _ _ _ _ (omega (arith, c .loop-test .left))) ∙ 
 pub leaf-from-spec : {M : Type 1} → statement M
 leaf-from-spec =
     tie.close
-    (tie.spec
-    Inv-loop
-    μ-loop
-    loop-holds
-    kind-at-requires
-    leaf-at-requires
-    returns
-    sub-remaining
-    add-node
-    loop-less
-    loop-again
+    (tie.spec Inv-loop μ-loop loop-holds kind-at-requires leaf-at-requires returns sub-remaining (λ c. search needs) (λ c. search needs) loop-again
     returns-2)

@@ -6,15 +6,6 @@ use borrow.Author.Needs.{needs}
 use Rattle.tree.proofs.leaves.leaves.Statement.{statement}
 use Rattle.tree.proofs.leaves.leaves.Tie as tie
 
-check-requires : tie.Need-check-requires
-check-requires c κs = search needs
-
-enum-known-verdict : tie.Need-enum-known-verdict
-enum-known-verdict c = search needs
-
-enum-told : tie.Need-enum-told
-enum-told c = search needs
-
 leaf-count-requires : tie.Need-leaf-count-requires
 leaf-count-requires c κs = passed-there _ _ _ _ _ (sym (c .before .before .check .ensures) ∙ ap asVerdict (c .enum-told .given .1)) .links-there
 
@@ -27,4 +18,4 @@ returns-2 c = count-made _ _ _ _ _ _ (sym (c .before .before .before .check .ens
 pub leaves-spec : {M : Type 1} → statement M
 leaves-spec =
     tie.close
-    (tie.spec check-requires enum-known-verdict enum-told leaf-count-requires returns returns-2)
+    (tie.spec (λ c κs. search needs) (λ c. search needs) (λ c. search needs) leaf-count-requires returns returns-2)

@@ -13,17 +13,12 @@ returns c =
     let start = c .before .before in
     rw (ne-eqb (length (start .args .order .now)) (start .args .n) (c .if1 .taken))
 
-slice-aggregate-marks-all : tie.Need-slice-aggregate-marks-all
-slice-aggregate-marks-all c = search needs
-
 marks-all-requires : tie.Need-marks-all-requires
 marks-all-requires c κs =
     let start = c .before .before .before in
     (c .before .if1 .left, all-unmarked (start .args .n) 4096 (start .pre))
 
-returns-2 : tie.Need-returns-2
-returns-2 c = search needs
-
 pub is-permutation-spec : {M : Type 1} → statement M
 is-permutation-spec =
-    tie.close (tie.spec returns slice-aggregate-marks-all marks-all-requires returns-2)
+    tie.close
+    (tie.spec returns (λ c. search needs) marks-all-requires (λ c. search needs))

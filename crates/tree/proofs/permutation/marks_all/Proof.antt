@@ -17,17 +17,11 @@ abbrev μ-loop : tie.MeasureT-loop
 loop-holds : tie.Need-loop-holds Inv-loop μ-loop
 loop-holds c = (marked-none _ _ _ (c .before .before .pre .1), refl)
 
-mul-wide : tie.Need-mul-wide Inv-loop μ-loop
-mul-wide c = search needs
-
 shared-slice-read-wide : tie.Need-shared-slice-read-wide Inv-loop μ-loop
 shared-slice-read-wide c =
     let turn = c .before .before in
     let start = turn .before .before .before in
     omega (arith, start .pre .0, c .before .loop-test .taken)
-
-wide-requires : tie.Need-wide-requires Inv-loop μ-loop
-wide-requires c κs = search needs
 
 same-length : tie.Need-same-length Inv-loop μ-loop
 same-length c = c .before .before .before .before .loop .inv .1
@@ -101,21 +95,5 @@ returns-3 c = sym (marked-all _ _ _ (c .before .loop .i) (c .before .loop .inv .
 pub marks-all-spec : {M : Type 1} → statement M
 marks-all-spec =
     tie.close
-    (tie.spec
-    Inv-loop
-    μ-loop
-    loop-holds
-    mul-wide
-    shared-slice-read-wide
-    wide-requires
-    same-length
-    returns
-    slice-read-if2
-    same-length-2
-    returns-2
-    slice-write-seen
-    add-i
-    loop-less
-    loop-again
-    same-length-3
-    returns-3)
+    (tie.spec Inv-loop μ-loop loop-holds (λ c. search needs) shared-slice-read-wide (λ c κs. search needs) same-length returns slice-read-if2
+    same-length-2 returns-2 slice-write-seen add-i loop-less loop-again same-length-3 returns-3)

@@ -5,24 +5,9 @@ use borrow.Author.Needs.{needs}
 use Rattle.walks.proofs.kept.answer_of.Statement.{statement}
 use Rattle.walks.proofs.kept.answer_of.Tie as tie
 
-element-copy-out-if1 : tie.Need-element-copy-out-if1
-element-copy-out-if1 c = search needs
-
 returns : tie.Need-returns
 unfolding div ofBits
 returns c = stands-nothing _ (c .if1 .taken)
-
-element-copy-out-t5 : tie.Need-element-copy-out-t5
-element-copy-out-t5 c = search needs
-
-element-copy-out-t6 : tie.Need-element-copy-out-t6
-element-copy-out-t6 c = search needs
-
-element-copy-out-t14 : tie.Need-element-copy-out-t14
-element-copy-out-t14 c = search needs
-
-element-copy-out-t17 : tie.Need-element-copy-out-t17
-element-copy-out-t17 c = search needs
 
 returns-2 : tie.Need-returns-2
 unfolding div ofBits
@@ -31,11 +16,4 @@ returns-2 c = stands-found _ (c .before .before .before .before .if1 .left)
 pub answer-of-spec : {M : Type 1} → statement M
 answer-of-spec =
     tie.close
-    (tie.spec
-    element-copy-out-if1
-    returns
-    element-copy-out-t5
-    element-copy-out-t6
-    element-copy-out-t14
-    element-copy-out-t17
-    returns-2)
+    (tie.spec (λ c. search needs) returns (λ c. search needs) (λ c. search needs) (λ c. search needs) (λ c. search needs) returns-2)

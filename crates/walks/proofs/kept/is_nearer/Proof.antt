@@ -5,15 +5,10 @@ use borrow.Author.Needs.{needs}
 use Rattle.walks.proofs.kept.is_nearer.Statement.{statement}
 use Rattle.walks.proofs.kept.is_nearer.Tie as tie
 
-element-copy-out-result : tie.Need-element-copy-out-result
-element-copy-out-result c = search needs
-
-element-copy-out-result-2 : tie.Need-element-copy-out-result-2
-element-copy-out-result-2 c = search needs
-
 returns : tie.Need-returns
 unfolding nearer
 returns c = refl
 
 pub is-nearer-spec : {M : Type 1} → statement M
-is-nearer-spec = tie.close (tie.spec element-copy-out-result element-copy-out-result-2 returns)
+is-nearer-spec = tie.close
+    (tie.spec (λ c. search needs) (λ c. search needs) returns)

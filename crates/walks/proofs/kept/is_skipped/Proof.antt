@@ -5,16 +5,11 @@ use borrow.Author.Needs.{needs}
 use Rattle.walks.proofs.kept.is_skipped.Statement.{statement}
 use Rattle.walks.proofs.kept.is_skipped.Tie as tie
 
-does-count-requires : tie.Need-does-count-requires
-does-count-requires c κs = search needs
-
-element-copy-out-result : tie.Need-element-copy-out-result
-element-copy-out-result c = search needs
-
 returns : tie.Need-returns
 returns c =
     let a = c .before .before .args in
     rw (c .before .does-count .ensures) (skipped-kept (a .limit) (a .squared) (hitOf (a .best .now) (a .number)))
 
 pub is-skipped-spec : {M : Type 1} → statement M
-is-skipped-spec = tie.close (tie.spec does-count-requires element-copy-out-result returns)
+is-skipped-spec = tie.close
+    (tie.spec (λ c κs. search needs) (λ c. search needs) returns)

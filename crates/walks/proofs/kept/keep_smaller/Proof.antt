@@ -5,12 +5,6 @@ use borrow.Author.Needs.{needs}
 use Rattle.walks.proofs.kept.keep_smaller.Statement.{statement}
 use Rattle.walks.proofs.kept.keep_smaller.Tie as tie
 
-element-copy-out-if1 : tie.Need-element-copy-out-if1
-element-copy-out-if1 c = search needs
-
-keep-requires : tie.Need-keep-requires
-keep-requires c κs = search needs
-
 returns : tie.Need-returns
 returns c =
     let chosen = c .before .before .before in
@@ -24,4 +18,5 @@ returns-2 c =
     kept-no-smaller (asHit (a .hit)) (hitOf (a .best .now) (a .number .now)) (c .if1 .left)
 
 pub keep-smaller-spec : {M : Type 1} → statement M
-keep-smaller-spec = tie.close (tie.spec element-copy-out-if1 keep-requires returns returns-2)
+keep-smaller-spec = tie.close
+    (tie.spec (λ c. search needs) (λ c κs. search needs) returns returns-2)

@@ -5,15 +5,6 @@ use borrow.Author.Needs.{needs}
 use Rattle.walks.proofs.kept.offer.Statement.{statement}
 use Rattle.walks.proofs.kept.offer.Tie as tie
 
-does-count-requires : tie.Need-does-count-requires
-does-count-requires c κs = search needs
-
-is-nearer-requires : tie.Need-is-nearer-requires
-is-nearer-requires c κs = search needs
-
-keep-requires : tie.Need-keep-requires
-keep-requires c κs = search needs
-
 returns : tie.Need-returns
 returns c =
     let chosen = c .before .before .before in
@@ -34,4 +25,5 @@ returns-2 c =
 
 pub offer-spec : {M : Type 1} → statement M
 offer-spec =
-    tie.close (tie.spec does-count-requires is-nearer-requires keep-requires returns returns-2)
+    tie.close
+    (tie.spec (λ c κs. search needs) (λ c κs. search needs) (λ c κs. search needs) returns returns-2)

@@ -3,11 +3,9 @@ use borrow.Author.Needs.{needs}
 use Rattle.walks.proofs.leaf.hit_at.Statement.{statement}
 use Rattle.walks.proofs.leaf.hit_at.Tie as tie
 
-squared-distance-requires : tie.Need-squared-distance-requires
-squared-distance-requires c κs = search needs
-
 returns : tie.Need-returns
 returns c = rw (c .squared-distance .ensures)
 
 pub hit-at-spec : {M : Type 1} → statement M
-hit-at-spec = tie.close (tie.spec squared-distance-requires returns)
+hit-at-spec = tie.close
+    (tie.spec (λ c κs. search needs) returns)

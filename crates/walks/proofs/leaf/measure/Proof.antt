@@ -39,7 +39,8 @@ returns c =
     let is : asHit (after-hit-at .hit-at .result) ≡ hit binary32 (a .triangles .now) p (a .t) =
     after-hit-at .hit-at .ensures ∙ ap (λ (x : Point). seen (asPoint (after-held .held .result)) x (a .t)) (after-point-of .point-of .ensures)
     ∙ ap (λ (q : Point). seen q p (a .t)) point in
-    rw (told .enum-told .given .1) (c .offer .ensures ∙ ap (λ (h : Hit). offered (fourthOf (a .probe .now)) h (kept (hitOf (a .best .now) (a .number .now)))) is)
+    rw (told .enum-told .given .1)
+    (c .offer .ensures ∙ ap (λ (h : Hit). offered (fourthOf (a .probe .now)) h (kept (hitOf (a .best .now) (a .number .now)))) is)
 
 returns-2 : tie.Need-returns-2
 unfolding tookSource sourceHit
@@ -61,7 +62,8 @@ returns-2 c =
       after-wide .wide .ensures,
       after-point-of .point-of .ensures,
     ) in
-    rw (told .enum-told2 .given .1) (c .keep-smaller .ensures ∙ ap (λ (h : Hit). keepSmaller h (kept (hitOf (a .best .now) (a .number .now)))) is)
+    rw (told .enum-told2 .given .1)
+    (c .keep-smaller .ensures ∙ ap (λ (h : Hit). keepSmaller h (kept (hitOf (a .best .now) (a .number .now)))) is)
 
 pub measure-spec : {M : Type 1} → statement M
 measure-spec =

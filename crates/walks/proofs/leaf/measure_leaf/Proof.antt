@@ -7,18 +7,6 @@ use borrow.Author.Needs.{needs}
 use Rattle.walks.proofs.leaf.measure_leaf.Statement.{statement}
 use Rattle.walks.proofs.leaf.measure_leaf.Tie as tie
 
-mul-measure-slice : tie.Need-mul-measure-slice
-mul-measure-slice c = search needs
-
-sub-measure-slice : tie.Need-sub-measure-slice
-sub-measure-slice c = search needs
-
-part-measure-slice-start : tie.Need-part-measure-slice-start
-part-measure-slice-start c = search needs
-
-part-measure-slice-end : tie.Need-part-measure-slice-end
-part-measure-slice-end c = search needs
-
 measure-slice-requires : tie.Need-measure-slice-requires
 measure-slice-requires c κs =
     let at-measure-slice-arg = c .before .before in
@@ -29,16 +17,7 @@ measure-slice-requires c κs =
       omega (arith, slice-length (args .order .now) (args .first) (args .last - args .first) (omega (arith, range .0, range .1)), start .pre .1 .1),
     )
 
-returns : tie.Need-returns
-returns c = search needs
-
 pub measure-leaf-spec : {M : Type 1} → statement M
 measure-leaf-spec =
     tie.close
-    (tie.spec
-    mul-measure-slice
-    sub-measure-slice
-    part-measure-slice-start
-    part-measure-slice-end
-    measure-slice-requires
-    returns)
+    (tie.spec (λ c. search needs) (λ c. search needs) (λ c. search needs) (λ c. search needs) measure-slice-requires (λ c. search needs))

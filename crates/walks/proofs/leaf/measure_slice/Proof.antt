@@ -37,24 +37,12 @@ loop-holds c =
           (soughtOf (a .best .now) (a .number .now) n)) (plus-none (a .measured)),
     )
 
-mul-measure : tie.Need-mul-measure Inv-loop μ-loop
-mul-measure c = search needs
-
-shared-slice-read-measure : tie.Need-shared-slice-read-measure Inv-loop μ-loop
-shared-slice-read-measure c = search needs
-
 measure-requires : tie.Need-measure-requires Inv-loop μ-loop
 measure-requires c κs =
     let tested = c .before .before .before in
     let turn = tested .before in
     let start = turn .before .before .before in
     triangle-inside _ _ (start .pre .0 (turn .loop .i) (tested .loop-test .taken))
-
-add-i : tie.Need-add-i Inv-loop μ-loop
-add-i c = search needs
-
-loop-less : tie.Need-loop-less Inv-loop μ-loop
-loop-less c = omega arith
 
 loop-again : tie.Need-loop-again Inv-loop μ-loop
 loop-again c =
@@ -71,9 +59,6 @@ loop-again c =
           (λ j. record { best = c .measure .ensures j; measured = next j }) (loop .inv .1),
     )
 
-add-result : tie.Need-add-result Inv-loop μ-loop
-add-result c = omega arith
-
 returns : tie.Need-returns Inv-loop μ-loop
 returns c =
     let a = c .before .before .before .before .args in
@@ -85,15 +70,5 @@ returns c =
 pub measure-slice-spec : {M : Type 1} → statement M
 measure-slice-spec =
     tie.close
-    (tie.spec
-    Inv-loop
-    μ-loop
-    loop-holds
-    mul-measure
-    shared-slice-read-measure
-    measure-requires
-    add-i
-    loop-less
-    loop-again
-    add-result
-    returns)
+    (tie.spec Inv-loop μ-loop loop-holds (λ c. search needs) (λ c. search needs) measure-requires (λ c. search needs) (λ c. omega arith) loop-again
+    (λ c. omega arith) returns)

@@ -8,9 +8,6 @@ use borrow.Author.Needs.{needs}
 use Rattle.walks.proofs.source.search.Statement.{statement}
 use Rattle.walks.proofs.source.search.Tie as tie
 
-sub-look : tie.Need-sub-look
-sub-look c = search needs
-
 sub-look-2 : tie.Need-sub-look-2
 sub-look-2 c =
     let known3 = c .before .before in
@@ -23,9 +20,6 @@ look-requires c κs =
     let start = known4 .before .before .before .before in
     root-safe _ _ _ _ _ (start .pre)
 
-answer-of-requires : tie.Need-answer-of-requires
-answer-of-requires c κs = search needs
-
 returns : tie.Need-returns
 unfolding sourceWalk kept div ofBits eq
 returns c =
@@ -33,4 +27,5 @@ returns c =
     (λ i. record { best = c .answer-of .ensures i; measured = after-look .look .result }) ∙ after-look .look .ensures
 
 pub search-spec : {M : Type 1} → statement M
-search-spec = tie.close (tie.spec sub-look sub-look-2 look-requires answer-of-requires returns)
+search-spec = tie.close
+    (tie.spec (λ c. search needs) sub-look-2 look-requires (λ c κs. search needs) returns)

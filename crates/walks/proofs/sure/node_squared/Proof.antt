@@ -4,18 +4,10 @@ use borrow.Author.Needs.{needs}
 use Rattle.walks.proofs.sure.node_squared.Statement.{statement}
 use Rattle.walks.proofs.sure.node_squared.Tie as tie
 
-node-box-requires : tie.Need-node-box-requires
-node-box-requires c κs = search needs
-
-point-of-requires : tie.Need-point-of-requires
-point-of-requires c κs = search needs
-
-held-squared-requires : tie.Need-held-squared-requires
-held-squared-requires c κs = search needs
-
 returns : tie.Need-returns
 unfolding nodeSquared
 returns c = rw (← c .before .before .node-box .ensures, ← c .before .point-of .ensures) (c .held-squared .ensures)
 
 pub node-squared-spec : {M : Type 1} → statement M
-node-squared-spec = tie.close (tie.spec node-box-requires point-of-requires held-squared-requires returns)
+node-squared-spec = tie.close
+    (tie.spec (λ c κs. search needs) (λ c κs. search needs) (λ c κs. search needs) returns)

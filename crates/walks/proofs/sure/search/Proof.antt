@@ -18,9 +18,6 @@ node-squared-requires c κs =
     let safe = root-safe _ _ _ _ _ (probe .before .before .before .before .pre) in
     hangs-there _ _ _ _ (safe .tree) _ (safe .hangs) .boxes-there
 
-sub-node-walk : tie.Need-sub-node-walk
-sub-node-walk c = search needs
-
 node-walk-requires : tie.Need-node-walk-requires
 node-walk-requires c κs =
     let lent = c .before .before .before .before in
@@ -28,9 +25,6 @@ node-walk-requires c κs =
     let probe = away .before .before in
     let start = probe .before .before .before .before in
     (root-safe _ _ _ _ _ (start .pre), away .node-squared .ensures)
-
-answer-of-requires : tie.Need-answer-of-requires
-answer-of-requires c κs = search needs
 
 returns : tie.Need-returns
 unfolding sureWalk kept div ofBits eq
@@ -41,10 +35,4 @@ returns c =
 pub search-spec : {M : Type 1} → statement M
 search-spec =
     tie.close
-    (tie.spec
-    sub-root
-    node-squared-requires
-    sub-node-walk
-    node-walk-requires
-    answer-of-requires
-    returns)
+    (tie.spec sub-root node-squared-requires (λ c. search needs) node-walk-requires (λ c κs. search needs) returns)

@@ -4,39 +4,9 @@ use borrow.Author.Needs.{needs}
 use Rattle.walks.proofs.words.put_answer.Statement.{statement}
 use Rattle.walks.proofs.words.put_answer.Tie as tie
 
-enum-told : tie.Need-enum-told
-enum-told c = search needs
-
-put-six-requires : tie.Need-put-six-requires
-put-six-requires c κs = search needs
-
-enum-known-answer : tie.Need-enum-known-answer
-enum-known-answer c = search needs
-
-bits-of-requires : tie.Need-bits-of-requires
-bits-of-requires c κs = search needs
-
-bits-of-requires-2 : tie.Need-bits-of-requires-2
-bits-of-requires-2 c κs = search needs
-
-bits-of-requires-3 : tie.Need-bits-of-requires-3
-bits-of-requires-3 c κs = search needs
-
-bits-of-requires-4 : tie.Need-bits-of-requires-4
-bits-of-requires-4 c κs = search needs
-
-put-six-requires-2 : tie.Need-put-six-requires-2
-put-six-requires-2 c κs = search needs
-
-same-length : tie.Need-same-length
-same-length c = search needs
-
 returns : tie.Need-returns
 unfolding sixWords
 returns c = rw (c .before .before .before .before .enum-told .given .1) (c .before .before .put-six .ensures)
-
-same-length-2 : tie.Need-same-length-2
-same-length-2 c = search needs
 
 returns-2 : tie.Need-returns-2
 unfolding sixWords
@@ -58,16 +28,5 @@ returns-2 c =
 pub put-answer-spec : {M : Type 1} → statement M
 put-answer-spec =
     tie.close
-    (tie.spec
-    enum-told
-    put-six-requires
-    enum-known-answer
-    bits-of-requires
-    bits-of-requires-2
-    bits-of-requires-3
-    bits-of-requires-4
-    put-six-requires-2
-    same-length
-    returns
-    same-length-2
-    returns-2)
+    (tie.spec (λ c. search needs) (λ c κs. search needs) (λ c. search needs) (λ c κs. search needs) (λ c κs. search needs) (λ c κs. search needs)
+    (λ c κs. search needs) (λ c κs. search needs) (λ c. search needs) returns (λ c. search needs) returns-2)

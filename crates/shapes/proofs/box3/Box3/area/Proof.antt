@@ -5,12 +5,10 @@ use borrow.Author.Needs.{needs}
 use Rattle.shapes.proofs.box3.Box3.area.Statement.{statement}
 use Rattle.shapes.proofs.box3.Box3.area.Tie as tie
 
-sizes-requires : tie.Need-sizes-requires
-sizes-requires c κs = search needs
-
 returns : tie.Need-returns
 unfolding area ofBits
 returns c = rw (← c .before .before .before .sizes .ensures)
 
 pub area-spec : {M : Type 1} → statement M
-area-spec = tie.close (tie.spec sizes-requires returns)
+area-spec = tie.close
+    (tie.spec (λ c κs. search needs) returns)

@@ -5,15 +5,10 @@ use borrow.Author.Needs.{needs}
 use Rattle.shapes.proofs.box3.Box3.centre.Statement.{statement}
 use Rattle.shapes.proofs.box3.Box3.centre.Tie as tie
 
-plus-requires : tie.Need-plus-requires
-plus-requires c κs = search needs
-
-over-requires : tie.Need-over-requires
-over-requires c κs = search needs
-
 returns : tie.Need-returns
 unfolding centre ofBits
 returns c = rw (c .over .ensures, c .before .plus .ensures)
 
 pub centre-spec : {M : Type 1} → statement M
-centre-spec = tie.close (tie.spec plus-requires over-requires returns)
+centre-spec = tie.close
+    (tie.spec (λ c κs. search needs) (λ c κs. search needs) returns)

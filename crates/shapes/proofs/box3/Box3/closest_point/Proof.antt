@@ -4,15 +4,10 @@ use borrow.Author.Needs.{needs}
 use Rattle.shapes.proofs.box3.Box3.closest_point.Statement.{statement}
 use Rattle.shapes.proofs.box3.Box3.closest_point.Tie as tie
 
-largest-requires : tie.Need-largest-requires
-largest-requires c κs = search needs
-
-smallest-requires : tie.Need-smallest-requires
-smallest-requires c κs = search needs
-
 returns : tie.Need-returns
 unfolding closestInBox
 returns c = rw (c .smallest .ensures, c .before .largest .ensures)
 
 pub closest-point-spec : {M : Type 1} → statement M
-closest-point-spec = tie.close (tie.spec largest-requires smallest-requires returns)
+closest-point-spec = tie.close
+    (tie.spec (λ c κs. search needs) (λ c κs. search needs) returns)

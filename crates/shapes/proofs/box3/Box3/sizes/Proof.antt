@@ -4,12 +4,10 @@ use borrow.Author.Needs.{needs}
 use Rattle.shapes.proofs.box3.Box3.sizes.Statement.{statement}
 use Rattle.shapes.proofs.box3.Box3.sizes.Tie as tie
 
-minus-requires : tie.Need-minus-requires
-minus-requires c κs = search needs
-
 returns : tie.Need-returns
 unfolding sizes
 returns c = c .minus .ensures
 
 pub sizes-spec : {M : Type 1} → statement M
-sizes-spec = tie.close (tie.spec minus-requires returns)
+sizes-spec = tie.close
+    (tie.spec (λ c κs. search needs) returns)

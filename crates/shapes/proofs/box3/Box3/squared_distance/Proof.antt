@@ -5,15 +5,6 @@ use borrow.Author.Needs.{needs}
 use Rattle.shapes.proofs.box3.Box3.squared_distance.Statement.{statement}
 use Rattle.shapes.proofs.box3.Box3.squared_distance.Tie as tie
 
-with-outside-requires : tie.Need-with-outside-requires
-with-outside-requires c κs = search needs
-
-with-outside-requires-2 : tie.Need-with-outside-requires-2
-with-outside-requires-2 c κs = search needs
-
-with-outside-requires-3 : tie.Need-with-outside-requires-3
-with-outside-requires-3 c κs = search needs
-
 returns : tie.Need-returns
 unfolding boxSquared ofBits
 returns c = rw (c .with-outside3 .ensures, c .before .with-outside2 .ensures, c .before .before .with-outside .ensures)
@@ -21,4 +12,4 @@ returns c = rw (c .with-outside3 .ensures, c .before .with-outside2 .ensures, c 
 pub squared-distance-spec : {M : Type 1} → statement M
 squared-distance-spec =
     tie.close
-    (tie.spec with-outside-requires with-outside-requires-2 with-outside-requires-3 returns)
+    (tie.spec (λ c κs. search needs) (λ c κs. search needs) (λ c κs. search needs) returns)

@@ -4,12 +4,10 @@ use borrow.Author.Needs.{needs}
 use Rattle.shapes.proofs.box3.Box3.volume.Statement.{statement}
 use Rattle.shapes.proofs.box3.Box3.volume.Tie as tie
 
-sizes-requires : tie.Need-sizes-requires
-sizes-requires c κs = search needs
-
 returns : tie.Need-returns
 unfolding volume
 returns c = rw (← c .before .before .sizes .ensures)
 
 pub volume-spec : {M : Type 1} → statement M
-volume-spec = tie.close (tie.spec sizes-requires returns)
+volume-spec = tie.close
+    (tie.spec (λ c κs. search needs) returns)

@@ -4,21 +4,6 @@ use borrow.Author.Needs.{needs}
 use Rattle.shapes.proofs.plane3.Plane3.intersects_box3.Statement.{statement}
 use Rattle.shapes.proofs.plane3.Plane3.intersects_box3.Tie as tie
 
-centre-requires : tie.Need-centre-requires
-centre-requires c κs = search needs
-
-minus-requires : tie.Need-minus-requires
-minus-requires c κs = search needs
-
-reach-of-requires : tie.Need-reach-of-requires
-reach-of-requires c κs = search needs
-
-dot-requires : tie.Need-dot-requires
-dot-requires c κs = search needs
-
-absolute-requires : tie.Need-absolute-requires
-absolute-requires c κs = search needs
-
 returns : tie.Need-returns
 unfolding meetsBox
 returns c =
@@ -31,10 +16,4 @@ returns c =
 pub intersects-box3-spec : {M : Type 1} → statement M
 intersects-box3-spec =
     tie.close
-    (tie.spec
-    centre-requires
-    minus-requires
-    reach-of-requires
-    dot-requires
-    absolute-requires
-    returns)
+    (tie.spec (λ c κs. search needs) (λ c κs. search needs) (λ c κs. search needs) (λ c κs. search needs) (λ c κs. search needs) returns)

@@ -13,9 +13,6 @@ returns-2 : tie.Need-returns-2
 unfolding part ofBits
 returns-2 c = rw (c .before .before .before .if1 .left, c .if2 .taken)
 
-vc-requires : tie.Need-vc-requires
-vc-requires c κs = search needs
-
 returns-3 : tie.Need-returns-3
 unfolding part ofBits
 returns-3 c =
@@ -33,9 +30,6 @@ returns-4 c =
     let chosen = chosen2 .before .before .before in
     rw (chosen .if1 .left, chosen2 .if2 .left, ← after-vc .vc .ensures, chosen3 .if3 .left, c .if4 .taken)
 
-vb-requires : tie.Need-vb-requires
-vb-requires c κs = search needs
-
 returns-5 : tie.Need-returns-5
 unfolding part ofBits
 returns-5 c =
@@ -46,9 +40,6 @@ returns-5 c =
     let chosen2 = after-vc .before in
     let chosen = chosen2 .before .before .before in
     rw (chosen .if1 .left, chosen2 .if2 .left, ← after-vc .vc .ensures, chosen3 .if3 .left, chosen4 .if4 .left, ← after-vb .vb .ensures, c .if5 .taken)
-
-va-requires : tie.Need-va-requires
-va-requires c κs = search needs
 
 returns-6 : tie.Need-returns-6
 unfolding part ofBits
@@ -99,14 +90,4 @@ returns-7 c =
 pub part-spec : {M : Type 1} → statement M
 part-spec =
     tie.close
-    (tie.spec
-    returns
-    returns-2
-    vc-requires
-    returns-3
-    returns-4
-    vb-requires
-    returns-5
-    va-requires
-    returns-6
-    returns-7)
+    (tie.spec returns returns-2 (λ c κs. search needs) returns-3 returns-4 (λ c κs. search needs) returns-5 (λ c κs. search needs) returns-6 returns-7)

@@ -4,18 +4,10 @@ use borrow.Author.Needs.{needs}
 use Rattle.shapes.proofs.triangle3.Triangle3.closest_point.Statement.{statement}
 use Rattle.shapes.proofs.triangle3.Triangle3.closest_point.Tie as tie
 
-dots-requires : tie.Need-dots-requires
-dots-requires c κs = search needs
-
-part-requires : tie.Need-part-requires
-part-requires c κs = search needs
-
-point-on-requires : tie.Need-point-on-requires
-point-on-requires c κs = search needs
-
 returns : tie.Need-returns
 unfolding closestPoint
 returns c = rw (c .point-on .ensures, c .before .part .ensures, c .before .before .dots .ensures)
 
 pub closest-point-spec : {M : Type 1} → statement M
-closest-point-spec = tie.close (tie.spec dots-requires part-requires point-on-requires returns)
+closest-point-spec = tie.close
+    (tie.spec (λ c κs. search needs) (λ c κs. search needs) (λ c κs. search needs) returns)

@@ -4,15 +4,10 @@ use borrow.Author.Needs.{needs}
 use Rattle.shapes.proofs.triangle3.Triangle3.measure.Statement.{statement}
 use Rattle.shapes.proofs.triangle3.Triangle3.measure.Tie as tie
 
-held-point-requires : tie.Need-held-point-requires
-held-point-requires c κs = search needs
-
-squared-distance-requires : tie.Need-squared-distance-requires
-squared-distance-requires c κs = search needs
-
 returns : tie.Need-returns
 unfolding measured
 returns c = rw (c .squared-distance .ensures, c .before .held-point .ensures)
 
 pub measure-spec : {M : Type 1} → statement M
-measure-spec = tie.close (tie.spec held-point-requires squared-distance-requires returns)
+measure-spec = tie.close
+    (tie.spec (λ c κs. search needs) (λ c κs. search needs) returns)

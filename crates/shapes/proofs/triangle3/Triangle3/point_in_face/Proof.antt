@@ -5,27 +5,6 @@ use borrow.Author.Needs.{needs}
 use Rattle.shapes.proofs.triangle3.Triangle3.point_in_face.Statement.{statement}
 use Rattle.shapes.proofs.triangle3.Triangle3.point_in_face.Tie as tie
 
-vb-requires : tie.Need-vb-requires
-vb-requires c κs = search needs
-
-vc-requires : tie.Need-vc-requires
-vc-requires c κs = search needs
-
-va-requires : tie.Need-va-requires
-va-requires c κs = search needs
-
-minus-requires : tie.Need-minus-requires
-minus-requires c κs = search needs
-
-along-requires : tie.Need-along-requires
-along-requires c κs = search needs
-
-minus-requires-2 : tie.Need-minus-requires-2
-minus-requires-2 c κs = search needs
-
-along-requires-2 : tie.Need-along-requires-2
-along-requires-2 c κs = search needs
-
 returns : tie.Need-returns
 unfolding facePoint ofBits
 returns c =
@@ -47,12 +26,5 @@ returns c =
 pub point-in-face-spec : {M : Type 1} → statement M
 point-in-face-spec =
     tie.close
-    (tie.spec
-    vb-requires
-    vc-requires
-    va-requires
-    minus-requires
-    along-requires
-    minus-requires-2
-    along-requires-2
-    returns)
+    (tie.spec (λ c κs. search needs) (λ c κs. search needs) (λ c κs. search needs) (λ c κs. search needs) (λ c κs. search needs)
+    (λ c κs. search needs) (λ c κs. search needs) returns)

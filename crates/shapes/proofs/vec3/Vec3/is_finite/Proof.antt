@@ -4,19 +4,11 @@ use borrow.Author.Needs.{needs}
 use Rattle.shapes.proofs.vec3.Vec3.is_finite.Statement.{statement}
 use Rattle.shapes.proofs.vec3.Vec3.is_finite.Tie as tie
 
-is-finite-requires : tie.Need-is-finite-requires
-is-finite-requires c κs = search needs
-
-is-finite-requires-2 : tie.Need-is-finite-requires-2
-is-finite-requires-2 c κs = search needs
-
-is-finite-requires-3 : tie.Need-is-finite-requires-3
-is-finite-requires-3 c κs = search needs
-
 returns : tie.Need-returns
 unfolding isFinite
 returns c = rw (c .before .before .is-finite .ensures, c .before .is-finite2 .ensures, c .is-finite3 .ensures)
 
 pub is-finite-spec : {M : Type 1} → statement M
 is-finite-spec =
-    tie.close (tie.spec is-finite-requires is-finite-requires-2 is-finite-requires-3 returns)
+    tie.close
+    (tie.spec (λ c κs. search needs) (λ c κs. search needs) (λ c κs. search needs) returns)

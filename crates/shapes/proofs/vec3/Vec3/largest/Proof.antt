@@ -4,18 +4,10 @@ use borrow.Author.Needs.{needs}
 use Rattle.shapes.proofs.vec3.Vec3.largest.Statement.{statement}
 use Rattle.shapes.proofs.vec3.Vec3.largest.Tie as tie
 
-max2-requires : tie.Need-max2-requires
-max2-requires c κs = search needs
-
-max2-requires-2 : tie.Need-max2-requires-2
-max2-requires-2 c κs = search needs
-
-max2-requires-3 : tie.Need-max2-requires-3
-max2-requires-3 c κs = search needs
-
 returns : tie.Need-returns
 unfolding largest
 returns c = λ i. record { x = c .before .before .max2 .ensures i; y = c .before .max22 .ensures i; z = c .max23 .ensures i }
 
 pub largest-spec : {M : Type 1} → statement M
-largest-spec = tie.close (tie.spec max2-requires max2-requires-2 max2-requires-3 returns)
+largest-spec = tie.close
+    (tie.spec (λ c κs. search needs) (λ c κs. search needs) (λ c κs. search needs) returns)

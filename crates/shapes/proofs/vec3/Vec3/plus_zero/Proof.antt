@@ -4,19 +4,11 @@ use borrow.Author.Needs.{needs}
 use Rattle.shapes.proofs.vec3.Vec3.plus_zero.Statement.{statement}
 use Rattle.shapes.proofs.vec3.Vec3.plus_zero.Tie as tie
 
-plus-zero-requires : tie.Need-plus-zero-requires
-plus-zero-requires c κs = search needs
-
-plus-zero-requires-2 : tie.Need-plus-zero-requires-2
-plus-zero-requires-2 c κs = search needs
-
-plus-zero-requires-3 : tie.Need-plus-zero-requires-3
-plus-zero-requires-3 c κs = search needs
-
 returns : tie.Need-returns
 unfolding plusZero
 returns c = λ i. record { x = c .before .before .plus-zero .ensures i; y = c .before .plus-zero2 .ensures i; z = c .plus-zero3 .ensures i }
 
 pub plus-zero-spec : {M : Type 1} → statement M
 plus-zero-spec =
-    tie.close (tie.spec plus-zero-requires plus-zero-requires-2 plus-zero-requires-3 returns)
+    tie.close
+    (tie.spec (λ c κs. search needs) (λ c κs. search needs) (λ c κs. search needs) returns)

@@ -4,18 +4,10 @@ use borrow.Author.Needs.{needs}
 use Rattle.shapes.proofs.vec3.Vec3.smallest.Statement.{statement}
 use Rattle.shapes.proofs.vec3.Vec3.smallest.Tie as tie
 
-min2-requires : tie.Need-min2-requires
-min2-requires c κs = search needs
-
-min2-requires-2 : tie.Need-min2-requires-2
-min2-requires-2 c κs = search needs
-
-min2-requires-3 : tie.Need-min2-requires-3
-min2-requires-3 c κs = search needs
-
 returns : tie.Need-returns
 unfolding smallest
 returns c = λ i. record { x = c .before .before .min2 .ensures i; y = c .before .min22 .ensures i; z = c .min23 .ensures i }
 
 pub smallest-spec : {M : Type 1} → statement M
-smallest-spec = tie.close (tie.spec min2-requires min2-requires-2 min2-requires-3 returns)
+smallest-spec = tie.close
+    (tie.spec (λ c κs. search needs) (λ c κs. search needs) (λ c κs. search needs) returns)

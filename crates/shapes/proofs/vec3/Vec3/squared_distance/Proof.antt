@@ -4,15 +4,10 @@ use borrow.Author.Needs.{needs}
 use Rattle.shapes.proofs.vec3.Vec3.squared_distance.Statement.{statement}
 use Rattle.shapes.proofs.vec3.Vec3.squared_distance.Tie as tie
 
-minus-requires : tie.Need-minus-requires
-minus-requires c κs = search needs
-
-dot-requires : tie.Need-dot-requires
-dot-requires c κs = search needs
-
 returns : tie.Need-returns
 unfolding squaredDistance
 returns c = rw (c .dot .ensures, c .before .minus .ensures)
 
 pub squared-distance-spec : {M : Type 1} → statement M
-squared-distance-spec = tie.close (tie.spec minus-requires dot-requires returns)
+squared-distance-spec = tie.close
+    (tie.spec (λ c κs. search needs) (λ c κs. search needs) returns)

@@ -4,12 +4,10 @@ use borrow.Author.Needs.{needs}
 use Rattle.splits.proofs.buckets.Bucket.empty.Statement.{statement}
 use Rattle.splits.proofs.buckets.Bucket.empty.Tie as tie
 
-empty-requires : tie.Need-empty-requires
-empty-requires c κs = search needs
-
 returns : tie.Need-returns
 unfolding emptyBucket
 returns c = λ i. record { count = 0; bounds = c .empty .ensures i }
 
 pub empty-spec : {M : Type 1} → statement M
-empty-spec = tie.close (tie.spec empty-requires returns)
+empty-spec = tie.close
+    (tie.spec (λ c κs. search needs) returns)

@@ -5,12 +5,6 @@ use borrow.Author.Needs.{needs}
 use Rattle.splits.proofs.buckets.Bucket.merged.Statement.{statement}
 use Rattle.splits.proofs.buckets.Bucket.merged.Tie as tie
 
-add-t3 : tie.Need-add-t3
-add-t3 c = search needs
-
-union-box-requires : tie.Need-union-box-requires
-union-box-requires c κs = search needs
-
 returns : tie.Need-returns
 unfolding merged
 returns c =
@@ -18,4 +12,5 @@ returns c =
     λ i. record { count = start .args .self .count + start .args .other .count; bounds = c .union-box .ensures i }
 
 pub merged-spec : {M : Type 1} → statement M
-merged-spec = tie.close (tie.spec add-t3 union-box-requires returns)
+merged-spec = tie.close
+    (tie.spec (λ c. search needs) (λ c κs. search needs) returns)

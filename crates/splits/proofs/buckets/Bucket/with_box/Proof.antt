@@ -5,15 +5,10 @@ use borrow.Author.Needs.{needs}
 use Rattle.splits.proofs.buckets.Bucket.with_box.Statement.{statement}
 use Rattle.splits.proofs.buckets.Bucket.with_box.Tie as tie
 
-add-t3 : tie.Need-add-t3
-add-t3 c = search needs
-
-union-box-requires : tie.Need-union-box-requires
-union-box-requires c κs = search needs
-
 returns : tie.Need-returns
 unfolding withBox
 returns c = λ i. record { count = c .before .before .args .self .count + 1; bounds = c .union-box .ensures i }
 
 pub with-box-spec : {M : Type 1} → statement M
-with-box-spec = tie.close (tie.spec add-t3 union-box-requires returns)
+with-box-spec = tie.close
+    (tie.spec (λ c. search needs) (λ c κs. search needs) returns)

@@ -6,12 +6,10 @@ use borrow.Author.Needs.{needs}
 use Rattle.splits.proofs.buckets.Buckets.empty.Statement.{statement}
 use Rattle.splits.proofs.buckets.Buckets.empty.Tie as tie
 
-empty-requires : tie.Need-empty-requires
-empty-requires c κs = search needs
-
 returns : tie.Need-returns
 unfolding emptyBuckets
 returns c = ap (λ (b : Bucket). replicate 12 b) (c .empty .ensures)
 
 pub empty-spec : {M : Type 1} → statement M
-empty-spec = tie.close (tie.spec empty-requires returns)
+empty-spec = tie.close
+    (tie.spec (λ c κs. search needs) returns)

@@ -5,9 +5,6 @@ use borrow.Author.Needs.{needs}
 use Rattle.splits.proofs.costs.Cheapest.with_cost.Statement.{statement}
 use Rattle.splits.proofs.costs.Cheapest.with_cost.Tie as tie
 
-add-seen : tie.Need-add-seen
-add-seen c = search needs
-
 returns : tie.Need-returns
 unfolding withCost
 returns c = rw (equal-to-itself, c .if1 .taken)
@@ -17,4 +14,5 @@ unfolding withCost
 returns-2 c = rw (equal-to-itself, c .if1 .left)
 
 pub with-cost-spec : {M : Type 1} → statement M
-with-cost-spec = tie.close (tie.spec add-seen returns returns-2)
+with-cost-spec = tie.close
+    (tie.spec (λ c. search needs) returns returns-2)
