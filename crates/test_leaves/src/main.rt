@@ -1,18 +1,18 @@
 // Prints every leaf of stored trees. The trees are the Rust's, and so are the leaves in the file `stdout` beside src/:
 // tests/oracle/leaves.rs made both, with the Rust's own `traverse`.
 ghost use Rattle.spec_tree.specs.Leaves as Leaves;
+use leaves::calls::LeafFound;
+use leaves::calls::LeavesCounted;
+use leaves::calls::leaf_entry;
+use leaves::calls::leaf_from;
+use leaves::calls::leaves;
+use leaves::reader::EntryFound;
 use shapes::box3::Box3;
 use shapes::vec3::Vec3;
 use test_words::fill_floats;
 use test_words::fill_numbers;
 use test_words::more;
 use test_words::pattern_at;
-use tree::leaf_reader::EntryFound;
-use tree::leaves::LeafFound;
-use tree::leaves::LeavesCounted;
-use tree::leaves::leaf_entry;
-use tree::leaves::leaf_from;
-use tree::leaves::leaves;
 
 // The first two words of a case.
 struct Head {

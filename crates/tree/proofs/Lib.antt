@@ -1,3 +1,2 @@
-pub mod Slices
 pub mod Unique
 pub mod Needs

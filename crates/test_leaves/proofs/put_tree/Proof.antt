@@ -2,7 +2,7 @@
 use mathlib.Core.Path.{sym, ap, _∙_}
 use borrow.Author.Needs.{needs}
 use Rattle.spec_tree.proofs.Leaves.{counted-there}
-use Rattle.tree.specs.Values.{asLeavesCounted}
+use Rattle.leaves.specs.Values.{asLeavesCounted}
 use Rattle.test_leaves.proofs.put_tree.Statement.{statement}
 use Rattle.test_leaves.proofs.put_tree.Tie as tie
 
