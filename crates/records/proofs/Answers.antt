@@ -1,4 +1,4 @@
--- What the answer about one record says of the bytes. The proofs of the layouts go from record to record by it.
+-- What the answer about one record, or about the two at the front, says of the bytes. The proofs of the layouts go from record to record by it.
 use mathlib.Core.Path.{_≡_, refl, sym, ap, _∙_, subst}
 use mathlib.Core.List.{List}
 use mathlib.Core.Bool.{Bool, true, false}

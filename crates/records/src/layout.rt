@@ -27,7 +27,7 @@ enum Opening {
     Wrong(usize),
 }
 
-// The two records that both begin with: settings and triangles.
+// The two records that an image and an input of `gauge` begin with: settings and triangles.
 fn opening_of(bytes: &[u8]) -> Opening
     ensures { λ r. ⌜ r ≡ openingOf (now (bytes .entry)) ⌝ }
 {
@@ -40,7 +40,7 @@ fn opening_of(bytes: &[u8]) -> Opening
     Opening::Right(triangles)
 }
 
-// The layout of an image whose triangles have this size.
+// The layout of an image whose triangles' body has this size.
 fn tree_layout(bytes: &[u8], triangles: usize) -> ImageLayout
     requires { ⌜ openingOf (now bytes) ≡ Right triangles ⌝ }
     ensures { λ r. ⌜ imageLaid r ≡ laidOut (imageWants version1) (now (bytes .entry)) 0 ⌝ }
@@ -74,7 +74,7 @@ pub fn image_layout(bytes: &[u8]) -> ImageLayout
     }
 }
 
-// The layout of an input of `gauge` whose triangles have this size.
+// The layout of an input of `gauge` whose triangles' body has this size.
 fn query_layout(bytes: &[u8], triangles: usize) -> GaugeLayout
     requires { ⌜ openingOf (now bytes) ≡ Right triangles ⌝ }
     ensures { λ r. ⌜ gaugeLaid r ≡ laidOut gaugeWants (now (bytes .entry)) 0 ⌝ }
