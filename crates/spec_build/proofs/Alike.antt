@@ -13,10 +13,11 @@ use Rattle.spec_numbers.specs.Axes.{Axis}
 use Rattle.spec_shapes.specs.Points.{on}
 use Rattle.spec_shapes.specs.Boxes.{Box, union, centre, sizes}
 use Rattle.spec_tree.specs.Trees.{Tree, leaf, branch, numbers, Filled, joinedTo, joined, boxOver, sixOf, boxesOf}
-use Rattle.spec_sort.specs.Sort.{Each, inserted, sorted}
+use Rattle.spec_tables.specs.Each.{Each}
+use Rattle.spec_sort.specs.Sort.{inserted, sorted}
 use Rattle.spec_build.specs.Grown.{Tried, cut, uncut, sliceOf, parted, grownBy, grown}
 use Rattle.spec_build.specs.Tries.{axesBySize, rule, splitAs, orElse, centreOn, isBefore, sortedOn, triedOn, triedIn, triedWithin, tried}
-use Rattle.spec_sort.proofs.Each.{each-take, each-drop, each-permuted, each-in-front, each-behind}
+use Rattle.spec_tables.proofs.Each.{each-take, each-drop, each-permuted, each-in-front, each-behind}
 use Rattle.spec_sort.proofs.Permutes.{each-sorted}
 use Rattle.spec_build.proofs.Tries.{tried-on-permutes, tried-permutes}
 

@@ -17,10 +17,10 @@ use Rattle.spec_lists.specs.Passed.{AllFit}
 use Rattle.spec_lists.proofs.Reading.{triangle-inside, box-at-proper, box-at-plain}
 use Rattle.spec_tree.specs.Trees.{Tree, numbers, levels, rootFrom, linksFrom, sixOf, boxesOf}
 use Rattle.spec_tree.specs.Order.{range}
-use Rattle.spec_sort.specs.Sort.{Each}
+use Rattle.spec_tables.specs.Each.{Each}
 use Rattle.spec_splits.specs.Splits.{boxIn}
 use Rattle.spec_tree.proofs.Trees.{root-last}
-use Rattle.spec_sort.proofs.Each.{each-permuted}
+use Rattle.spec_tables.proofs.Each.{each-permuted}
 use Rattle.spec_build.specs.Grown.{grown}
 use Rattle.spec_build.specs.Tries.{tried}
 use Rattle.spec_build.specs.Growing.{CentresNeeds, Centred, Tabled, Growable, GrownIs}

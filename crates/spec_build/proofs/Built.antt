@@ -13,11 +13,11 @@ use Rattle.spec_shapes.specs.Boxes.{Box}
 use Rattle.spec_tree.specs.Trees.{Tree, numbers, nodeCount, levels, Filled, linksFrom, boxesOf}
 use Rattle.spec_tree.specs.Order.{range, Permutes}
 use Rattle.spec_tree.specs.Accepted.{Listing}
-use Rattle.spec_sort.specs.Sort.{Each}
+use Rattle.spec_tables.specs.Each.{Each}
 use Rattle.spec_build.specs.Grown.{Tried, grown, Trying}
 use Rattle.spec_tree.proofs.Trees.{links-length, boxes-length, count-most}
 use Rattle.spec_tree.proofs.Order.{permutes-length}
-use Rattle.spec_sort.proofs.Each.{each-append}
+use Rattle.spec_tables.proofs.Each.{each-append}
 use Rattle.spec_build.proofs.Grown.{grown-permutes, grown-levels, grown-filled}
 
 -- the front of a list, once written, is what was written

@@ -13,11 +13,11 @@ use Rattle.spec_tables.proofs.Tables.{length-overwrite}
 use Rattle.spec_shapes.specs.Boxes.{Box}
 use Rattle.spec_lists.specs.Limits.{maxTriangles}
 use Rattle.spec_tree.specs.Trees.{Tree, leaf, branch, numbers, nodeCount, levels, linksFrom, boxesOf}
-use Rattle.spec_sort.specs.Sort.{Each}
+use Rattle.spec_tables.specs.Each.{Each}
 use Rattle.spec_splits.specs.Splits.{Split, cutAt, nowhere, boxIn}
 use Rattle.spec_tree.proofs.Trees.{root-last, links-length, boxes-length, count-most}
 use Rattle.spec_tree.proofs.Order.{permuted-length}
-use Rattle.spec_sort.proofs.Each.{each-at, each-take, each-drop, each-weaker, each-permuted}
+use Rattle.spec_tables.proofs.Each.{each-at, each-take, each-drop, each-weaker, each-permuted}
 use Rattle.spec_build.specs.Grown.{Tried, cut, sliceOf, CutInside, parted, grown}
 use Rattle.spec_build.specs.Tries.{splitAs, tried}
 use Rattle.spec_build.specs.Growing.{Tabled, Triable, LeafNeeds, Growable, BranchNeeds, BranchPut, Written, grownIn, GrownIs}

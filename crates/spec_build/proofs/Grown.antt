@@ -8,10 +8,10 @@ use borrow.Author.Tests.{leb-false}
 use lib.Dec.{leb}
 use lib.ListN.{length, take, drop, length-take, length-drop, take-append-drop}
 use Rattle.spec_tree.specs.Trees.{Tree, numbers, levels, Filled}
-use Rattle.spec_sort.specs.Sort.{Each}
+use Rattle.spec_tables.specs.Each.{Each}
 use Rattle.spec_build.specs.Grown.{Tried, cut, uncut, sliceOf, CutInside, parted, grownBy, grown, Trying}
 use Rattle.spec_tree.proofs.Order.{permuted-length}
-use Rattle.spec_sort.proofs.Each.{each-take, each-drop, each-permuted}
+use Rattle.spec_tables.proofs.Each.{each-take, each-drop, each-permuted}
 
 both-permuted : {ws xs ys zs : List ℕ} → List·Permᴰ ws xs → List·Permᴰ ys zs → List·Permᴰ (ws ++ ys) (xs ++ zs)
 both-permuted {xs = xs} {ys = ys} p q = List·Permᴰ·trans (Permᴰ·append-right ys p) (Permᴰ·append-left xs q)

@@ -10,7 +10,8 @@ use lib.Ieee.{Format}
 use Rattle.spec_numbers.specs.Values.{Number}
 use Rattle.spec_numbers.specs.Axes.{Axis}
 use Rattle.spec_shapes.specs.Boxes.{Box}
-use Rattle.spec_sort.specs.Sort.{Each, Sorted}
+use Rattle.spec_tables.specs.Each.{Each}
+use Rattle.spec_sort.specs.Sort.{Sorted}
 use Rattle.spec_splits.specs.Splits.{Split, cutAt, nowhere, CutsInside, NoneBelow, FirstIsLeast}
 use Rattle.spec_splits.proofs.Inside.{median-inside, area-inside}
 use Rattle.spec_build.specs.Grown.{CutInside, Trying}

@@ -12,12 +12,13 @@ use Rattle.spec_numbers.proofs.Tests.{passed, failed}
 use Rattle.spec_numbers.proofs.Order.{transitive, lt→le, not-lt→le, le→not-lt, lt-le-transitive}
 use Rattle.spec_shapes.specs.Boxes.{Box}
 use Rattle.spec_tree.specs.Trees.{joined}
-use Rattle.spec_sort.specs.Sort.{Each, Sorted, Ordered}
+use Rattle.spec_tables.specs.Each.{Each}
+use Rattle.spec_sort.specs.Sort.{Sorted, Ordered}
 use Rattle.spec_splits.specs.Splits.{Split, cutAt, nowhere}
 use Rattle.spec_build.specs.Grown.{Tried, cut, uncut, sliceOf, CutInside, Trying}
 use Rattle.spec_build.specs.Tries.{rule, splitAs, orElse, centreOn, isBefore, sortedOn, ruled, triedOn, triedIn, triedWithin, tried}
 use Rattle.spec_tree.proofs.Order.{permuted-length}
-use Rattle.spec_sort.proofs.Each.{each-permuted, each-weaker}
+use Rattle.spec_tables.proofs.Each.{each-permuted, each-weaker}
 use Rattle.spec_sort.proofs.Permutes.{sorted-permutes}
 use Rattle.spec_sort.proofs.Merges.{sorted-is-sorted}
 

@@ -9,11 +9,12 @@ use Rattle.spec_numbers.specs.Axes.{Axis}
 use Rattle.spec_lists.specs.Limits.{maxTriangles}
 use Rattle.spec_shapes.specs.Points.{on}
 use Rattle.spec_shapes.specs.Boxes.{Box, sizes}
-use Rattle.spec_sort.specs.Sort.{Each, Keyed, byKey, sorted}
+use Rattle.spec_tables.specs.Each.{Each}
+use Rattle.spec_sort.specs.Sort.{Keyed, byKey, sorted}
 use Rattle.spec_splits.specs.Splits.{Split, cutAt, nowhere, place, boxIn, unionOf}
 use Rattle.spec_tree.proofs.Order.{permuted-length}
 use Rattle.spec_tree.proofs.Standing.{slice-length}
-use Rattle.spec_sort.proofs.Each.{each-weaker, each-at, each-permuted}
+use Rattle.spec_tables.proofs.Each.{each-weaker, each-at, each-permuted}
 use Rattle.spec_sort.proofs.Permutes.{sorted-permutes}
 use Rattle.spec_splits.proofs.Table.{place-below}
 use Rattle.spec_build.specs.Grown.{Tried, cut, uncut, sliceOf}

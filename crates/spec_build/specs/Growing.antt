@@ -11,7 +11,8 @@ use Rattle.spec_shapes.specs.Boxes.{Box, union, Proper}
 use Rattle.spec_shapes.specs.Plain.{PlainBox}
 use Rattle.spec_lists.specs.Limits.{maxTriangles, deepest}
 use Rattle.spec_tree.specs.Trees.{Tree, numbers, levels, rootFrom, linksFrom, sixOf, boxOver, boxesOf}
-use Rattle.spec_sort.specs.Sort.{Each, Keyed}
+use Rattle.spec_tables.specs.Each.{Each}
+use Rattle.spec_sort.specs.Sort.{Keyed}
 use Rattle.spec_splits.specs.Splits.{place, InTable, AllInTable, Boxed, boxIn}
 use Rattle.spec_build.specs.Grown.{grown}
 use Rattle.spec_build.specs.Tries.{centreOn, tried}

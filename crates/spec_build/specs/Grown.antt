@@ -6,7 +6,7 @@ use Prim.Native.Nat.{ℕ, zero, suc, _<_}
 use lib.Dec.{leb}
 use lib.ListN.{length, take, drop}
 use Rattle.spec_tree.specs.Trees.{Tree, leaf, branch}
-use Rattle.spec_sort.specs.Sort.{Each}
+use Rattle.spec_tables.specs.Each.{Each}
 
 -- what a try leaves: the slice in the order that it was brought into, and where it is cut, if it is
 pub data Tried : Type 0 where

@@ -32,7 +32,9 @@ use Rattle.spec_image.specs.Stored.{Storable, used}
 use Rattle.spec_image.specs.Reading.{Rooms, refused, holds, roomFor, byRoom, sizeOf, judged, imageRead}
 use Rattle.spec_image.specs.Writing.{exactSize, writeRefusal, bytesAfter}
 use Rattle.spec_image.proofs.Sizes.{length-image}
-use Rattle.spec_image.proofs.Listed.{Each, each-by-place, each-taken, links-below, boxes-plain}
+use Rattle.spec_tables.specs.Each.{Each}
+use Rattle.spec_tables.proofs.Each.{each-by-index, each-taken}
+use Rattle.spec_image.proofs.Listed.{links-below, boxes-plain}
 use Rattle.spec_image.proofs.Writing.{Good, good-count, good-complete, good-nodes, write-passed}
 use Rattle.spec_image.proofs.Written.{written-read, written-holds}
 use Rattle.spec_image.proofs.Rewritten.{rewritten}
@@ -64,7 +66,7 @@ module _ (x : Image) (g : Good x) (fit : AllFit binary32 (x .triangles)) where
       ∙ ap (λ (k : ℕ). 6 * k) (sym (l .nodes-are)) in
       let below = permutes-entries (triangleCount (x .triangles)) (x .order) (l .permuted) in
       let plains : Each (λ (k : ℕ). PlainBox binary32 (boxAt (x .triangles) k)) (x .order) =
-      each-by-place (λ (k : ℕ). PlainBox binary32 (boxAt (x .triangles) k)) 0 (x .order) (λ j k. box-at-plain (x .triangles)
+      each-by-index (λ (k : ℕ). PlainBox binary32 (boxAt (x .triangles) k)) 0 (x .order) (λ j k. box-at-plain (x .triangles)
       (g .triangles .coordinates) binary32 fit (getD (x .order) j 0) (triangle-inside (x .triangles) (getD (x .order) j 0) (below j k))) in
       each-taken (Plain binary32) nan (6 * x .nodes) (x .boxes) (boxesOf (boxAt (x .triangles)) t) (l .boxes-are) long
       (boxes-plain binary32 (boxAt (x .triangles)) t (l .filled)

@@ -1,12 +1,12 @@
 -- What stands in the listing of a tree: links that are small numbers, and boxes of plain numbers. So a listing fits the bytes of an image.
-use mathlib.Core.Path.{_≡_, sym, ap, _∙_, subst}
+use mathlib.Core.Path.{_≡_}
 use mathlib.Core.List.{List, [], _∷_, _++_}
-use Prim.Native.Nat.{ℕ, zero, suc, _+_, _≤_, _<_}
-use native.Mathlib.Nat.{le-of-suc-le-suc}
+use Prim.Native.Nat.{ℕ, _+_, _≤_, _<_}
 use native.Mathlib.Omega.{arith}
-use lib.ListN.{length, take, getD, length-append}
-use lib.Seq.{getD-take}
+use lib.ListN.{length, length-append}
 use lib.Ieee.{Format}
+use Rattle.spec_tables.specs.Each.{Each}
+use Rattle.spec_tables.proofs.Each.{each-append, each-in-front, each-behind}
 use Rattle.spec_numbers.specs.Axes.{X, Y, Z}
 use Rattle.spec_numbers.specs.Plain.{Plain}
 use Rattle.spec_shapes.specs.Boxes.{Box, union}
@@ -14,42 +14,6 @@ use Rattle.spec_shapes.specs.Plain.{PlainBox}
 use Rattle.spec_shapes.proofs.Plain.{union-plain}
 use Rattle.spec_tree.specs.Trees.{Tree, leaf, branch, numbers, nodeCount, Filled, joinedTo, joined, boxOver, sixOf, linksFrom, boxesOf}
 use Rattle.spec_tree.proofs.Trees.{root-last}
-
--- ---- lists, element by element
--- the property holds of each element
-abbrev pub Each : {A : Type 0} → (A → Type 0) → List A → Type 0
-Each P [] = Unit {0}
-Each P (x ∷ xs) = P x × Each P xs
-
-module _ {A : Type 0} (P : A → Type 0) where
-  each-append : (xs ys : List A) → Each P xs → Each P ys → Each P (xs ++ ys)
-  each-append [] ys h k = k
-  each-append (x ∷ xs) ys h k = (h .0, each-append xs ys (h .1) k)
-
-  each-front : (xs ys : List A) → Each P (xs ++ ys) → Each P xs
-  each-front [] ys h = tt
-  each-front (x ∷ xs) ys h = (h .0, each-front xs ys (h .1))
-
-  each-behind : (xs ys : List A) → Each P (xs ++ ys) → Each P ys
-  each-behind [] ys h = h
-  each-behind (x ∷ xs) ys h = each-behind xs ys (h .1)
-
-  each-at : (d : A) (xs : List A) (i : ℕ) → i < length xs → Each P xs → P (getD xs i d)
-  each-at d [] i l h = absurd (none l)
-    where
-      none : i < 0 → ⊥
-      none l = omega arith
-  each-at d (x ∷ xs) zero l h = h .0
-  each-at d (x ∷ xs) (suc i) l h = each-at d xs i (le-of-suc-le-suc l) (h .1)
-
-  -- what holds at every place holds of each element
-  pub each-by-place : (d : A) (xs : List A) → ((i : ℕ) → i < length xs → P (getD xs i d)) → Each P xs
-  each-by-place d [] h = tt
-  each-by-place d (x ∷ xs) h = (h 0 (omega arith), each-by-place d xs (λ i l. h (suc i) (omega arith)))
-
-  -- what holds of each element holds at the places of a list that begins with them
-  pub each-taken : (d : A) (n : ℕ) (l xs : List A) → take n l ≡ xs → length xs ≡ n → Each P xs → (i : ℕ) → i < n → P (getD l i d)
-  each-taken d n l xs e long h i k = subst P (ap (λ (ys : List A). getD ys i d) (sym e) ∙ getD-take n l i d k) (each-at d xs i (omega arith) h)
 
 -- ---- the links: a kind, and entries of the order list or nodes
 -- no link reaches a bound on the tree's nodes and entries, so links fit their bytes
@@ -86,7 +50,7 @@ module _ (f : Format) (boxAt : ℕ → Box) where
   unfolding boxOver numbers
   over-plain (leaf slice) some h = joined-plain slice some h
   over-plain (branch l r) some h =
-      union-plain f _ _ (over-plain l (some .0) (each-front _ (numbers l) (numbers r) h)) (over-plain r (some .1) (each-behind _ (numbers l) (numbers r) h))
+      union-plain f _ _ (over-plain l (some .0) (each-in-front _ (numbers l) (numbers r) h)) (over-plain r (some .1) (each-behind _ (numbers l) (numbers r) h))
 
   six-plain : (b : Box) → PlainBox f b → Each (Plain f) (sixOf b)
   six-plain b p = (p .min X, (p .min Y, (p .min Z, (p .max X, (p .max Y, (p .max Z, tt))))))
@@ -97,6 +61,6 @@ module _ (f : Format) (boxAt : ℕ → Box) where
   boxes-plain (leaf slice) some h = six-plain _ (joined-plain slice some h)
   boxes-plain (branch l r) some h =
       each-append (Plain f) (boxesOf boxAt l ++ boxesOf boxAt r) _
-      (each-append (Plain f) (boxesOf boxAt l) (boxesOf boxAt r) (boxes-plain l (some .0) (each-front _ (numbers l) (numbers r) h))
+      (each-append (Plain f) (boxesOf boxAt l) (boxesOf boxAt r) (boxes-plain l (some .0) (each-in-front _ (numbers l) (numbers r) h))
       (boxes-plain r (some .1) (each-behind _ (numbers l) (numbers r) h)))
       (six-plain _ (over-plain (branch l r) some h))

@@ -1,4 +1,3 @@
-pub mod Each
 pub mod Merges
 pub mod Permutes
 pub mod Stable

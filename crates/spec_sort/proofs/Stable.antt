@@ -3,7 +3,8 @@ use mathlib.Core.Path.{_≡_, refl, sym, ap, _∙_}
 use mathlib.Core.Bool.{Bool, true, false, cond, not, _&&_, true≢false}
 use mathlib.Core.List.{List, [], _∷_}
 use Prim.Native.Nat.{ℕ}
-use Rattle.spec_sort.specs.Sort.{inserted, sorted, Each, equals, filter, Ordered}
+use Rattle.spec_tables.specs.Each.{Each}
+use Rattle.spec_sort.specs.Sort.{inserted, sorted, equals, filter, Ordered}
 use Rattle.spec_sort.proofs.Permutes.{each-sorted}
 use Rattle.spec_sort.proofs.Merges.{inserted-nowhere, inserted-passes, inserted-stops}
 
