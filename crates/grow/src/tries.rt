@@ -9,7 +9,6 @@ ghost use Rattle.spec_build.specs.Tries as Tries;
 ghost use Rattle.spec_build.specs.Growing.{keysOn, SortNeeds, RuleNeeds, Triable};
 use crate::axes::axes_by_size;
 use crate::tables::first_key;
-use lists::limits::MAX_TRIANGLES;
 use shapes::box3::Box3;
 use shapes::vec3::Axis;
 use sort::stable::sort_by_key;
@@ -23,8 +22,9 @@ fn sort_on(centres: &[f32], axis: Axis, slice: &mut [u32], scratch: &mut [u32])
     requires { ⌜ SortNeeds (Shapes.asAxis axis) (now centres) (now slice) (now scratch) ⌝ }
     ensures { λ _. ⌜ now (slice .exit) ≡ sorted (byKey (keysOn (Shapes.asAxis axis) (now (centres .entry)))) (now (slice .entry)) ⌝ }
 {
-    let first = first_key(axis);
-    sort_by_key(&centres[first..first + MAX_TRIANGLES], slice, scratch);
+    let rows = centres.len() / 3;
+    let first = first_key(axis, rows);
+    sort_by_key(&centres[first..first + rows], slice, scratch);
 }
 
 // Where the rule cuts the slice as it stands. Strategy 1 is median, 2 is area.

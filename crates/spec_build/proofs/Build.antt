@@ -5,47 +5,71 @@ use mathlib.Core.Bool.{Bool, true, false}
 use mathlib.Core.List.{List}
 use Prim.Native.Nat.{ℕ, _+_, _*_, _≤_, _<_}
 use native.Mathlib.Omega.{arith}
-use lib.ListN.{length, take}
+use lib.ListN.{take}
 use lib.Ieee.{Float, Format}
 use Rattle.spec_tables.specs.Tables.{overwrite}
 use Rattle.spec_numbers.proofs.Tests.{failed}
 use Rattle.spec_lists.specs.Reading.{boxAt, triangleCount}
 use Rattle.spec_lists.specs.Refusals.{Verdict, passes, refused, refuses, trianglesRefusal, Settings}
 use Rattle.spec_lists.specs.Passed.{GoodTriangles, GoodSettings}
-use Rattle.spec_lists.proofs.Verdicts.{all-pass}
-use Rattle.spec_lists.proofs.Passed.{triangles-passed, settings-passed, room-passed}
+use Rattle.spec_lists.proofs.Verdicts.{all-pass, then-passes}
+use Rattle.spec_lists.proofs.Passed.{triangles-passed, triangles-pass, settings-passed, settings-pass, room-passed, room-passes}
 use Rattle.spec_lists.proofs.Reading.{triangle-inside, box-at-proper}
 use Rattle.spec_tree.specs.Trees.{Tree, numbers, nodeCount, levels, linksFrom, boxesOf}
 use Rattle.spec_tree.specs.Accepted.{Listing, accepted}
 use Rattle.spec_tree.specs.Depth.{depthOf}
 use Rattle.spec_tree.proofs.Accepted.{listed-accepted}
 use Rattle.spec_tree.proofs.Depth.{listing-depth}
-use Rattle.spec_build.specs.Build.{builtTree, maxNodes, buildRefusal, Built, made, answerBy, leftBy, BuildIs}
+use Rattle.spec_build.specs.Build.{builtTree, Lists, buildRefusal, Built, made, answerBy, leftBy, BuildIs, Passed}
 use Rattle.spec_build.proofs.Centres.{centre-number}
 use Rattle.spec_build.proofs.Inside.{HasCentre, tries-inside}
 use Rattle.spec_build.proofs.Built.{Whole, whole-nodes, whole-listing, grown-whole}
 
 -- ---- what passed
-pub record Passed (triangles : List Float) (s : Settings) (order links : List ℕ) (boxes : List Float) : Type 0 where
-  pub triangles-good : GoodTriangles triangles
-  pub settings-good : GoodSettings s
-  pub order-room : triangleCount triangles ≤ length order
-  pub links-room : 3 * maxNodes (triangleCount triangles) ≤ length links
-  pub boxes-room : 6 * maxNodes (triangleCount triangles) ≤ length boxes
-
 -- tests that passed give what the build needs: good triangles, good settings, room in each list
-pub build-passed : (triangles : List Float) (s : Settings) (order links : List ℕ) (boxes : List Float)
-    → buildRefusal triangles s (length order) (length links) (length boxes) ≡ passes → Passed triangles s order links boxes
+pub build-passed : (triangles : List Float) (s : Settings) (lent : Lists) → buildRefusal triangles s lent ≡ passes → Passed triangles s lent
 unfolding buildRefusal
-build-passed triangles s order links boxes e =
+build-passed triangles s lent e =
     let p = all-pass _ e in
+    let rooms = p .1 .1 in
+    let working = rooms .1 .1 .1 in
     record {
       triangles-good = triangles-passed triangles (p .0);
       settings-good = settings-passed s (p .1 .0);
-      order-room = room-passed _ _ (p .1 .1 .0);
-      links-room = room-passed _ _ (p .1 .1 .1 .0);
-      boxes-room = room-passed _ _ (p .1 .1 .1 .1 .0);
+      order-room = room-passed _ _ (rooms .0);
+      links-room = room-passed _ _ (rooms .1 .0);
+      boxes-room = room-passed _ _ (rooms .1 .1 .0);
+      bounds-room = room-passed _ _ (working .0);
+      centres-room = room-passed _ _ (working .1 .0);
+      scratch-room = room-passed _ _ (working .1 .1 .0);
     }
+
+-- good triangles, good settings and room in each list are never refused
+pub build-passes : (triangles : List Float) (s : Settings) (lent : Lists) → Passed triangles s lent → buildRefusal triangles s lent ≡ passes
+unfolding buildRefusal
+build-passes triangles s lent p =
+    then-passes _ (
+      triangles-pass triangles (p .triangles-good),
+      (
+        settings-pass s (p .settings-good),
+        (
+          room-passes _ _ (p .order-room),
+          (
+            room-passes _ _ (p .links-room),
+            (
+              room-passes _ _ (p .boxes-room),
+              (
+                room-passes _ _ (p .bounds-room),
+                (
+                  room-passes _ _ (p .centres-room),
+                  (room-passes _ _ (p .scratch-room), tt),
+                ),
+              ),
+            ),
+          ),
+        ),
+      ),
+    )
 
 -- a test that did not refuse passed
 not-refusing : (v : Verdict) (b : Bool) → b ≡ refuses v → b ≡ false → v ≡ passes
@@ -70,23 +94,28 @@ built-whole f triangles s g h =
 
 -- ---- the call
 -- its answer and its lists are fixed by what it is called with
-pub build-is-unique : (f : Format) (triangles : List Float) (s : Settings) {order links : List ℕ} {boxes : List Float}
-    {a a₂ : Built} {order′ links′ order″ links″ : List ℕ} {boxes′ boxes″ : List Float}
-    → BuildIs f triangles s order links boxes a order′ links′ boxes′ → BuildIs f triangles s order links boxes a₂ order″ links″ boxes″
-    → (a ≡ a₂) × (order′ ≡ order″) × (links′ ≡ links″) × (boxes′ ≡ boxes″)
+pub build-is-unique : (f : Format) (triangles : List Float) (s : Settings) {old : Lists} {a b : Built} {new new₂ : Lists}
+    → BuildIs f triangles s old a new → BuildIs f triangles s old b new₂ → (a ≡ b) × (new ≡ new₂)
 build-is-unique f triangles s p q =
-    (p .answer-is ∙ sym (q .answer-is), p .order-is ∙ sym (q .order-is), p .links-are ∙ sym (q .links-are), p .boxes-are ∙ sym (q .boxes-are))
+    let order = p .order-is ∙ sym (q .order-is) in
+    let links = p .links-are ∙ sym (q .links-are) in
+    let boxes = p .boxes-are ∙ sym (q .boxes-are) in
+    let bounds = p .bounds-are ∙ sym (q .bounds-are) in
+    let centres = p .centres-are ∙ sym (q .centres-are) in
+    let scratch = p .scratch-is ∙ sym (q .scratch-is) in (
+      p .answer-is ∙ sym (q .answer-is),
+      λ i. record { order = order i; links = links i; boxes = boxes i; bounds = bounds i; centres = centres i; scratch = scratch i },
+    )
 
-module _ (f : Format) (triangles : List Float) (s : Settings) (order links : List ℕ) (boxes : List Float) (order′ links′ : List ℕ) (boxes′ : List Float)
-    (nodes depth : ℕ)
-    (b : BuildIs f triangles s order links boxes (made nodes depth) order′ links′ boxes′) where
+module _ (f : Format) (triangles : List Float) (s : Settings) (old new : Lists) (nodes depth : ℕ)
+    (b : BuildIs f triangles s old (made nodes depth) new) where
   never-both : (v : Verdict) → made nodes depth ≡ answerBy v (builtTree f triangles s) → v ≡ passes
   never-both passes e = refl
   never-both (refused number place) e = absurd (let z : _≡_ {A = ℕ} 0 1 = cc in omega arith)
 
   -- a tree is answered only where the tests passed
-  pub made-passed : buildRefusal triangles s (length order) (length links) (length boxes) ≡ passes
-  made-passed = never-both (buildRefusal triangles s (length order) (length links) (length boxes)) (b .answer-is)
+  pub made-passed : buildRefusal triangles s old ≡ passes
+  made-passed = never-both (buildRefusal triangles s old) (b .answer-is)
 
   made-answer : made nodes depth ≡ made (nodeCount (builtTree f triangles s)) (levels (builtTree f triangles s))
   made-answer = b .answer-is ∙ ap (λ (v : Verdict). answerBy v (builtTree f triangles s)) made-passed
@@ -100,26 +129,28 @@ module _ (f : Format) (triangles : List Float) (s : Settings) (order links : Lis
   made-depth = let e = made-answer in cc
 
   whole : Whole (triangleCount triangles) (builtTree f triangles s)
-  whole = let p = build-passed triangles s order links boxes made-passed in built-whole f triangles s (p .triangles-good) (p .settings-good)
+  whole = let p = build-passed triangles s old made-passed in built-whole f triangles s (p .triangles-good) (p .settings-good)
 
   -- a tree over n triangles has at most 2n - 1 nodes: the room that the call asks for is enough
   pub made-few : nodes + 1 ≤ 2 * triangleCount triangles
   made-few = omega (arith, made-nodes, whole-nodes whole)
 
   -- after the call the lists hold the listing of the tree
-  pub made-listing : Listing (boxAt triangles) (triangleCount triangles) (take (triangleCount triangles) order′) links′ boxes′ nodes (builtTree f triangles s)
+  pub made-listing : Listing (boxAt triangles) (triangleCount triangles) (take (triangleCount triangles) (new .order)) (new .links) (new .boxes) nodes
+      (builtTree f triangles s)
   made-listing =
       let t : Tree = builtTree f triangles s in
-      let o : order′ ≡ overwrite 0 (numbers t) order = b .order-is ∙ ap (λ (v : Verdict). leftBy v (numbers t) order) made-passed in
-      let l : links′ ≡ overwrite 0 (linksFrom 0 0 t) links = b .links-are ∙ ap (λ (v : Verdict). leftBy v (linksFrom 0 0 t) links) made-passed in
-      let x : boxes′ ≡ overwrite 0 (boxesOf (boxAt triangles) t) boxes = b .boxes-are
-      ∙ ap (λ (v : Verdict). leftBy v (boxesOf (boxAt triangles) t) boxes) made-passed in
-      rw (o, l, x, made-nodes) (whole-listing whole (boxAt triangles) order links boxes)
+      let o : new .order ≡ overwrite 0 (numbers t) (old .order) = b .order-is ∙ ap (λ (v : Verdict). leftBy v (numbers t) (old .order)) made-passed in
+      let l : new .links ≡ overwrite 0 (linksFrom 0 0 t) (old .links) = b .links-are
+      ∙ ap (λ (v : Verdict). leftBy v (linksFrom 0 0 t) (old .links)) made-passed in
+      let x : new .boxes ≡ overwrite 0 (boxesOf (boxAt triangles) t) (old .boxes) = b .boxes-are
+      ∙ ap (λ (v : Verdict). leftBy v (boxesOf (boxAt triangles) t) (old .boxes)) made-passed in
+      rw (o, l, x, made-nodes) (whole-listing whole (boxAt triangles) (old .order) (old .links) (old .boxes))
 
   -- the tree that is built passes the tree check
-  pub made-accepted : accepted (boxAt triangles) (triangleCount triangles) (take (triangleCount triangles) order′) links′ boxes′ nodes ≡ true
+  pub made-accepted : accepted (boxAt triangles) (triangleCount triangles) (take (triangleCount triangles) (new .order)) (new .links) (new .boxes) nodes ≡ true
   made-accepted = listed-accepted (boxAt triangles) _ _ _ _ _ (builtTree f triangles s) made-listing
 
   -- the depth that is answered is the one that is read off the links
-  pub made-depth-read : depthOf links′ nodes ≡ depth
+  pub made-depth-read : depthOf (new .links) nodes ≡ depth
   made-depth-read = listing-depth (boxAt triangles) _ _ _ _ _ (builtTree f triangles s) made-listing ∙ sym made-depth

@@ -3,16 +3,17 @@ use mathlib.Core.Path.{_≡_, refl, sym, ap, ap₂, subst, _∙_}
 use mathlib.Core.List.{List, _++_, Permᴰ·symm}
 use Prim.Native.Nat.{ℕ, _+_, _-_, _*_, _≤_, _<_}
 use native.Mathlib.Omega.{arith}
-use lib.ListN.{length, take, drop, getD}
+use lib.ListN.{length, take, drop, getD, replicate, length-append, length-replicate}
 use lib.Seq.{getD-take, getD-drop, drop-at, length-take-le}
 use lib.Ieee.{Float, Format, nan}
-use Rattle.spec_tables.specs.Tables.{overwrite, concatMap}
+use Rattle.spec_tables.specs.Tables.{overwrite, concatMap, slice}
 use Rattle.spec_tables.proofs.Tables.{length-concatMap, length-overwrite, slice-concatMap}
+use Rattle.spec_numbers.specs.Values.{zero}
 use Rattle.spec_shapes.specs.Boxes.{Box, Proper}
 use Rattle.spec_shapes.specs.Plain.{PlainBox}
 use Rattle.spec_lists.specs.Limits.{maxTriangles}
 use Rattle.spec_lists.specs.Reading.{boxAt, triangleCount}
-use Rattle.spec_lists.specs.Refusals.{refused, Settings}
+use Rattle.spec_lists.specs.Refusals.{passes, refused, Settings}
 use Rattle.spec_lists.specs.Passed.{AllFit}
 use Rattle.spec_lists.proofs.Reading.{triangle-inside, box-at-proper, box-at-plain}
 use Rattle.spec_tree.specs.Trees.{Tree, numbers, levels, rootFrom, linksFrom, sixOf, boxesOf}
@@ -20,16 +21,17 @@ use Rattle.spec_tree.specs.Order.{range}
 use Rattle.spec_tables.specs.Each.{Each}
 use Rattle.spec_splits.specs.Splits.{boxIn}
 use Rattle.spec_tree.proofs.Trees.{root-last}
+use Rattle.spec_tree.proofs.Standing.{slice-length}
 use Rattle.spec_tables.proofs.Each.{each-permuted}
 use Rattle.spec_build.specs.Grown.{grown}
 use Rattle.spec_build.specs.Tries.{tried}
-use Rattle.spec_build.specs.Growing.{CentresNeeds, Centred, Tabled, Growable, GrownIs}
-use Rattle.spec_build.specs.Build.{builtTree, buildRefusal, made, notMade, BuildIs, BuildNeeds}
+use Rattle.spec_build.specs.Growing.{rows, CentresNeeds, Centred, Tabled, Growable, GrownIs}
+use Rattle.spec_build.specs.Build.{builtTree, Lists, buildRefusal, Built, made, notMade, BuildIs, Passed, TreeNeeds, TreeLeft}
 use Rattle.spec_build.proofs.Slices.{front-at}
 use Rattle.spec_build.proofs.Centres.{centre-number}
 use Rattle.spec_build.proofs.Alike.{Alike, tree-alike, listed-boxes-alike}
 use Rattle.spec_build.proofs.Built.{Whole, whole-nodes, front-overwrite, each-range, range-length, whole-count}
-use Rattle.spec_build.proofs.Build.{Passed, build-passed, built-whole}
+use Rattle.spec_build.proofs.Build.{built-whole}
 
 -- ---- the table of boxes is read as it was written
 -- the i-th element of a piece
@@ -63,11 +65,11 @@ module _ (boxFor : ℕ → Box) (n : ℕ) (old : List Float) where
       let g : getD table (6 * t + 3 + 2) nan ≡ boxFor t .max .z = read (6 * t + 3 + 2) t 5 h (omega arith) (omega arith) in
       λ i. record { min = record { x = a i; y = b i; z = c i }; max = record { x = d i; y = e i; z = g i } }
 
-module _ (f : Format) (triangles : List Float) (s : Settings) (bounds centres : List Float) (scratch order links : List ℕ) (boxes : List Float)
-    (h : BuildNeeds triangles s bounds centres scratch order links boxes)
-    (fit : AllFit f triangles) (count : ℕ) (count-is : count ≡ triangleCount triangles) where
-  passed : Passed triangles s order links boxes
-  passed = build-passed triangles s order links boxes (h .passed)
+-- ---- the tree of all triangles
+module _ (f : Format) (triangles : List Float) (s : Settings) (lent : Lists) (h : TreeNeeds triangles s lent) (fit : AllFit f triangles) (count : ℕ)
+    (count-is : count ≡ triangleCount triangles) where
+  passed : Passed triangles s lent
+  passed = h .passed
 
   few : count ≤ maxTriangles
   few = omega (arith, count-is, passed .triangles-good .few)
@@ -76,35 +78,38 @@ module _ (f : Format) (triangles : List Float) (s : Settings) (bounds centres : 
   some = omega (arith, count-is, passed .triangles-good .some)
 
   -- needs of the loop that puts the boxes of all triangles into their table
-  pub bounds-needs : (9 * count ≤ length triangles) × (6 * count ≤ length bounds)
-  bounds-needs = (omega (arith, count-is, passed .triangles-good .whole), omega (arith, few, h .bounds-long))
+  pub bounds-needs : (9 * count ≤ length triangles) × (6 * count ≤ length (lent .bounds))
+  bounds-needs = (omega (arith, count-is, passed .triangles-good .whole), omega (arith, count-is, passed .bounds-room))
 
   -- needs of the loop that numbers the triangles in the order list
-  pub order-needs : (count ≤ maxTriangles) × (count ≤ length order)
+  pub order-needs : (count ≤ maxTriangles) × (count ≤ length (lent .order))
   order-needs = (few, omega (arith, count-is, passed .order-room))
 
-  module _ (bounds′ : List Float) (bounds-are : bounds′ ≡ overwrite 0 (concatMap (λ t. sixOf (boxAt triangles t)) count) bounds) where
-    bounds-long′ : length bounds′ ≡ 6 * maxTriangles
+  module _ (bounds′ : List Float) (bounds-are : bounds′ ≡ overwrite 0 (concatMap (λ t. sixOf (boxAt triangles t)) count) (lent .bounds)) where
+    bounds-long′ : length bounds′ ≡ length (lent .bounds)
     bounds-long′ =
         ap length bounds-are
-        ∙ length-overwrite 0 (concatMap (λ t. sixOf (boxAt triangles t)) count) bounds
+        ∙ length-overwrite 0 (concatMap (λ t. sixOf (boxAt triangles t)) count) (lent .bounds)
         (omega (arith, length-concatMap (λ t. sixOf (boxAt triangles t)) 6 count (λ j. refl), bounds-needs .1))
-        ∙ h .bounds-long
+
+    -- a slice of the table of centres has an entry a triangle
+    rows-are : (centres′ : List Float) → length centres′ ≡ length (lent .centres) → rows centres′ ≡ count
+    rows-are centres′ e = omega (arith, count-is, h .centres-long)
 
     -- needs of the loop that puts the centres of all triangles into their table
-    pub centres-needs : CentresNeeds bounds′ count centres × (length centres ≡ 3 * maxTriangles)
-    centres-needs = (record { in-table = omega (arith, bounds-long′, few); few = few; room = omega (arith, few, h .centres-long) }, h .centres-long)
+    pub centres-needs : CentresNeeds bounds′ count (rows (lent .centres))
+    centres-needs = record { in-table = omega (arith, bounds-long′, bounds-needs .1); few = few; room = omega (arith, rows-are (lent .centres) refl) }
 
     read-again : (t : ℕ) → t < count → boxIn bounds′ t ≡ boxAt triangles t
-    read-again t w = ap (λ (l : List Float). boxIn l t) bounds-are ∙ table-read (boxAt triangles) count bounds t w
+    read-again t w = ap (λ (l : List Float). boxIn l t) bounds-are ∙ table-read (boxAt triangles) count (lent .bounds) t w
 
-    module _ (centres′ : List Float) (centred : Centred f bounds′ count centres centres′) (order′ : List ℕ)
-        (order-is : order′ ≡ overwrite 0 (range count) order) where
+    module _ (centres′ : List Float) (centred : Centred f bounds′ count (lent .centres) centres′) (order′ : List ℕ)
+        (order-is : order′ ≡ overwrite 0 (range count) (lent .order)) where
       front : take count order′ ≡ range count
-      front = ap (take count) order-is ∙ front-overwrite count (range count) order (range-length count)
+      front = ap (take count) order-is ∙ front-overwrite count (range count) (lent .order) (range-length count)
 
-      order-long : length order′ ≡ length order
-      order-long = ap length order-is ∙ length-overwrite 0 (range count) order (omega (arith, range-length count, order-needs .1))
+      order-long : length order′ ≡ length (lent .order)
+      order-long = ap length order-is ∙ length-overwrite 0 (range count) (lent .order) (omega (arith, range-length count, order-needs .1))
 
       -- the order list has an entry a triangle, so its front can be lent
       pub count-within : count ≤ length order′
@@ -116,8 +121,8 @@ module _ (f : Format) (triangles : List Float) (s : Settings) (bounds centres : 
           let e : boxAt triangles t ≡ boxIn bounds′ t = sym (read-again t w) in
           let proper = subst (λ (b : Box). Proper b) e (box-at-proper triangles (passed .triangles-good .coordinates) t inside) in
           record {
-            few = omega (arith, few);
-            in-table = omega (arith, bounds-long′, few);
+            few = omega (arith, rows-are centres′ (centred .long));
+            in-table = omega (arith, bounds-long′, bounds-needs .1);
             plain = subst (λ (b : Box). PlainBox f b) e (box-at-plain triangles (passed .triangles-good .coordinates) f fit t inside);
             proper = proper;
             centre-is = λ axis. centred .centre-is axis t w;
@@ -133,15 +138,14 @@ module _ (f : Format) (triangles : List Float) (s : Settings) (bounds centres : 
 
       -- needs of growing the tree from its root: all triangles are in the tables, and the lists have room
       pub grow-needs : (remaining : ℕ) → remaining ≡ s .maximumDepth - 1
-          → Growable f bounds′ centres′ (s .leafMinimum) remaining (take count order′) scratch 0 links boxes 0
+          → Growable f bounds′ centres′ (s .leafMinimum) remaining (take count order′) (lent .scratch) 0 (lent .links) (lent .boxes) 0
       grow-needs remaining e = record {
         tabled = front-tabled;
-        long = centred .long ∙ h .centres-long;
         leaf = passed .settings-good .leaf;
         shallow = omega (arith, passed .settings-good .depth);
         some = omega (arith, front-long, some);
         few = omega (arith, front-long, few);
-        scratch-room = omega (arith, front-long, few, h .scratch-long);
+        scratch-room = omega (arith, front-long, count-is, passed .scratch-room);
         room = record {
           links-room = omega (arith, front-long, some, count-is, passed .links-room);
           boxes-room = omega (arith, front-long, some, count-is, passed .boxes-room);
@@ -150,7 +154,8 @@ module _ (f : Format) (triangles : List Float) (s : Settings) (bounds centres : 
       }
 
       module _ (remaining : ℕ) (remaining-is : remaining ≡ s .maximumDepth - 1) (slice′ links′ : List ℕ) (boxes′ : List Float) (root deep : ℕ) (box : Box)
-          (g : GrownIs f bounds′ (s .strategy) (s .leafMinimum) remaining (take count order′) slice′ 0 links links′ boxes boxes′ 0 root deep box) where
+          (g : GrownIs f bounds′ (s .strategy) (s .leafMinimum) remaining (take count order′) slice′ 0 (lent .links) links′ (lent .boxes) boxes′ 0 root deep
+          box) where
         whole : Tree
         whole = builtTree f triangles s
 
@@ -184,30 +189,99 @@ module _ (f : Format) (triangles : List Float) (s : Settings) (bounds centres : 
         numbers-long : length (numbers (builtTree f triangles s)) ≡ count
         numbers-long = whole-count tree-whole ∙ sym count-is
 
-        order-now : slice′ ++ drop count order′ ≡ overwrite 0 (numbers (builtTree f triangles s)) order
+        order-now : slice′ ++ drop count order′ ≡ overwrite 0 (numbers (builtTree f triangles s)) (lent .order)
         unfolding overwrite
         order-now =
-            let rest : drop count order′ ≡ drop (0 + length (range count)) order =
-            ap (drop count) order-is ∙ drop-at (range count) (drop (0 + length (range count)) order) count (range-length count) in
+            let rest : drop count order′ ≡ drop (0 + length (range count)) (lent .order) =
+            ap (drop count) order-is ∙ drop-at (range count) (drop (0 + length (range count)) (lent .order)) count (range-length count) in
             let same : length (range count) ≡ length (numbers (builtTree f triangles s)) = range-length count ∙ sym numbers-long in
-            ap₂ (λ (a b : List ℕ). a ++ b) (g .order-is ∙ ap numbers same-tree) (rest ∙ ap (λ (n : ℕ). drop (0 + n) order) same)
+            ap₂ (λ (a b : List ℕ). a ++ b) (g .order-is ∙ ap numbers same-tree) (rest ∙ ap (λ (n : ℕ). drop (0 + n) (lent .order)) same)
 
-        -- tables, order and growing together leave what the definition of the build says
-        pub build-gives : BuildIs f triangles s order links boxes (made (root + 1) deep) (slice′ ++ drop count order′) links′ boxes′
-        build-gives = rw (h .passed) record {
+        -- tables, order and growing together leave the tree that the definition of the build says
+        pub tree-left : TreeLeft (boxAt triangles) (builtTree f triangles s) (lent .order) (lent .links) (lent .boxes) (made (root + 1) deep)
+            (slice′ ++ drop count order′) links′ boxes′
+        tree-left = record {
           answer-is =
               ap₂ made (ap (λ (n : ℕ). n + 1) (g .written .root-is ∙ ap (rootFrom 0) same-tree) ∙ root-last 0 (builtTree f triangles s) ∙ omega arith)
               (g .written .levels-are ∙ ap levels same-tree);
           order-is = order-now;
-          links-are = g .written .links-are ∙ ap (λ (t : Tree). overwrite 0 (linksFrom 0 0 t) links) same-tree;
+          links-are = g .written .links-are ∙ ap (λ (t : Tree). overwrite 0 (linksFrom 0 0 t) (lent .links)) same-tree;
           boxes-are =
-              g .written .boxes-are ∙ ap (λ (t : Tree). overwrite 0 (boxesOf (boxIn bounds′) t) boxes) same-tree
-              ∙ ap (λ (l : List Float). overwrite 0 l boxes) same-boxes;
+              g .written .boxes-are ∙ ap (λ (t : Tree). overwrite 0 (boxesOf (boxIn bounds′) t) (lent .boxes)) same-tree
+              ∙ ap (λ (l : List Float). overwrite 0 l (lent .boxes)) same-boxes;
         }
 
--- ---- what was refused
+-- ---- the working lists
+-- needs of growing the tree, where the fronts of the working lists are lent
+pub fronts-lent : (triangles : List Float) (s : Settings) (lent : Lists) → Passed triangles s lent → (b c r : ℕ) → b ≡ 6 * triangleCount triangles
+    → c ≡ 3 * triangleCount triangles → r ≡ triangleCount triangles
+    → TreeNeeds triangles s (record {
+      order = lent .order;
+      links = lent .links;
+      boxes = lent .boxes;
+      bounds = slice (lent .bounds) 0 b;
+      centres = slice (lent .centres) 0 c;
+      scratch = slice (lent .scratch) 0 r;
+    })
+fronts-lent triangles s lent p b c r b-is c-is r-is =
+    let long : length (slice (lent .centres) 0 c) ≡ c = slice-length (lent .centres) 0 c (omega (arith, p .centres-room)) in
+    record {
+      passed = record {
+        triangles-good = p .triangles-good;
+        settings-good = p .settings-good;
+        order-room = p .order-room;
+        links-room = p .links-room;
+        boxes-room = p .boxes-room;
+        bounds-room = omega (arith, slice-length (lent .bounds) 0 b (omega (arith, p .bounds-room)));
+        centres-room = omega (arith, long);
+        scratch-room = omega (arith, slice-length (lent .scratch) 0 r (omega (arith, p .scratch-room)));
+      };
+      centres-long = long ∙ c-is;
+    }
+
+module _ {A : Type 0} (k size : ℕ) (front old : List A) (sized : size ≡ k) (room : k ≤ length old) (kept : length front ≡ length (slice old 0 size)) where
+  long : length front ≡ size
+  long = kept ∙ slice-length old 0 size (omega arith)
+
+  -- a front that was lent and came back is still there to be cleared
+  pub front-within : k ≤ length (front ++ drop size old)
+  front-within = omega (arith, long, length-append front (drop size old))
+
+  -- cleared, it holds one value, and behind it the list is as it was
+  pub front-cleared : (x : A) (new : List A) → new ≡ overwrite 0 (replicate k x) (front ++ drop size old) → new ≡ overwrite 0 (replicate k x) old
+  unfolding overwrite
+  front-cleared x new e =
+      let filled : 0 + length (replicate k x) ≡ size = omega (arith, length-replicate k x) in
+      e
+      ∙ ap (λ (l : List A). replicate k x ++ l)
+      (ap (λ (n : ℕ). drop n (front ++ drop size old)) filled ∙ drop-at front (drop size old) size long ∙ ap (λ (n : ℕ). drop n old) (sym filled))
+
+-- ---- the call
+-- what passed: the tree that was left, and the working lists once they are cleared, are what the definition says
+pub passed-gives : (f : Format) (triangles : List Float) (s : Settings) (old : Lists) (answer : Built) (new : Lists) (count : ℕ)
+    → buildRefusal triangles s old ≡ passes → count ≡ triangleCount triangles
+    → TreeLeft (boxAt triangles) (builtTree f triangles s) (old .order) (old .links) (old .boxes) answer (new .order) (new .links) (new .boxes)
+    → new .bounds ≡ overwrite 0 (replicate (6 * count) zero) (old .bounds) → new .centres ≡ overwrite 0 (replicate (3 * count) zero) (old .centres)
+    → new .scratch ≡ overwrite 0 (replicate count 0) (old .scratch) → BuildIs f triangles s old answer new
+passed-gives f triangles s old answer new count e n t bounds centres scratch = rw e record {
+  answer-is = t .answer-is;
+  order-is = t .order-is;
+  links-are = t .links-are;
+  boxes-are = t .boxes-are;
+  bounds-are = rw (← n) bounds;
+  centres-are = rw (← n) centres;
+  scratch-is = rw (← n) scratch;
+}
+
 -- a refusal that leaves the lists as they were is what the definition says of it
-pub refusal-gives : (f : Format) (triangles : List Float) (s : Settings) (order links : List ℕ) (boxes : List Float) (number place : ℕ)
-    → buildRefusal triangles s (length order) (length links) (length boxes) ≡ refused number place
-    → BuildIs f triangles s order links boxes (notMade number place) order links boxes
-refusal-gives f triangles s order links boxes number place e = rw e record { answer-is = refl; order-is = refl; links-are = refl; boxes-are = refl }
+pub refusal-gives : (f : Format) (triangles : List Float) (s : Settings) (lent : Lists) (number place : ℕ)
+    → buildRefusal triangles s lent ≡ refused number place → BuildIs f triangles s lent (notMade number place) lent
+refusal-gives f triangles s lent number place e = rw e record {
+  answer-is = refl;
+  order-is = refl;
+  links-are = refl;
+  boxes-are = refl;
+  bounds-are = refl;
+  centres-are = refl;
+  scratch-is = refl;
+}

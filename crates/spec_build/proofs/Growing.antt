@@ -120,7 +120,7 @@ module _ (f : Format) (bounds centres : List Float) (strategy leafMinimum : ℕ)
 
       -- needs of the tries: beyond the limits a slice has two triangles or more
       pub try-needs : Triable f bounds centres slice scratch
-      try-needs = record { tabled = h .tabled; long = h .long; some = omega (arith, h .leaf, large); few = omega (arith, h .few); room = h .scratch-room }
+      try-needs = record { tabled = h .tabled; some = omega (arith, h .leaf, large); few = omega (arith, h .few); room = h .scratch-room }
 
       module _ (slice′ : List ℕ) (split : Split) (tried-is : splitAs slice′ split ≡ tried f (boxIn bounds) strategy slice) where
         same : List·Permᴰ slice′ slice
@@ -180,7 +180,6 @@ module _ (f : Format) (bounds centres : List Float) (strategy leafMinimum : ℕ)
               → Growable f bounds centres leafMinimum (remaining - 1) (take k slice′) scratch′ entry links boxes node
           left-needs scratch′ e = record {
             tabled = each-take (Tabled f bounds centres) k slice′ tabled;
-            long = h .long;
             leaf = h .leaf;
             shallow = omega (arith, h .shallow);
             some = left-some;
@@ -258,7 +257,6 @@ module _ (f : Format) (bounds centres : List Float) (strategy leafMinimum : ℕ)
                 → Growable f bounds centres leafMinimum (remaining - 1) (drop k slice′) scratch″ (entry + k) mid bmid (leftRoot + 1)
             right-needs-of scratch″ e = record {
               tabled = each-drop (Tabled f bounds centres) k slice′ tabled;
-              long = h .long;
               leaf = h .leaf;
               shallow = omega (arith, h .shallow);
               some = right-some;

@@ -1,37 +1,32 @@
 -- A slice, tried, over plain lists: what the sort and the rule need of it, what they give, and the tries in turn.
 use mathlib.Core.Path.{_≡_, refl, sym, ap, ap₂, subst, _∙_}
 use mathlib.Core.List.{List, [], _∷_, map, List·Permᴰ, Permᴰ·symm}
-use Prim.Native.Nat.{ℕ, _*_, _<_}
+use Prim.Native.Nat.{ℕ, _<_}
 use native.Mathlib.Omega.{arith}
 use lib.ListN.{length}
 use lib.Ieee.{Float, Format, lt}
 use Rattle.spec_numbers.specs.Axes.{Axis}
-use Rattle.spec_lists.specs.Limits.{maxTriangles}
 use Rattle.spec_shapes.specs.Points.{on}
 use Rattle.spec_shapes.specs.Boxes.{Box, sizes}
 use Rattle.spec_tables.specs.Each.{Each}
 use Rattle.spec_sort.specs.Sort.{Keyed, byKey, sorted}
-use Rattle.spec_splits.specs.Splits.{Split, cutAt, nowhere, place, boxIn, unionOf}
+use Rattle.spec_splits.specs.Splits.{Split, cutAt, nowhere, boxIn, unionOf}
 use Rattle.spec_tree.proofs.Order.{permuted-length}
-use Rattle.spec_tree.proofs.Standing.{slice-length}
 use Rattle.spec_tables.proofs.Each.{each-weaker, each-at, each-permuted}
 use Rattle.spec_sort.proofs.Permutes.{sorted-permutes}
-use Rattle.spec_splits.proofs.Table.{place-below}
 use Rattle.spec_build.specs.Grown.{Tried, cut, uncut, sliceOf}
 use Rattle.spec_build.specs.Tries.{axesBySize, rule, splitAs, orElse, isBefore, sortedOn, triedOn, triedIn, triedWithin, tried}
 use Rattle.spec_build.specs.Growing.{keysOn, Tabled, SortNeeds, RuleNeeds, Triable}
+use Rattle.spec_build.proofs.Tabling.{keys-long}
 use Rattle.spec_build.proofs.Tries.{split-slice, tried-on-permutes}
 use Rattle.spec_build.proofs.Alike.{sorted-alike}
 use Rattle.spec_build.proofs.Boxes.{union-is-joined}
 
 module _ (f : Format) (bounds centres : List Float) where
   -- ---- sorting
-  module _ (axis : Axis) (long : length centres ≡ 3 * maxTriangles) where
-    keys-long : length (keysOn axis centres) ≡ maxTriangles
-    keys-long = slice-length centres (place axis * maxTriangles) maxTriangles (omega (arith, place-below axis))
-
+  module _ (axis : Axis) where
     tabled-keyed : (t : ℕ) → Tabled f bounds centres t → Keyed (keysOn axis centres) t
-    tabled-keyed t h = record { within = omega (arith, h .few, keys-long); number = rw (h .centre-is axis) (h .centred axis) }
+    tabled-keyed t h = record { within = omega (arith, h .few, keys-long axis centres _ _ refl refl); number = rw (h .centre-is axis) (h .centred axis) }
 
   sorted-as-defined : (axis : Axis) (slice : List ℕ) → Each (Tabled f bounds centres) slice
       → sorted (byKey (keysOn axis centres)) slice ≡ sortedOn f (boxIn bounds) axis slice
@@ -43,7 +38,7 @@ module _ (f : Format) (bounds centres : List Float) where
   module _ {slice scratch : List ℕ} (h : Triable f bounds centres slice scratch) where
     -- needs of the sort, of a slice that may be tried
     pub try-sort-needs : (axis : Axis) → SortNeeds axis centres slice scratch
-    try-sort-needs axis = record { keyed = each-weaker _ _ (tabled-keyed axis (h .long)) slice (h .tabled); long = h .long; room = h .room }
+    try-sort-needs axis = record { keyed = each-weaker _ _ (tabled-keyed axis) slice (h .tabled); room = h .room }
 
     -- in any other order it may be tried again
     triable-again : (slice′ scratch′ : List ℕ) → List·Permᴰ slice′ slice → length scratch′ ≡ length scratch → Triable f bounds centres slice′ scratch′
@@ -51,7 +46,6 @@ module _ (f : Format) (bounds centres : List Float) where
         let same : length slice′ ≡ length slice = permuted-length p in
         record {
           tabled = each-permuted (Tabled f bounds centres) (Permᴰ·symm p) (h .tabled);
-          long = h .long;
           some = omega (arith, h .some);
           few = omega (arith, h .few);
           room = omega (arith, h .room);

@@ -1,7 +1,7 @@
 -- What growing a slice of the order list needs of the tables and the lists that are lent, and what it leaves in them.
 use mathlib.Core.Path.{_≡_}
 use mathlib.Core.List.{List, [], _∷_}
-use Prim.Native.Nat.{ℕ, _+_, _*_, _≤_, _<_, max}
+use Prim.Native.Nat.{ℕ, _+_, _*_, _/_, _≤_, _<_, max}
 use lib.ListN.{length, getD}
 use lib.Ieee.{Float, Format, nan}
 use Rattle.spec_tables.specs.Tables as Tables
@@ -18,24 +18,28 @@ use Rattle.spec_build.specs.Grown.{grown}
 use Rattle.spec_build.specs.Tries.{centreOn, tried}
 
 -- ---- the tables
+-- the table of centres is three slices of this length, one an axis
+abbrev pub rows : List Float → ℕ
+rows centres = length centres / 3
+
 -- the centres on one axis, by triangle number
 abbrev pub keysOn : Axis → List Float → List Float
-keysOn axis centres = Tables.slice centres (place axis * maxTriangles) maxTriangles
+keysOn axis centres = Tables.slice centres (place axis * rows centres) (rows centres)
 
 -- what the tables have of triangle t
 pub record Tabled (f : Format) (bounds centres : List Float) (t : ℕ) : Type 0 where
-  pub few : t < maxTriangles
+  pub few : t < rows centres
   pub in-table : InTable bounds t
   pub plain : PlainBox f (boxIn bounds t)
   pub proper : Proper (boxIn bounds t)
   pub centre-is : (axis : Axis) → getD (keysOn axis centres) t nan ≡ centreOn f (boxIn bounds) axis t
   pub centred : (axis : Axis) → Number (centreOn f (boxIn bounds) axis t)
 
--- needs of making the centres of the first `count` triangles
-pub record CentresNeeds (bounds : List Float) (count : ℕ) (keys : List Float) : Type 0 where
+-- needs of making the centres of the first `count` triangles, in slices of this length
+pub record CentresNeeds (bounds : List Float) (count size : ℕ) : Type 0 where
   pub in-table : 6 * count ≤ length bounds
   pub few : count ≤ maxTriangles
-  pub room : count ≤ length keys
+  pub room : count ≤ size
 
 -- the centres on this axis stand in their slice of the table, and the rest is as it was
 pub record CentresPut (f : Format) (bounds : List Float) (axis : Axis) (count : ℕ) (old new : List Float) : Type 0 where
@@ -52,7 +56,6 @@ pub record Centred (f : Format) (bounds : List Float) (count : ℕ) (old new : L
 -- needs of sorting a slice on an axis
 pub record SortNeeds (axis : Axis) (centres : List Float) (slice scratch : List ℕ) : Type 0 where
   pub keyed : Each (Keyed (keysOn axis centres)) slice
-  pub long : length centres ≡ 3 * maxTriangles
   pub room : length slice ≤ length scratch
 
 -- needs of the rule
@@ -64,7 +67,6 @@ pub record RuleNeeds (f : Format) (bounds : List Float) (slice : List ℕ) : Typ
 -- needs of a try: of the sort and of the rule, on one axis or on all
 pub record Triable (f : Format) (bounds centres : List Float) (slice scratch : List ℕ) : Type 0 where
   pub tabled : Each (Tabled f bounds centres) slice
-  pub long : length centres ≡ 3 * maxTriangles
   pub some : 2 ≤ length slice
   pub few : length slice ≤ maxTriangles
   pub room : length slice ≤ length scratch
@@ -80,7 +82,6 @@ pub record RoomFor (count node : ℕ) (links : List ℕ) (boxes : List Float) : 
 pub record Growable (f : Format) (bounds centres : List Float) (leafMinimum remaining : ℕ) (slice scratch : List ℕ) (entry : ℕ) (links : List ℕ)
     (boxes : List Float) (node : ℕ) : Type 0 where
   pub tabled : Each (Tabled f bounds centres) slice
-  pub long : length centres ≡ 3 * maxTriangles
   pub leaf : 1 ≤ leafMinimum
   pub shallow : remaining ≤ deepest
   pub some : 1 ≤ length slice

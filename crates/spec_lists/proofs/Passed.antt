@@ -46,7 +46,7 @@ module _ (number : ℕ) (xs : List Float) where
 
 -- ---- triangles
 module _ (xs : List Float) where
-  -- a triangle list that passed is whole, has 1 to 4,096 triangles, and coordinates only
+  -- a triangle list that passed is whole, has 1 to 65,536 triangles, and coordinates only
   pub triangles-passed : trianglesRefusal xs ≡ passes → GoodTriangles xs
   unfolding trianglesRefusal raggedRefusal noneRefusal tooManyRefusal triangleCount
   triangles-passed e =

@@ -6,7 +6,7 @@ use lib.Ieee.{Float, fin}
 
 -- the max number of triangles of a list
 abbrev pub maxTriangles : ℕ
-maxTriangles = 4096
+maxTriangles = 65536
 
 -- 1,048,576: the max magnitude of a coordinate
 abbrev pub furthestCoordinate : Float
@@ -22,4 +22,4 @@ deepest = 64
 
 -- the max leaf minimum, which is the count up to which a leaf is made
 abbrev pub maxLeafMinimum : ℕ
-maxLeafMinimum = 4096
+maxLeafMinimum = 65536

@@ -19,7 +19,7 @@ AllCoordinates xs = (i : ℕ) → i < length xs → T (isCoordinate (getD xs i n
 abbrev pub AllFit : Format → List Float → Type 0
 AllFit f xs = (i : ℕ) → i < length xs → T (fits f (getD xs i nan))
 
--- a list of 1 to 4,096 whole triangles in range
+-- a list of 1 to 65,536 whole triangles in range
 pub record GoodTriangles (xs : List Float) : Type 0 where
   pub whole : length xs ≡ 9 * triangleCount xs
   pub some : 1 ≤ triangleCount xs

@@ -1,4 +1,4 @@
-// Trees of up to 4,096 triangles that a rule of numbers makes, printed as counts and digests.
+// Trees of up to 4,097 triangles that a rule of numbers makes, printed as counts and digests.
 use build::calls::Built;
 
 struct Case {
@@ -65,8 +65,8 @@ fn put_tree(nodes: usize, depth: usize, order: &[u32], links: &[u32], boxes: &[f
     put(nodes as u64);
     put(depth as u64);
     put(digest_numbers(order));
-    let kinds = 3 * (nodes % 8192);
-    let numbers = 6 * (nodes % 8192);
+    let kinds = 3 * (nodes % 8194);
+    let numbers = 6 * (nodes % 8194);
     if kinds <= links.len() {
         put(digest_numbers(&links[0..kinds]));
     }
@@ -91,6 +91,9 @@ fn build_into(
     links: &mut [u32],
     boxes: &mut [f32],
 ) {
+    let mut bounds = [7.0f32; 24582];
+    let mut centres = [7.0f32; 12291];
+    let mut scratch = [7u32; 4097];
     let built = build::calls::build(
         triangles,
         case.strategy,
@@ -99,6 +102,9 @@ fn build_into(
         order,
         links,
         boxes,
+        &mut bounds,
+        &mut centres,
+        &mut scratch,
     );
     match built {
         Built::Refused { number, place } => {
@@ -110,17 +116,17 @@ fn build_into(
 }
 
 fn build_case(case: Case, triangles: &[f32]) {
-    let mut all = [7u32; 4096];
-    let mut links = [7u32; 24573];
-    let mut boxes = [7.0f32; 49146];
-    let order = &mut all[0..case.triangles % 4097];
+    let mut all = [7u32; 4097];
+    let mut links = [7u32; 24579];
+    let mut boxes = [7.0f32; 49158];
+    let order = &mut all[0..case.triangles % 4098];
     build_into(case, triangles, order, &mut links, &mut boxes);
 }
 
 fn run(case: Case) {
     put_case(case);
-    let mut all = [0.0f32; 36864];
-    let triangles = &mut all[0..9 * (case.triangles % 4097)];
+    let mut all = [0.0f32; 36873];
+    let triangles = &mut all[0..9 * (case.triangles % 4098)];
     fill(triangles, case.range);
     build_case(case, triangles);
 }
@@ -145,6 +151,8 @@ fn run_both(triangles: usize, leaf_minimum: usize, maximum_depth: usize, range: 
 pub(crate) fn put_all() {
     run_both(4096, 1, 64, 1000);
     run_both(4096, 10, 40, 100000);
+    run_both(4097, 1, 64, 1000);
+    run_both(4097, 4097, 40, 1000);
     run_both(4095, 1, 12, 15);
     run_both(2048, 2, 64, 0);
     run_both(1000, 3, 40, 31);

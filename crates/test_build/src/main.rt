@@ -1,5 +1,5 @@
 // Prints what the build makes of many triangles, and what it answers where the room just suffices or just does not.
-// The file `stdout` beside src/ has the trees of the Rust, from tests/oracle/large.rs, and at its end four lines written by hand.
+// The file `stdout` beside src/ has the trees of the Rust, from tests/oracle/large.rs, and at its end eight lines written by hand.
 mod large;
 mod rooms;
 

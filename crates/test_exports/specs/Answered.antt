@@ -10,7 +10,7 @@ use Rattle.spec_lists.specs.Reading.{boxAt, triangleAt, triangleCount, pointAt}
 use Rattle.spec_lists.specs.Refusals.{Verdict, passes, refused, refuses, trianglesRefusal, Settings}
 use Rattle.spec_tree.specs.Accepted.{accepted}
 use Rattle.spec_tree.specs.Depth.{DepthFound, deep, notDeep}
-use Rattle.spec_build.specs.Build.{Built, made, notMade, BuildIs}
+use Rattle.spec_build.specs.Build.{Lists, Built, made, notMade, BuildIs}
 use Rattle.spec_search.specs.Sure.{limitOf, sureWalk}
 use Rattle.spec_angles.specs.Winding.{solidAngle}
 
@@ -35,10 +35,9 @@ depthAnswered (made nodes depth) = depth
 depthAnswered (notMade number place) = 0
 
 -- a build, of whose answer the call returns one number
-pub record BuildAnswered (answered : Built → ℕ) (f : Format) (triangles : List Float) (s : Settings) (order links : List ℕ) (boxes : List Float) (r : ℕ)
-    (order′ links′ : List ℕ) (boxes′ : List Float) : Type 0 where
+pub record BuildAnswered (answered : Built → ℕ) (f : Format) (triangles : List Float) (s : Settings) (old : Lists) (r : ℕ) (new : Lists) : Type 0 where
   pub answer : Built
-  pub built : BuildIs f triangles s order links boxes answer order′ links′ boxes′
+  pub built : BuildIs f triangles s old answer new
   pub answered-is : r ≡ answered answer
 
 -- how many triangles the sure search measures for the first point; 0 where the lists do not pass or there is no point

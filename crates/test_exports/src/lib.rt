@@ -73,12 +73,29 @@ pub extern "C" fn timing_build(
     order: &mut [u32],
     links: &mut [u32],
     boxes: &mut [f32],
+    bounds: &mut [f32],
+    centres: &mut [f32],
+    scratch: &mut [u32],
 ) -> usize
     ensures { λ r. ⌜ Answered.BuildAnswered Answered.nodesAnswered binary32 (now (triangles .entry)) (record {
       strategy = strategy;
       leafMinimum = «leaf_minimum»;
       maximumDepth = «maximum_depth»;
-    }) (now (order .entry)) (now (links .entry)) (now (boxes .entry)) r (now (order .exit)) (now (links .exit)) (now (boxes .exit)) ⌝ }
+    }) (record {
+      order = now (order .entry);
+      links = now (links .entry);
+      boxes = now (boxes .entry);
+      bounds = now (bounds .entry);
+      centres = now (centres .entry);
+      scratch = now (scratch .entry);
+    }) r (record {
+      order = now (order .exit);
+      links = now (links .exit);
+      boxes = now (boxes .exit);
+      bounds = now (bounds .exit);
+      centres = now (centres .exit);
+      scratch = now (scratch .exit);
+    }) ⌝ }
 {
     let built = build::calls::build(
         triangles,
@@ -88,6 +105,9 @@ pub extern "C" fn timing_build(
         order,
         links,
         boxes,
+        bounds,
+        centres,
+        scratch,
     );
     nodes_answered(built)
 }
@@ -102,12 +122,29 @@ pub extern "C" fn timing_depth(
     order: &mut [u32],
     links: &mut [u32],
     boxes: &mut [f32],
+    bounds: &mut [f32],
+    centres: &mut [f32],
+    scratch: &mut [u32],
 ) -> usize
     ensures { λ r. ⌜ Answered.BuildAnswered Answered.depthAnswered binary32 (now (triangles .entry)) (record {
       strategy = strategy;
       leafMinimum = «leaf_minimum»;
       maximumDepth = «maximum_depth»;
-    }) (now (order .entry)) (now (links .entry)) (now (boxes .entry)) r (now (order .exit)) (now (links .exit)) (now (boxes .exit)) ⌝ }
+    }) (record {
+      order = now (order .entry);
+      links = now (links .entry);
+      boxes = now (boxes .entry);
+      bounds = now (bounds .entry);
+      centres = now (centres .entry);
+      scratch = now (scratch .entry);
+    }) r (record {
+      order = now (order .exit);
+      links = now (links .exit);
+      boxes = now (boxes .exit);
+      bounds = now (bounds .exit);
+      centres = now (centres .exit);
+      scratch = now (scratch .exit);
+    }) ⌝ }
 {
     let built = build::calls::build(
         triangles,
@@ -117,6 +154,9 @@ pub extern "C" fn timing_depth(
         order,
         links,
         boxes,
+        bounds,
+        centres,
+        scratch,
     );
     depth_answered(built)
 }

@@ -28,14 +28,13 @@ fn put_verdict(v: Verdict) {
     }
 }
 
-// A triangle list of `length` zeros.
-fn put_length(length: usize)
-    requires { ⌜ length ≤ 36873 ⌝ }
-{
-    let zeros = [0.0; 36873];
-    io::write_all(1, b"length ");
-    put_number(length);
-    put_verdict(triangles_refusal(&zeros[0..length]));
+// A triangle list of the first `length` zeros.
+fn put_length(zeros: &[f32], length: usize) {
+    if length <= zeros.len() {
+        io::write_all(1, b"length ");
+        put_number(length);
+        put_verdict(triangles_refusal(&zeros[0..length]));
+    }
 }
 
 // Two triangles, all zeros but for the number with this pattern at this place.
@@ -92,13 +91,21 @@ fn put_room(given: usize, need: usize) {
     put_verdict(room_refusal(given, need));
 }
 
-fn put_lengths() {
-    put_length(0);
-    put_length(8);
-    put_length(9);
-    put_length(36864);
-    put_length(36865);
-    put_length(36873);
+// None, a part of one, one, 4,096 and 4,097 triangles, 65,536, a part of one more and 65,537.
+fn put_lengths(zeros: &[f32]) {
+    put_length(zeros, 0);
+    put_length(zeros, 8);
+    put_length(zeros, 9);
+    put_length(zeros, 36864);
+    put_length(zeros, 36873);
+    put_length(zeros, 589824);
+    put_length(zeros, 589825);
+    put_length(zeros, 589833);
+}
+
+fn put_all_lengths() {
+    let zeros = [0.0; 589833];
+    put_lengths(&zeros);
 }
 
 // A NaN first and last, infinities, 1,048,576 and 1,048,576.125 with both signs, the smallest
@@ -146,11 +153,13 @@ fn put_all_settings() {
     put_settings(3, 1, 0);
     put_settings(1, 0, 0);
     put_settings(1, 4097, 0);
+    put_settings(2, 65536, 64);
+    put_settings(1, 65537, 0);
     put_settings(1, 1, 65);
 }
 
 fn main() {
-    put_lengths();
+    put_all_lengths();
     put_all_triangles();
     put_all_points();
     put_distances();

@@ -199,6 +199,9 @@ fn built_tree(
     boxes: &mut [f32],
     tally: Tally,
 ) -> Tally {
+    let mut bounds = [7.0f32; 144];
+    let mut centres = [7.0f32; 72];
+    let mut scratch = [7u32; 24];
     let built = build::calls::build(
         triangles,
         head.strategy,
@@ -207,6 +210,9 @@ fn built_tree(
         order,
         links,
         boxes,
+        &mut bounds,
+        &mut centres,
+        &mut scratch,
     );
     compare_tree(
         bytes,

@@ -7,6 +7,9 @@ ghost use Rattle.spec_tree.specs.Order as Order;
 use crate::nodes::wide;
 use lists::limits;
 
+// So many marks are cleared for a list that is no longer: over a small drawing, clearing all would take longer than the check.
+const FEW: usize = 4096;
+
 // Marks each entry in `seen`. Answers false at an entry that is too large or marked already.
 fn marks_all(n: usize, order: &[u32], seen: &mut [bool]) -> bool
     requires long { ⌜ length (now order) ≡ n ⌝ }
@@ -35,6 +38,10 @@ pub fn is_permutation(n: usize, order: &[u32]) -> bool
 {
     if order.len() != n {
         return false;
+    }
+    if n <= FEW {
+        let mut few = [false; FEW];
+        return marks_all(n, order, &mut few);
     }
     let mut seen = [false; limits::MAX_TRIANGLES];
     marks_all(n, order, &mut seen)
