@@ -1,3 +1,4 @@
+pub mod Wide
 pub mod Links
 pub mod RoundTrip
 pub mod Taken

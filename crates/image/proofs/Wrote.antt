@@ -4,11 +4,11 @@ use Prim.Native.Nat.{ℕ, _≤_}
 use mathlib.Core.List.{List}
 use lib.ListN.{length}
 use Rattle.spec_tables.specs.Tables.{Put}
-use Rattle.spec_records.specs.Layouts.{version1, imageSize}
+use Rattle.spec_records.specs.Layouts.{imageSize}
 use Rattle.spec_lists.specs.Refusals.{passes, refused}
 use Rattle.spec_image.specs.Image.{Image, imageBytes}
 use Rattle.spec_image.specs.Stored.{Complete}
-use Rattle.spec_image.specs.Writing.{writeRefusal, imageWritten, bytesAfter}
+use Rattle.spec_image.specs.Writing.{versionOf, writeRefusal, imageWritten, bytesAfter}
 use Rattle.spec_image.proofs.Writing.{Good, write-passed, good-count, good-complete}
 use Rattle.lists.specs.Values.{asVerdict}
 use Rattle.lists.specs.declared.verdict.Verdict.{Verdict}
@@ -16,27 +16,27 @@ use Rattle.lists.specs.declared.verdict.Verdict.the-variants.{Passed, Refused}
 use Rattle.image.specs.Values.{WrittenIs}
 use Rattle.image.specs.declared.write.ImageWritten.the-variants as Written
 
-module _ (x : Image) (out : List ℕ) {v : Verdict} (tests : asVerdict v ≡ writeRefusal version1 x (length out)) where
+module _ (x : Image) (out : List ℕ) {v : Verdict} (tests : asVerdict v ≡ writeRefusal x (length out)) where
   -- a refusal leaves the bytes as they were
   pub wrote-nothing : {number place : ℕ} → v ≡ Refused number place → WrittenIs x (Written.Refused number place) out out
   unfolding imageWritten bytesAfter
   wrote-nothing {number} {place} e =
-      let r : writeRefusal version1 x (length out) ≡ refused number place = sym tests ∙ ap asVerdict e in
+      let r : writeRefusal x (length out) ≡ refused number place = sym tests ∙ ap asVerdict e in
       record { answer = rw r; filled = rw r }
 
   module _ (e : v ≡ Passed) where
-    passed : writeRefusal version1 x (length out) ≡ passes
+    passed : writeRefusal x (length out) ≡ passes
     passed = sym tests ∙ ap asVerdict e
 
     good : Good x
-    good = write-passed version1 x (length out) passed .0
+    good = write-passed x (length out) passed .0
 
     -- where the tests pass, the image is complete and the bytes have room for it
-    pub can-put : Complete x × imageSize version1 (length (x .order)) (x .nodes) ≤ length out
-    can-put = (good-complete x good, rw (good-count x good) (write-passed version1 x (length out) passed .1))
+    pub can-put : Complete x × imageSize (versionOf x) (length (x .order)) (x .nodes) ≤ length out
+    can-put = (good-complete x good, rw (good-count x good) (write-passed x (length out) passed .1))
 
     -- where the tests pass, the image stands at the front of the bytes
-    pub wrote-image : {n : ℕ} {out′ : List ℕ} → Put 0 (imageBytes version1 x) out out′ n → n ≡ imageSize version1 (length (x .order)) (x .nodes)
+    pub wrote-image : {n : ℕ} {out′ : List ℕ} → Put 0 (imageBytes (versionOf x) x) out out′ n → n ≡ imageSize (versionOf x) (length (x .order)) (x .nodes)
         → WrittenIs x (Written.Bytes n) out out′
     unfolding imageWritten bytesAfter
     wrote-image p size = record { answer = rw (passed, size, good-count x good); filled = rw passed (p .written) }

@@ -8,7 +8,6 @@ use Rattle.lists.specs.Values.{asSettings}
 use mathlib.Core.Path.{_≡_}
 use Rattle.spec_tables.specs.Tables.{overwrite}
 use lib.ListN.{length}
-use Rattle.spec_records.specs.Layouts.{version1}
 use Rattle.spec_image.specs.Reading as Reading
 use Rattle.spec_image.specs.Writing as Writing
 use Rattle.image.specs.declared.read.Rooms.{Rooms}
@@ -62,8 +61,8 @@ roomsIn t o l b = record { triangles = length t; order = length o; links = lengt
 
 -- what reading an image answers and leaves: the layout, then the room, then the lists
 pub record ReadIs (s : List ℕ) (r : ImageRead) (t : List Float) (o l : List ℕ) (b t′ : List Float) (o′ l′ : List ℕ) (b′ : List Float) : Type 0 where
-  pub answer : answerOf r ≡ Reading.imageRead version1 s (roomsIn t o l b)
-  pub filled : ListsRead (Reading.filledBy version1 s (answerOf r)) t o l b t′ o′ l′ b′
+  pub answer : answerOf r ≡ Reading.imageRead s (roomsIn t o l b)
+  pub filled : ListsRead (Reading.filledBy s (answerOf r)) t o l b t′ o′ l′ b′
 
 abbrev pub asWritten : ImageWritten → Writing.ImageWritten
 asWritten (Written.Refused number place) = Writing.refused number place
@@ -71,5 +70,5 @@ asWritten (Written.Bytes bytes) = Writing.wrote bytes
 
 -- what writing an image answers and leaves: the tests, then the bytes
 pub record WrittenIs (x : Image) (r : ImageWritten) (out out′ : List ℕ) : Type 0 where
-  pub answer : asWritten r ≡ Writing.imageWritten version1 x (length out)
-  pub filled : out′ ≡ Writing.bytesAfter version1 x out
+  pub answer : asWritten r ≡ Writing.imageWritten x (length out)
+  pub filled : out′ ≡ Writing.bytesAfter x out

@@ -8,6 +8,7 @@ use crate::get::settings_of;
 use lists::settings::Settings;
 use records::layout::ImageLayout;
 use records::layout::image_layout;
+use records::versions::is_wide;
 
 // How many entries the lent lists have.
 struct Rooms {
@@ -70,9 +71,10 @@ pub fn read_image(
                 boxes: boxes.len(),
             };
             if has_room(rooms, count, nodes) {
-                read_lists(bytes, count, nodes, triangles, order, links, boxes);
+                let wide = is_wide(count);
+                read_lists(wide, bytes, count, nodes, triangles, order, links, boxes);
                 return ImageRead::Read {
-                    settings: settings_of(bytes),
+                    settings: settings_of(bytes, wide),
                     triangles: count,
                     nodes,
                 };

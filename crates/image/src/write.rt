@@ -1,9 +1,9 @@
 // Writing an image: the tests 1 to 7 in turn, then the bytes.
 ghost use mathlib.Core.Path.{_≡_};
 ghost use Prim.Native.Nat.{_<_, _^_};
-ghost use Rattle.spec_records.specs.Layouts.{version1};
-ghost use Rattle.spec_image.specs.Writing.{writeRefusal};
-ghost use Rattle.lists.specs.Values.{asVerdict};
+ghost use Rattle.spec_records.specs.Layouts.{shapeBy};
+ghost use Rattle.spec_image.specs.Writing.{leafRefusal, writeRefusal};
+ghost use Rattle.lists.specs.Values.{asSettings, asVerdict};
 ghost use Rattle.image.specs.Values.{imageOf, imageFrom, WrittenIs};
 use crate::put::put_image;
 use crate::size::image_room_refusal;
@@ -12,12 +12,31 @@ use lists::settings::settings_refusal;
 use lists::tests::triangle_count;
 use lists::tests::triangles_refusal;
 use lists::verdict::Verdict;
+use lists::verdict::refused_if;
+use records::versions::is_wide;
 use tree::calls::tree_refusal;
 
 // A refusal, or how many bytes were written.
 pub enum ImageWritten {
     Refused { number: usize, place: usize },
     Bytes(usize),
+}
+
+// The max leaf minimum that the version keeps.
+fn max_leaf(wide: bool) -> usize
+    ensures { λ r. ⌜ r ≡ shapeBy wide .maxLeaf ⌝ }
+{
+    if wide {
+        return 65536;
+    }
+    4096
+}
+
+// 5, of a version: the leaf minimum is larger than it keeps.
+pub fn leaf_refusal(wide: bool, settings: Settings) -> Verdict
+    ensures { λ r. ⌜ asVerdict r ≡ leafRefusal (shapeBy wide) (asSettings settings) ⌝ }
+{
+    refused_if(max_leaf(wide) < settings.leaf_minimum, 5, 0)
 }
 
 // The first of the tests 1 to 7 that refuses.
@@ -32,14 +51,19 @@ fn write_refusal(
 ) -> Verdict
     requires { ⌜ given < 2 ^ 63 ⌝ }
     ensures { λ r. ⌜ asVerdict r
-        ≡ writeRefusal version1 (imageOf settings (now (triangles .entry)) (now (order .entry)) (now (links .entry)) (now (boxes .entry)) nodes) given ⌝ }
+        ≡ writeRefusal (imageOf settings (now (triangles .entry)) (now (order .entry)) (now (links .entry)) (now (boxes .entry)) nodes) given ⌝ }
 {
     let early = triangles_refusal(triangles).or(settings_refusal(settings));
     if early.refuses() {
         return early;
     }
-    let no_room = image_room_refusal(given, triangle_count(triangles), nodes);
-    no_room.or(tree_refusal(triangles, order, links, boxes, nodes))
+    let count = triangle_count(triangles);
+    let too_much = leaf_refusal(is_wide(count), settings).or(image_room_refusal(
+        given,
+        count,
+        nodes,
+    ));
+    too_much.or(tree_refusal(triangles, order, links, boxes, nodes))
 }
 
 // Writes the image of a tree in lent lists to the front of `out` and answers how many bytes it has. The bytes behind them stay as they were.
@@ -67,7 +91,17 @@ pub fn write_image(
     match verdict {
         Verdict::Refused { number, place } => ImageWritten::Refused { number, place },
         Verdict::Passed => {
-            ImageWritten::Bytes(put_image(settings, triangles, order, links, boxes, nodes, out))
+            let wide = is_wide(triangle_count(triangles));
+            ImageWritten::Bytes(put_image(
+                wide,
+                settings,
+                triangles,
+                order,
+                links,
+                boxes,
+                nodes,
+                out,
+            ))
         }
     }
 }

@@ -2,9 +2,11 @@
 use mathlib.Core.Path.{_≡_, refl, sym, ap, ap₂, _∙_}
 use mathlib.Core.List.{List, [], _∷_}
 use Prim.Native.Nat.{ℕ, zero, suc, _*_, _/_}
+use native.Mathlib.Nat.{mul-div-cancel-left}
 use native.Mathlib.Omega.{arith}
 use Rattle.spec_records.specs.Records.{Span, Layout, wrong, bodies}
-use Rattle.spec_records.specs.Layouts.{imageSpans, gaugeSpans}
+use Rattle.spec_records.specs.Layouts.{Shape, versionFor, nodeSize, imageSpans, gaugeSpans}
+use Rattle.spec_records.proofs.Layouts.{version-triangle}
 use Rattle.records.specs.declared.layout.ImageLayout.{ImageLayout}
 use Rattle.records.specs.declared.layout.ImageLayout.the-variants as image
 use Rattle.records.specs.declared.layout.GaugeLayout.{GaugeLayout}
@@ -23,14 +25,14 @@ trianglesCounted n = omega arith
 -- ---- an image
 abbrev backImage : Layout → ImageLayout
 backImage (wrong at) = image.Wrong at
-backImage (bodies ss) = image.Right (sizeAt ss 1 / 36) (sizeAt ss 3 / 30)
+backImage (bodies ss) = image.Right (sizeAt ss 1 / 36) (sizeAt ss 3 / nodeSize (versionFor (sizeAt ss 1 / 36)))
 
 image-is : (a : ImageLayout) → backImage (imageLaid a) ≡ a
 unfolding imageSpans
-image-is (image.Right triangles nodes) = ap₂ image.Right (trianglesCounted triangles) (nodesCounted nodes)
+image-is (image.Right triangles nodes) = rw (version-triangle triangles, trianglesCounted triangles, nodesCounted (versionFor triangles) nodes)
   where
-    nodesCounted : (n : ℕ) → 30 * n / 30 ≡ n
-    nodesCounted n = omega arith
+    nodesCounted : (sh : Shape) (n : ℕ) → nodeSize sh * n / nodeSize sh ≡ n
+    nodesCounted sh n = mul-div-cancel-left n (omega arith)
 image-is (image.Wrong at) = refl
 
 -- what the layout of an image stands for fixes it

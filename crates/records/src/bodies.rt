@@ -1,11 +1,14 @@
 // Whether a record of a wanted kind and size stands at an index of the bytes.
 ghost use mathlib.Core.Path.{_≡_};
 ghost use Prim.Native.Nat.{_<_};
+ghost use Rattle.spec_records.specs.Little.{littleAt};
 ghost use Rattle.spec_records.specs.Records.{exactly, whole, sizeAt, isRecord, isRight};
-ghost use Rattle.spec_records.specs.Layouts.{version1, settingsRight};
+ghost use Rattle.spec_records.specs.Layouts.{isKnown, settingsRight, trianglesRight};
 ghost use Rattle.records.specs.Values.{bodyIf};
 use crate::numbers::u16_at;
 use crate::numbers::u32_at;
+use crate::versions::is_wide;
+use crate::versions::version;
 
 // The size of the body, where the record is right.
 pub enum Body {
@@ -58,12 +61,35 @@ pub fn has_body(bytes: &[u8], at: usize, kind: u32, wanted: usize) -> bool
     size == wanted
 }
 
-// Whether record 1 of version 1 stands at the front.
+// Whether this version is read.
+fn is_known(version: u32) -> bool
+    ensures { λ r. ⌜ r ≡ isKnown version ⌝ }
+{
+    if version == 1 {
+        return true;
+    }
+    version == 2
+}
+
+// Whether record 1 of a known version stands at the front.
 pub fn has_settings(bytes: &[u8]) -> bool
-    ensures { λ r. ⌜ r ≡ isRight 1 (settingsRight version1) (now (bytes .entry)) 0 ⌝ }
+    ensures { λ r. ⌜ r ≡ isRight 1 settingsRight (now (bytes .entry)) 0 ⌝ }
 {
     if has_body(bytes, 0, 1, 8) {
-        return u16_at(bytes, 6) == 1;
+        return is_known(u16_at(bytes, 6));
     }
     false
+}
+
+// The body of record 2: whole triangles, as many as the version in record 1 keeps.
+pub fn triangles_body(bytes: &[u8]) -> Body
+    ensures { λ r. ⌜ r ≡ bodyIf (isRight 2 (trianglesRight (littleAt 2 (now (bytes .entry)) 6)) (now (bytes .entry)) 14) (sizeAt (now (bytes .entry)) 14) ⌝ }
+{
+    let Body::Right(size) = whole_body(bytes, 14, 2, 36) else {
+        return Body::Wrong;
+    };
+    if version(is_wide(size / 36)) != u16_at(bytes, 6) {
+        return Body::Wrong;
+    }
+    Body::Right(size)
 }

@@ -5,6 +5,7 @@ ghost use lib.ListN.{length};
 ghost use lib.Ieee.{binary32};
 ghost use Rattle.spec_tables.specs.Tables.{overwrite, Put};
 ghost use Rattle.spec_records.specs.Entries.{numberBytes, floatBytes, numbersIn, floatsIn};
+ghost use Rattle.spec_records.specs.Layouts.{shapeBy};
 use crate::numbers::put_u16;
 use crate::numbers::put_u32;
 use crate::numbers::u16_at;
@@ -49,6 +50,25 @@ pub fn put_u32s(entries: &[u32], from: usize, count: usize, out: &mut [u8], at: 
     next
 }
 
+// Writes four bytes an entry where the image is wide, else two.
+pub fn put_entries(
+    wide: bool,
+    entries: &[u32],
+    from: usize,
+    count: usize,
+    out: &mut [u8],
+    at: usize,
+) -> usize
+    requires { ⌜ (from + count ≤ length (now entries)) × (at + shapeBy wide .entry * count ≤ length (now out)) ⌝ }
+    ensures { λ r. ⌜ Put at (numberBytes (shapeBy wide .entry) (now (entries .entry)) from count) (now (out .entry)) (now (out .exit)) r ⌝ }
+    ensures { λ r. ⌜ r ≡ at + shapeBy wide .entry * count ⌝ }
+{
+    if wide {
+        return put_u32s(entries, from, count, out, at);
+    }
+    put_u16s(entries, from, count, out, at)
+}
+
 // Writes the four bytes of each number from byte `at` on. A NaN is written as 7FC00000.
 pub fn put_f32s(entries: &[f32], from: usize, count: usize, out: &mut [u8], at: usize) -> usize
     requires { ⌜ (from + count ≤ length (now entries)) × (at + 4 * count ≤ length (now out)) ⌝ }
@@ -74,6 +94,37 @@ pub fn read_u16s(bytes: &[u8], start: usize, count: usize, out: &mut [u32], at: 
         out[at + i] = u16_at(bytes, start + 2 * i);
         i += 1;
     }
+}
+
+// Leaves the entries, four bytes each, in `out` from index `at` on.
+pub fn read_u32s(bytes: &[u8], start: usize, count: usize, out: &mut [u32], at: usize)
+    requires { ⌜ (start + 4 * count ≤ length (now bytes)) × (at + count ≤ length (now out)) ⌝ }
+    ensures { λ _. ⌜ now (out .exit) ≡ overwrite at (numbersIn 4 (now (bytes .entry)) start count) (now (out .entry)) ⌝ }
+{
+    let mut i = 0;
+    while i < count {
+        out[at + i] = u32_at(bytes, start + 4 * i);
+        i += 1;
+    }
+}
+
+// Leaves the entries, four bytes each where the image is wide, else two, in `out` from index `at` on.
+pub fn read_entries(
+    wide: bool,
+    bytes: &[u8],
+    start: usize,
+    count: usize,
+    out: &mut [u32],
+    at: usize,
+)
+    requires { ⌜ (start + shapeBy wide .entry * count ≤ length (now bytes)) × (at + count ≤ length (now out)) ⌝ }
+    ensures { λ _. ⌜ now (out .exit) ≡ overwrite at (numbersIn (shapeBy wide .entry) (now (bytes .entry)) start count) (now (out .entry)) ⌝ }
+{
+    if wide {
+        read_u32s(bytes, start, count, out, at);
+        return;
+    }
+    read_u16s(bytes, start, count, out, at);
 }
 
 // Leaves the numbers, four bytes each, in `out` from index `at` on. Every pattern of a NaN is read as the one NaN.

@@ -1,13 +1,17 @@
 // The records of an image and of an input of `gauge`, one behind the other, with nothing behind the last.
 ghost use mathlib.Core.Path.{_≡_};
 ghost use Rattle.spec_records.specs.Records.{laidOut};
-ghost use Rattle.spec_records.specs.Layouts.{version1, imageWants, gaugeWants};
-ghost use Rattle.records.specs.Values.{openingOf, imageLaid, gaugeLaid};
+ghost use Rattle.spec_records.specs.Layouts.{imageWants, gaugeWants};
+ghost use Rattle.records.specs.Values.{openingOf, TreeNext, imageLaid, gaugeLaid};
 ghost use Rattle.records.specs.declared.layout.Opening.the-variants.{Right};
 use crate::bodies::Body;
 use crate::bodies::has_body;
 use crate::bodies::has_settings;
+use crate::bodies::triangles_body;
 use crate::bodies::whole_body;
+use crate::versions::is_wide;
+use crate::versions::node_size;
+use crate::versions::order_size;
 
 // How many triangles and nodes there are, or the offset of the first wrong record.
 pub enum ImageLayout {
@@ -34,24 +38,23 @@ fn opening_of(bytes: &[u8]) -> Opening
     if !has_settings(bytes) {
         return Opening::Wrong(0);
     }
-    let Body::Right(triangles) = whole_body(bytes, 14, 2, 36) else {
+    let Body::Right(triangles) = triangles_body(bytes) else {
         return Opening::Wrong(14);
     };
     Opening::Right(triangles)
 }
 
-// The layout of an image whose triangles' body has this size.
-fn tree_layout(bytes: &[u8], triangles: usize) -> ImageLayout
-    requires { ⌜ openingOf (now bytes) ≡ Right triangles ⌝ }
-    ensures { λ r. ⌜ imageLaid r ≡ laidOut (imageWants version1) (now (bytes .entry)) 0 ⌝ }
+// The layout of an image behind its triangles: `order` bytes of order entries, and whole nodes of `node` bytes.
+fn tree_layout(bytes: &[u8], triangles: usize, order: usize, node: usize) -> ImageLayout
+    requires { ⌜ TreeNext (now bytes) triangles order node ⌝ }
+    ensures { λ r. ⌜ imageLaid r ≡ laidOut imageWants (now (bytes .entry)) 0 ⌝ }
 {
     let third = 20 + triangles;
-    let order = 2 * (triangles / 36);
     if !has_body(bytes, third, 3, order) {
         return ImageLayout::Wrong(third);
     }
     let fourth = third + 6 + order;
-    let Body::Right(nodes) = whole_body(bytes, fourth, 4, 30) else {
+    let Body::Right(nodes) = whole_body(bytes, fourth, 4, node) else {
         return ImageLayout::Wrong(fourth);
     };
     let end = fourth + 6 + nodes;
@@ -60,16 +63,20 @@ fn tree_layout(bytes: &[u8], triangles: usize) -> ImageLayout
     }
     ImageLayout::Right {
         triangles: triangles / 36,
-        nodes: nodes / 30,
+        nodes: nodes / node,
     }
 }
 
 // The layout of an image.
 pub fn image_layout(bytes: &[u8]) -> ImageLayout
-    ensures { λ r. ⌜ imageLaid r ≡ laidOut (imageWants version1) (now (bytes .entry)) 0 ⌝ }
+    ensures { λ r. ⌜ imageLaid r ≡ laidOut imageWants (now (bytes .entry)) 0 ⌝ }
 {
     match opening_of(bytes) {
-        Opening::Right(triangles) => tree_layout(bytes, triangles),
+        Opening::Right(triangles) => {
+            let count = triangles / 36;
+            let wide = is_wide(count);
+            tree_layout(bytes, triangles, order_size(wide, count), node_size(wide))
+        }
         Opening::Wrong(at) => ImageLayout::Wrong(at),
     }
 }

@@ -5,3 +5,4 @@ pub mod bodies;
 pub mod entries;
 pub mod layout;
 pub mod numbers;
+pub mod versions;

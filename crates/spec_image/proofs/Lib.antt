@@ -1,3 +1,5 @@
+pub mod Versions
+pub mod Laid
 pub mod Sizes
 pub mod Written
 pub mod Rewritten
@@ -5,3 +7,4 @@ pub mod Used
 pub mod Writing
 pub mod Listed
 pub mod Kept
+pub mod Before

@@ -1,9 +1,8 @@
--- What stands in the listing of a tree: links that are small numbers, and boxes of plain numbers. So a listing fits the bytes of an image.
-use mathlib.Core.Path.{_≡_}
+-- The boxes in the listing of a tree have plain numbers. So they fit the bytes of an image.
 use mathlib.Core.List.{List, [], _∷_, _++_}
-use Prim.Native.Nat.{ℕ, _+_, _≤_, _<_}
+use Prim.Native.Nat.{ℕ, _<_}
 use native.Mathlib.Omega.{arith}
-use lib.ListN.{length, length-append}
+use lib.ListN.{length}
 use lib.Ieee.{Format}
 use Rattle.spec_tables.specs.Each.{Each}
 use Rattle.spec_tables.proofs.Each.{each-append, each-in-front, each-behind}
@@ -12,21 +11,7 @@ use Rattle.spec_numbers.specs.Plain.{Plain}
 use Rattle.spec_shapes.specs.Boxes.{Box, union}
 use Rattle.spec_shapes.specs.Plain.{PlainBox}
 use Rattle.spec_shapes.proofs.Plain.{union-plain}
-use Rattle.spec_tree.specs.Trees.{Tree, leaf, branch, numbers, nodeCount, Filled, joinedTo, joined, boxOver, sixOf, linksFrom, boxesOf}
-use Rattle.spec_tree.proofs.Trees.{root-last}
-
--- ---- the links: a kind, and entries of the order list or nodes
--- no link reaches a bound on the tree's nodes and entries, so links fit their bytes
-pub links-below : (most node entry : ℕ) (t : Tree) → 2 < most → node + nodeCount t ≤ most → entry + length (numbers t) < most
-    → Each (λ (n : ℕ). n < most) (linksFrom node entry t)
-unfolding linksFrom nodeCount numbers
-links-below most node entry (leaf slice) two nodes entries = (omega arith, (omega arith, (entries, tt)))
-links-below most node entry (branch l r) two nodes entries =
-    let long : length (numbers l ++ numbers r) ≡ length (numbers l) + length (numbers r) = length-append (numbers l) (numbers r) in
-    each-append (λ (n : ℕ). n < most) (linksFrom node entry l ++ linksFrom (node + nodeCount l) (entry + length (numbers l)) r) _
-    (each-append (λ (n : ℕ). n < most) (linksFrom node entry l) _ (links-below most node entry l two (omega arith) (omega arith))
-    (links-below most (node + nodeCount l) (entry + length (numbers l)) r two (omega arith) (omega arith)))
-    (two, (omega (arith, root-last node l), (omega (arith, root-last (node + nodeCount l) r), tt)))
+use Rattle.spec_tree.specs.Trees.{Tree, leaf, branch, numbers, Filled, joinedTo, joined, boxOver, sixOf, boxesOf}
 
 -- ---- the boxes: those of the triangles, joined
 module _ (f : Format) (boxAt : ℕ → Box) where

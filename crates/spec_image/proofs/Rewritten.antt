@@ -1,7 +1,7 @@
 -- An image that was read is written back byte for byte, where no float in it is a NaN: a NaN is read from many patterns, and written as one.
 use mathlib.Core.Path.{_≡_, refl, sym, ap, _∙_, subst}
 use mathlib.Core.List.{List, _++_, append-assoc}
-use Prim.Native.Nat.{ℕ, _+_, _*_, _≤_, _<_}
+use Prim.Native.Nat.{ℕ, _+_, _*_, _%_, _^_, _≤_, _<_}
 use native.Mathlib.Omega.{arith}
 use lib.ListN.{length, drop}
 use lib.Seq.{take-length}
@@ -11,13 +11,14 @@ use Rattle.spec_tables.proofs.Tables.{length-concatMap, concatMap-same, slice-c
 use Rattle.spec_tables.proofs.Pieces.{piece-within, length-slice, slice-then, concatMap-slices-at, length-singles, remaining-on, remaining-slice}
 use Rattle.spec_records.specs.Little.{little, littleAt, Bytes}
 use Rattle.spec_records.specs.Entries.{floatSize, numberBytes, floatBytes, numbersIn, floatsIn, NoNan}
-use Rattle.spec_records.specs.Records.{bodies, sizeAt, header, recordOf, laidOut}
-use Rattle.spec_records.specs.Layouts.{Shape, triangleSize, nodeSize, imageWants, orderStart, nodesStart, imageSize, imageSpans}
+use Rattle.spec_records.specs.Records.{sizeAt, header, recordOf}
+use Rattle.spec_records.specs.Layouts.{Shape, triangleSize, nodeSize, orderStart, nodesStart, imageSize}
 use Rattle.spec_records.proofs.Little.{number-back}
 use Rattle.spec_records.proofs.Entries.{numbers-written, floats-written}
-use Rattle.spec_image.specs.Image.{settingsBytes, nodeBytes, imageBytes, settingsIn, linksIn, sidesIn, imageIn}
+use Rattle.spec_image.specs.Image.{settingsBytes, nodeBytes, imageBytes, leafIn, settingsIn, linksIn, sidesIn, imageIn}
 use Rattle.spec_image.specs.Stored.{ImageIs}
-use Rattle.spec_image.proofs.Sizes.{image-is, length-links, length-box}
+use Rattle.spec_image.proofs.Versions.{leaf-bytes}
+use Rattle.spec_image.proofs.Sizes.{length-links, length-box}
 
 -- what is written of two parts that stand one behind the other
 written-then : (s : List ℕ) (at m n next : ℕ) (a b : List ℕ) → next ≡ at + m → a ≡ slice s at m → b ≡ slice s next n → a ++ b ≡ slice s at (m + n)
@@ -35,12 +36,13 @@ module _ (s : List ℕ) (ok : Bytes s) where
       written-then s at 6 size (at + 6) (little 4 (length body) ++ little 2 kind) body refl
       (written-then s at 4 2 (at + 4) (little 4 (length body)) (little 2 kind) refl first second) b
 
-  settings-written : (sh : Shape) → littleAt 2 s 6 ≡ sh .version → 14 ≤ length s → settingsBytes sh (settingsIn s) ≡ slice s 6 8
+  settings-written : (sh : Shape) → sh .zeroLeaf % 256 ^ 2 ≡ 0 → littleAt 2 s 6 ≡ sh .version → 14 ≤ length s
+      → settingsBytes sh (settingsIn sh s) ≡ slice s 6 8
   unfolding settingsBytes settingsIn
-  settings-written sh v room =
+  settings-written sh zero v room =
       let a : little 2 (sh .version) ≡ slice s 6 2 = ap (little 2) (sym v) ∙ number-back 2 s 6 ok (omega arith) in
       let b : little 2 (littleAt 2 s 8) ≡ slice s 8 2 = number-back 2 s 8 ok (omega arith) in
-      let c : little 2 (littleAt 2 s 10) ≡ slice s 10 2 = number-back 2 s 10 ok (omega arith) in
+      let c : little 2 (leafIn sh (littleAt 2 s 10)) ≡ slice s 10 2 = leaf-bytes sh (littleAt 2 s 10) zero ∙ number-back 2 s 10 ok (omega arith) in
       let d : little 2 (littleAt 2 s 12) ≡ slice s 12 2 = number-back 2 s 12 ok (omega arith) in
       written-then s 6 6 2 12 _ _ refl (written-then s 6 4 2 10 _ _ refl (written-then s 6 2 2 8 _ _ refl a b) c) d
 
@@ -106,18 +108,17 @@ module _ (s : List ℕ) (ok : Bytes s) where
           ∙ ap (slice s at) size
 
   -- an image that is right, and whose floats are numbers, is what is written of what was read
-  pub rewritten : (sh : Shape) (t n : ℕ) → laidOut (imageWants sh) s 0 ≡ bodies (imageSpans sh t n)
+  pub rewritten : (sh : Shape) (t n : ℕ) → sh .zeroLeaf % 256 ^ 2 ≡ 0 → ImageIs sh s t n
       → NoNan (imageIn sh s t n .triangles) (9 * t) → NoNan (imageIn sh s t n .boxes) (6 * n) → imageBytes sh (imageIn sh s t n) ≡ s
   unfolding imageBytes imageIn
-  rewritten sh t n laid corners bounds =
-      let is : ImageIs sh s t n = image-is sh s t n laid in
+  rewritten sh t n zero is corners bounds =
       let third : ℕ = 20 + triangleSize sh * t in
       let fourth : ℕ = orderStart sh t + sh .entry * t in
       let long : imageSize sh t n ≡ length s = is .long in
       let all : List Float = floatsIn (sh .float) s 20 (9 * t) in
       let size₂ : floatSize (sh .float) * (9 * t) ≡ triangleSize sh * t = omega arith in
-      let r₁ : recordOf 1 (settingsBytes sh (settingsIn s)) ≡ slice s 0 14 =
-      record-written 1 8 0 _ (is .size1) (is .kind1) (settings-written sh (is .version) (omega arith)) (omega arith) in
+      let r₁ : recordOf 1 (settingsBytes sh (settingsIn sh s)) ≡ slice s 0 14 =
+      record-written 1 8 0 _ (is .size1) (is .kind1) (settings-written sh zero (is .version) (omega arith)) (omega arith) in
       let l₂ : length all ≡ 9 * t = length-singles _ (9 * t) in
       let f₂ : floatBytes (sh .float) all 0 (9 * t) ≡ slice s 20 (triangleSize sh * t) =
       floats-written (sh .float) all 0 s 20 (9 * t) ok (omega arith) (λ i l. corners i (omega arith)) (ap (slice all 0) (sym l₂) ∙ take-length all)

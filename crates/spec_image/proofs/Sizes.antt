@@ -1,7 +1,7 @@
 -- How long the records of an image are, so that each is found behind the one before it, and what a right layout says of the numbers in the image.
-use mathlib.Core.Path.{_≡_, sym, _∙_}
+use mathlib.Core.Path.{_≡_, sym, ap, _∙_}
 use mathlib.Core.List.{List, []}
-use Prim.Native.Nat.{ℕ, _+_, _*_, _/_, _≤_}
+use Prim.Native.Nat.{ℕ, _+_, _*_, _≤_}
 use native.Mathlib.Omega.{arith}
 use borrow.Author.Tests.{eqb-true}
 use lib.ListN.{length, length-append}
@@ -13,10 +13,11 @@ use Rattle.spec_tables.proofs.Pieces.{length-singles}
 use Rattle.spec_records.specs.Little.{littleAt}
 use Rattle.spec_records.specs.Entries.{floatSize}
 use Rattle.spec_records.specs.Records.{bodies, done, one, exactly, whole, laidOut}
-use Rattle.spec_records.specs.Layouts.{Shape, triangleSize, nodeSize, settingsRight, treeWants, imageWants, orderStart, imageSize, imageSpans}
+use Rattle.spec_records.specs.Layouts.{Shape, versionFor, triangleSize, nodeSize, settingsRight, trianglesOf, trianglesRight, treeWants, imageWants, orderStart, imageSize, imageSpans}
 use Rattle.spec_records.proofs.Little.{length-little, number-slice}
 use Rattle.spec_records.proofs.Entries.{length-numbers, length-floats}
 use Rattle.spec_records.proofs.Records.{both, record-kind, one-back, done-back, length-record}
+use Rattle.spec_records.proofs.Layouts.{version-triangle, body-long}
 use Rattle.spec_lists.specs.Refusals.{Settings}
 use Rattle.spec_image.specs.Image.{Image, settingsBytes, nodeBytes, trianglesBody, orderBody, nodesBody, imageBytes, linksIn, sidesIn}
 use Rattle.spec_image.specs.Stored.{Complete, ImageIs}
@@ -70,21 +71,29 @@ unfolding sidesIn
 length-box sh s start i = length-singles _ 6
 
 -- ---- of a layout
+-- as many triangles as a body of that many has
+pub count-of : (t : ℕ) (body : List ℕ) → length body ≡ triangleSize (versionFor t) * t → trianglesOf body ≡ t
+count-of t body e = let long : length body ≡ 36 * t = e ∙ ap (λ (k : ℕ). k * t) (version-triangle t) in omega arith
+
 -- a right layout fixes the sizes, kinds, version and length of an image
-pub image-is : (sh : Shape) (s : List ℕ) (t n : ℕ) → laidOut (imageWants sh) s 0 ≡ bodies (imageSpans sh t n) → ImageIs sh s t n
+pub image-is : (s : List ℕ) (t n : ℕ) → laidOut imageWants s 0 ≡ bodies (imageSpans (versionFor t) t n) → ImageIs (versionFor t) s t n
 unfolding imageSpans
-image-is sh s t n e =
-    let a = one-back 1 (settingsRight sh) (λ _. one 2 (whole (triangleSize sh)) (treeWants sh)) s 0 _ _ e in
-    let b = one-back 2 (whole (triangleSize sh)) (treeWants sh) s 14 _ _ (a .onward) in
-    let wanted : ℕ = sh .entry * (length (slice s 20 (triangleSize sh * t)) / triangleSize sh) in
-    let c = one-back 3 (exactly wanted) (λ _. one 4 (whole (nodeSize sh)) (λ _. done)) s (20 + triangleSize sh * t) _ _ (b .onward) in
+image-is s t n e =
+    let sh : Shape = versionFor t in
+    let version : ℕ = littleAt 2 (slice s 6 8) 0 in
+    let triangles : List ℕ = slice s 20 (triangleSize sh * t) in
+    let a = one-back 1 settingsRight _ s 0 _ _ e in
+    let b = one-back 2 (trianglesRight version) (λ body. treeWants (versionFor (trianglesOf body)) (trianglesOf body)) s 14 _ _ (a .onward) in
+    let count : trianglesOf triangles ≡ t = count-of t triangles (body-long (b .right)) in
+    let c = one-back 3 (exactly (sh .entry * t)) (λ _. one 4 (whole (nodeSize sh)) (λ _. done)) s (20 + triangleSize sh * t) _ _ (rw count at (b .onward)) in
     let d = one-back 4 (whole (nodeSize sh)) (λ _. done) s (orderStart sh t + sh .entry * t) _ _ (c .onward) in
     let two : 2 ≤ 8 = omega arith in
+    let for-count : versionFor (trianglesOf triangles) .version ≡ version = eqb-true _ _
+    (both (whole 36 triangles) (eqb (versionFor (trianglesOf triangles) .version) version) (b .right .passes) .1) in
     record {
       size1 = a .right .sized;
       kind1 = record-kind 1 s 0 (a .right .there);
-      version =
-          sym (number-slice 2 s 6 8 two) ∙ eqb-true _ _ (both (exactly 8 (slice s 6 8)) (eqb (littleAt 2 (slice s 6 8) 0) (sh .version)) (a .right .passes) .1);
+      version = sym (number-slice 2 s 6 8 two) ∙ sym for-count ∙ ap (λ (k : ℕ). versionFor k .version) count;
       size2 = b .right .sized;
       kind2 = record-kind 2 s 14 (b .right .there);
       size3 = c .right .sized;

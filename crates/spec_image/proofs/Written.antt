@@ -3,27 +3,29 @@
 use mathlib.Core.Path.{_≡_, refl, sym, ap, _∙_, subst}
 use mathlib.Core.List.{List, [], _++_, append-assoc, append-nil}
 use mathlib.Core.Bool.{Bool, true}
-use Prim.Native.Nat.{ℕ, _+_, _*_, _/_, _^_, _≤_, _<_}
-use native.Mathlib.Nat.{add-assoc, mul-mod-right, mul-div-cancel-left}
+use Prim.Native.Nat.{ℕ, _+_, _*_, _%_, _^_, _≤_, _<_}
+use native.Mathlib.Nat.{add-assoc, mul-mod-right}
 use native.Mathlib.Omega.{arith}
 use borrow.Author.Tests.{eq-eqb}
 use lib.ListN.{length, take, drop}
 use lib.Seq.{take-length, take-add, drop-drop}
-use lib.Ieee.{Format, binary32, binary64}
 use Rattle.spec_tables.specs.Tables.{concatMap, slice, Remaining}
 use Rattle.spec_tables.proofs.Tables.{concatMap-same, concatMap-slices, remaining-whole, remaining-within, remaining-front}
 use Rattle.spec_tables.proofs.Pieces.{piece-within, remaining-concatMap, remaining-on, remaining-slice}
 use Rattle.spec_records.specs.Little.{little, littleAt}
-use Rattle.spec_records.specs.Entries.{floatSize, numberBytes, floatBytes, numbersIn, floatsIn}
+use Rattle.spec_records.specs.Entries.{numberBytes, floatBytes, numbersIn, floatsIn}
 use Rattle.spec_records.specs.Records.{bodies, exactly, whole, sizeAt, isRecord, header, recordOf, laidOut}
-use Rattle.spec_records.specs.Layouts.{Shape, triangleSize, nodeSize, settingsRight, imageWants, orderStart, nodesStart, imageSpans}
+use Rattle.spec_records.specs.Layouts.{Shape, versionFor, triangleSize, nodeSize, settingsRight, trianglesOf, trianglesRight, imageWants, orderStart, nodesStart, imageSpans}
 use Rattle.spec_records.proofs.Little.{length-little, number-remaining}
 use Rattle.spec_records.proofs.Entries.{length-numbers, numbers-read, floats-read}
+use Rattle.spec_records.proofs.Layouts.{version-triangle}
 use Rattle.spec_records.proofs.Records.{RightRecord, record-there, reach-start, reach-on, reach-end}
-use Rattle.spec_image.specs.Image.{Image, settingsBytes, nodeBytes, trianglesBody, orderBody, nodesBody, imageBytes, settingsIn, linksIn, sidesIn, imageIn}
+use Rattle.spec_image.specs.Image.{Image, settingsBytes, nodeBytes, trianglesBody, orderBody, nodesBody, imageBytes, leafIn, settingsIn, linksIn, sidesIn, imageIn}
 use Rattle.spec_image.specs.Stored.{Storable, used}
-use Rattle.spec_image.specs.Reading.{Rooms, holds, roomFor, imageRead}
-use Rattle.spec_image.proofs.Sizes.{length-settings, length-node, length-triangles, length-order, length-nodes}
+use Rattle.spec_image.specs.Reading.{Rooms, holds, roomFor, judged, imageRead}
+use Rattle.spec_image.proofs.Versions.{low-two, Keeps, version-keeps}
+use Rattle.spec_image.proofs.Laid.{judged-by-room}
+use Rattle.spec_image.proofs.Sizes.{length-settings, length-node, length-triangles, length-order, length-nodes, count-of}
 
 -- ---- one record
 -- a record of this kind is left at the place, its body has this size, and behind it the rest is left
@@ -56,10 +58,6 @@ record-remaining kind body size s at rest k l long h =
 right : {kind : ℕ} {body : List ℕ} {size : ℕ} {s : List ℕ} {at : ℕ} {rest : List ℕ} (test : List ℕ → Bool) → RecordRemaining kind body size s at rest
     → test body ≡ true → RightRecord kind test s at size
 right test r ok = record { there = r .there; sized = r .sized; passes = ap test (r .stands) ∙ ok }
-
-positive : (f : Format) → 0 < floatSize f
-positive binary32 = omega arith
-positive binary64 = omega arith
 
 module _ (sh : Shape) (x : Image) (ok : Storable sh x) where
   abbrev t : ℕ
@@ -105,37 +103,49 @@ module _ (sh : Shape) (x : Image) (ok : Storable sh x) where
   fourth : RecordRemaining 4 b₄ (nodeSize sh * x .nodes) s (orderStart sh t + sh .entry * t) []
   fourth = record-remaining 4 b₄ (nodeSize sh * x .nodes) s (orderStart sh t + sh .entry * t) [] (omega arith) (ok .fewNodes) long₄ (third .onward)
 
-  settings-ok : settingsRight sh b₁ ≡ true
-  unfolding settingsBytes
-  settings-ok =
-      let front : Remaining b₁ 0
-      (little 2 (sh .version) ++ (little 2 (x .settings .strategy) ++ (little 2 (x .settings .leafMinimum) ++ little 2 (x .settings .maximumDepth)))) =
-      subst (Remaining b₁ 0) (simp append-assoc) (remaining-whole b₁) in
-      rw (length-settings sh (x .settings), number-remaining 2 (sh .version) b₁ 0 _ (ok .version) front, eq-eqb (sh .version) (sh .version) refl)
+  -- ---- the layout, of the version for so many triangles
+  module _ (is : sh ≡ versionFor t) where
+    keeps : Keeps t sh
+    keeps = subst (Keeps t) (sym is) (version-keeps t)
 
-  triangles-ok : whole (triangleSize sh) b₂ ≡ true
-  triangles-ok = rw long₂ (eq-eqb _ 0 (mul-mod-right (triangleSize sh) t))
+    version-there : littleAt 2 b₁ 0 ≡ sh .version
+    unfolding settingsBytes
+    version-there =
+        let front : Remaining b₁ 0
+        (little 2 (sh .version) ++ (little 2 (x .settings .strategy) ++ (little 2 (x .settings .leafMinimum) ++ little 2 (x .settings .maximumDepth)))) =
+        subst (Remaining b₁ 0) (simp append-assoc) (remaining-whole b₁) in
+        number-remaining 2 (sh .version) b₁ 0 _ (ok .version) front
 
-  order-ok : exactly (sh .entry * (length (slice s 20 (triangleSize sh * t)) / triangleSize sh)) b₃ ≡ true
-  order-ok =
-      let some : 0 < triangleSize sh = omega (arith, positive (sh .float)) in
-      rw (second .stands, long₂, long₃, mul-div-cancel-left t {n = triangleSize sh} some) (eq-eqb (sh .entry * t) (sh .entry * t) refl)
+    settings-ok : settingsRight b₁ ≡ true
+    settings-ok = rw (length-settings sh (x .settings), version-there, keeps .known)
 
-  nodes-ok : whole (nodeSize sh) b₄ ≡ true
-  nodes-ok = rw long₄ (eq-eqb _ 0 (mul-mod-right (nodeSize sh) (x .nodes)))
+    count : trianglesOf b₂ ≡ t
+    count = count-of t b₂ (long₂ ∙ ap (λ (v : Shape). triangleSize v * t) is)
 
-  -- the layout of what was written is right, and says how many triangles and nodes there are
-  pub written-laid : laidOut (imageWants sh) s 0 ≡ bodies (imageSpans sh t (x .nodes))
-  unfolding imageSpans
-  written-laid =
-      let two = reach-on (reach-on (reach-start (imageWants sh) s) (right (settingsRight sh) first settings-ok))
-      (right (whole (triangleSize sh)) second triangles-ok) in
-      let wanted : ℕ = sh .entry * (length (slice s 20 (triangleSize sh * t)) / triangleSize sh) in
-      let four = reach-on (reach-on two (right (exactly wanted) third order-ok)) (right (whole (nodeSize sh)) fourth nodes-ok) in
-      reach-end four (omega (arith, remaining-within s _ [] (fourth .onward)))
+    triangles-ok : trianglesRight (littleAt 2 b₁ 0) b₂ ≡ true
+    triangles-ok =
+        let long : length b₂ ≡ 36 * t = long₂ ∙ ap (λ (v : Shape). triangleSize v * t) is ∙ ap (λ (k : ℕ). k * t) (version-triangle t) in
+        let whole : length b₂ % 36 ≡ 0 = omega arith in
+        rw (version-there, count, ← is, eq-eqb _ 0 whole, eq-eqb (sh .version) (sh .version) refl)
+
+    order-ok : exactly (sh .entry * t) b₃ ≡ true
+    order-ok = rw long₃ (eq-eqb (sh .entry * t) (sh .entry * t) refl)
+
+    nodes-ok : whole (nodeSize sh) b₄ ≡ true
+    nodes-ok = rw long₄ (eq-eqb _ 0 (mul-mod-right (nodeSize sh) (x .nodes)))
+
+    -- the layout of what was written is right, and says how many triangles and nodes there are
+    pub written-laid : laidOut imageWants s 0 ≡ bodies (imageSpans sh t (x .nodes))
+    unfolding imageSpans
+    written-laid =
+        let one = reach-on (reach-start imageWants s) (right settingsRight first settings-ok) in
+        let two = reach-on (rw (first .stands) at one) (right (trianglesRight (littleAt 2 b₁ 0)) second triangles-ok) in
+        let three = reach-on (rw (second .stands, count, ← is) at two) (right (exactly (sh .entry * t)) third order-ok) in
+        let four = reach-on three (right (whole (nodeSize sh)) fourth nodes-ok) in
+        reach-end four (omega (arith, remaining-within s _ [] (fourth .onward)))
 
   -- ---- the values
-  settings-back : settingsIn s ≡ x .settings
+  settings-back : settingsIn sh s ≡ x .settings
   unfolding settingsIn settingsBytes
   settings-back =
       let v : ℕ = sh .version in
@@ -148,7 +158,8 @@ module _ (sh : Shape) (x : Image) (ok : Storable sh x) where
       let h₂ : Remaining s 10 (little 2 b ++ (little 2 c ++ rest)) = remaining-on 2 s 8 (little 2 a) _ (length-little 2 a) h₁ in
       let h₃ : Remaining s 12 (little 2 c ++ rest) = remaining-on 2 s 10 (little 2 b) _ (length-little 2 b) h₂ in
       let p : littleAt 2 s 8 ≡ a = number-remaining 2 a s 8 _ (ok .strategy) h₁ in
-      let q : littleAt 2 s 10 ≡ b = number-remaining 2 b s 10 _ (ok .leafMinimum) h₂ in
+      let low : littleAt 2 s 10 ≡ b % 256 ^ 2 = number-remaining 2 (b % 256 ^ 2) s 10 _ (omega arith) (rw (← low-two b) at h₂) in
+      let q : leafIn sh (littleAt 2 s 10) ≡ b = ap (leafIn sh) low ∙ ok .leafMinimum in
       let r : littleAt 2 s 12 ≡ c = number-remaining 2 c s 12 _ (ok .maximumDepth) h₃ in
       λ i. record { strategy = p i; leafMinimum = q i; maximumDepth = r i }
 
@@ -225,9 +236,8 @@ module _ (sh : Shape) (x : Image) (ok : Storable sh x) where
       λ i. record { settings = settings-back i; triangles = triangles-back i; order = order-back i; nodes = x .nodes; links = links-are i; boxes = boxes-are i }
 
   -- reading what was written answers its settings and counts, where there is room
-  pub written-holds : (r : Rooms) → roomFor r t (x .nodes) ≡ true → imageRead sh s r ≡ holds (x .settings) t (x .nodes)
-  unfolding imageRead imageSpans
-  written-holds r room =
-      let some : 0 < triangleSize sh = omega (arith, positive (sh .float)) in
-      let more : 0 < nodeSize sh = omega arith in
-      rw (written-laid, mul-div-cancel-left t {n = triangleSize sh} some, mul-div-cancel-left (x .nodes) {n = nodeSize sh} more, room, settings-back)
+  pub written-holds : sh ≡ versionFor t → (r : Rooms) → roomFor r t (x .nodes) ≡ true → imageRead s r ≡ holds (x .settings) t (x .nodes)
+  unfolding imageRead
+  written-holds is r room =
+      ap (judged s r) (written-laid is ∙ ap (λ (v : Shape). bodies (imageSpans v t (x .nodes))) is)
+      ∙ judged-by-room s r t (x .nodes) ∙ rw (room, ← is, settings-back)

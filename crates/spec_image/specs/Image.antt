@@ -2,7 +2,9 @@
 -- All goes by a `Shape`: another version of the image is another shape.
 use Prim.Native.Nat.{ℕ, _+_, _*_}
 use mathlib.Core.List.{List, _++_}
+use mathlib.Core.Bool.{cond}
 use lib.ListN.{length}
+use lib.Dec.{eqb}
 use lib.Ieee.{Float}
 use Rattle.spec_tables.specs.Tables.{concatMap}
 use Rattle.spec_records.specs.Little.{little, littleAt}
@@ -21,7 +23,7 @@ pub record Image : Type 0 where
   pub boxes : List Float
 
 -- ---- the bytes of an image
--- the version stands in front of the settings, so that a reader sees it first
+-- the version stands in front of the settings, so that a reader sees it first; of 65,536 the two lowest bytes are 0
 unfoldable pub settingsBytes : Shape → Settings → List ℕ
 settingsBytes sh s = little 2 (sh .version) ++ little 2 (s .strategy) ++ little 2 (s .leafMinimum) ++ little 2 (s .maximumDepth)
 
@@ -45,9 +47,13 @@ imageBytes sh x =
     recordOf 1 (settingsBytes sh (x .settings)) ++ recordOf 2 (trianglesBody sh x) ++ recordOf 3 (orderBody sh x) ++ recordOf 4 (nodesBody sh x)
 
 -- ---- what an image of t triangles and n nodes holds
+-- the leaf minimum that a stored one stands for
+unfoldable pub leafIn : Shape → (stored : ℕ) → ℕ
+leafIn sh stored = cond (eqb stored 0) (sh .zeroLeaf) stored
+
 -- the settings' record is the first, so its numbers stand at fixed places
-unfoldable pub settingsIn : List ℕ → Settings
-settingsIn s = record { strategy = littleAt 2 s 8; leafMinimum = littleAt 2 s 10; maximumDepth = littleAt 2 s 12 }
+unfoldable pub settingsIn : Shape → List ℕ → Settings
+settingsIn sh s = record { strategy = littleAt 2 s 8; leafMinimum = leafIn sh (littleAt 2 s 10); maximumDepth = littleAt 2 s 12 }
 
 -- kind, left and right of node i, of the nodes that stand from start on
 unfoldable pub linksIn : Shape → List ℕ → ℕ → ℕ → List ℕ
@@ -60,7 +66,7 @@ sidesIn sh s start i = floatsIn (sh .float) s (start + nodeSize sh * i + (2 + 2 
 -- every record begins where the one before it ends, which the counts say
 unfoldable pub imageIn : Shape → List ℕ → ℕ → ℕ → Image
 imageIn sh s t n = record {
-  settings = settingsIn s;
+  settings = settingsIn sh s;
   triangles = floatsIn (sh .float) s 20 (9 * t);
   order = numbersIn (sh .entry) s (orderStart sh t) t;
   nodes = n;

@@ -5,7 +5,7 @@ use mathlib.Core.Bool.{Bool, cond, _&&_}
 use lib.ListN.{getD}
 use lib.Dec.{leb}
 use Rattle.spec_records.specs.Records.{Span, Layout, wrong, bodies, laidOut}
-use Rattle.spec_records.specs.Layouts.{Shape, triangleSize, nodeSize, imageWants}
+use Rattle.spec_records.specs.Layouts.{versionFor, nodeSize, imageWants}
 use Rattle.spec_lists.specs.Refusals.{Settings}
 use Rattle.spec_image.specs.Image.{Image, settingsIn, imageIn}
 
@@ -27,22 +27,36 @@ roomFor r t n = leb (9 * t) (r .triangles) && leb t (r .order) && leb (3 * n) (r
 
 -- 6 where there is no room for t triangles and n nodes
 abbrev pub byRoom : List ℕ → Rooms → ℕ → ℕ → ImageRead
-byRoom s r t n = cond (roomFor r t n) (holds (settingsIn s) t n) (refused 6 0)
+byRoom s r t n = cond (roomFor r t n) (holds (settingsIn (versionFor t) s) t n) (refused 6 0)
 
 -- the size of body k
 abbrev pub sizeOf : List Span → ℕ → ℕ
 sizeOf bs k = getD bs k (record { start = 0; size = 0 }) .size
 
+-- how many triangles the bodies of an image have, and how many nodes
+abbrev pub trianglesIn : List Span → ℕ
+trianglesIn bs = sizeOf bs 1 / 36
+
+abbrev pub nodesIn : List Span → ℕ
+nodesIn bs = sizeOf bs 3 / nodeSize (versionFor (trianglesIn bs))
+
 -- 10 where the layout is wrong, and only then the room
-abbrev pub judged : Shape → List ℕ → Rooms → Layout → ImageRead
-judged sh s r (wrong at) = refused 10 at
-judged sh s r (bodies bs) = byRoom s r (sizeOf bs 1 / triangleSize sh) (sizeOf bs 3 / nodeSize sh)
+abbrev pub judged : List ℕ → Rooms → Layout → ImageRead
+judged s r (wrong at) = refused 10 at
+judged s r (bodies bs) = byRoom s r (trianglesIn bs) (nodesIn bs)
 
 -- what reading answers
-unfoldable pub imageRead : Shape → List ℕ → Rooms → ImageRead
-imageRead sh s r = judged sh s r (laidOut (imageWants sh) s 0)
+unfoldable pub imageRead : List ℕ → Rooms → ImageRead
+imageRead s r = judged s r (laidOut imageWants s 0)
 
 -- what is written to the front of the lent lists: nothing on a refusal
-abbrev pub filledBy : Shape → List ℕ → ImageRead → Image
-filledBy sh s (refused number place) = record { settings = settingsIn s; triangles = []; order = []; nodes = 0; links = []; boxes = [] }
-filledBy sh s (holds settings t n) = imageIn sh s t n
+abbrev pub filledBy : List ℕ → ImageRead → Image
+filledBy s (refused number place) = record {
+  settings = settingsIn (versionFor 0) s;
+  triangles = [];
+  order = [];
+  nodes = 0;
+  links = [];
+  boxes = [];
+}
+filledBy s (holds settings t n) = imageIn (versionFor t) s t n

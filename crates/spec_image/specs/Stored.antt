@@ -1,5 +1,5 @@
 -- What can be written, what comes back, and what a right layout says.
-use Prim.Native.Nat.{ℕ, _+_, _*_, _^_, _≤_, _<_}
+use Prim.Native.Nat.{ℕ, _+_, _*_, _%_, _^_, _≤_, _<_}
 use mathlib.Core.Path.{_≡_}
 use mathlib.Core.List.{List}
 use lib.ListN.{length, take}
@@ -7,7 +7,7 @@ use Rattle.spec_records.specs.Little.{littleAt}
 use Rattle.spec_records.specs.Entries.{FitBytes, FitFormat}
 use Rattle.spec_records.specs.Records.{sizeAt}
 use Rattle.spec_records.specs.Layouts.{Shape, triangleSize, nodeSize, orderStart, imageSize}
-use Rattle.spec_image.specs.Image.{Image}
+use Rattle.spec_image.specs.Image.{Image, leafIn}
 
 -- nine numbers a triangle, as many order entries as triangles, and the nodes' links and boxes
 pub record Complete (x : Image) : Type 0 where
@@ -20,7 +20,7 @@ pub record Storable (sh : Shape) (x : Image) : Type 0 where
   pub complete : Complete x
   pub version : sh .version < 256 ^ 2
   pub strategy : x .settings .strategy < 256 ^ 2
-  pub leafMinimum : x .settings .leafMinimum < 256 ^ 2
+  pub leafMinimum : leafIn sh (x .settings .leafMinimum % 256 ^ 2) ≡ x .settings .leafMinimum
   pub maximumDepth : x .settings .maximumDepth < 256 ^ 2
   pub corners : FitFormat (sh .float) (x .triangles) 0 (length (x .triangles))
   pub entries : FitBytes (sh .entry) (x .order) 0 (length (x .order))

@@ -1,6 +1,6 @@
 // Prints what each case on standard input is, as an image and as an input of `gauge`. Where the image reader takes it, prints whether writing
-// what was read gives the same bytes, and what the writer says. A case is its length, in four bytes, and its bytes.
-// tests/records/generate.rs made the cases and, by a reading of its own, `stdout`.
+// what was read gives the same bytes, and what the writer says. A case is its length, in four bytes, and its bytes. Then come images that are
+// too large to be stored. tests/records/generate.rs made the cases and, by a reading of its own, `stdout`.
 ghost use mathlib.Core.Path.{_≡_};
 ghost use Prim.Native.Nat.{_*_, _≤_};
 ghost use lib.ListN.{length};
@@ -9,6 +9,8 @@ use image::write::ImageWritten;
 use lists::settings::Settings;
 use records::layout::GaugeLayout;
 use records::layout::ImageLayout;
+
+mod large;
 
 fn show(line: [u8; 96], end: usize) {
     if end <= 96 {
@@ -109,7 +111,16 @@ fn write_again(
     requires { ⌜ (3 * nodes ≤ length (now links)) × (6 * nodes ≤ length (now boxes)) × (nodes ≤ 7) ⌝ }
 {
     let mut out = [0; 400];
-    let end = image::put::put_image(settings, triangles, order, links, boxes, nodes, &mut out);
+    let end = image::put::put_image(
+        false,
+        settings,
+        triangles,
+        order,
+        links,
+        boxes,
+        nodes,
+        &mut out,
+    );
     put_same(check::same(&out[0..end], bytes));
     write_tested(bytes, settings, triangles, order, links, boxes, nodes);
 }
@@ -159,4 +170,5 @@ fn main() {
     for turn in 0..1000usize {
         put_next();
     }
+    crate::large::put_all();
 }

@@ -2,13 +2,17 @@
 use native.Mathlib.Omega.{arith}
 use mathlib.Core.Path.{sym}
 use borrow.Author.Tests.{lt-ltb}
-use Rattle.spec_records.specs.Layouts.{version1, imageSize}
+use Rattle.spec_records.specs.Layouts.{versionFor, imageSize}
+use Rattle.spec_image.proofs.Versions.{size-least}
 use borrow.Author.Needs.{needs}
 use Rattle.image.proofs.size.is_short.Statement.{statement}
 use Rattle.image.proofs.size.is_short.Tie as tie
 
 returns : tie.Need-returns
-returns c = sym (lt-ltb (c .before .args .given) (imageSize version1 (c .before .args .triangles) (c .before .args .nodes)) (omega arith))
+returns c =
+    let a = c .before .args in
+    let least = size-least (a .triangles) (a .nodes) in
+    sym (lt-ltb (a .given) (imageSize (versionFor (a .triangles)) (a .triangles) (a .nodes)) (omega arith))
 
 returns-2 : tie.Need-returns-2
 returns-2 c = rw (c .image-size .ensures)

@@ -10,7 +10,7 @@ query-layout-requires : tie.Need-query-layout-requires
 query-layout-requires c κs = sym (c .before .before .before .«opening-of» .ensures) ∙ c .before .triangles .given .1
 
 returns-2 : tie.Need-returns-2
-returns-2 c = sym (not-opened queryWants _ (sym (c .before .before .before .«opening-of» .ensures) ∙ c .before .at .given .1))
+returns-2 c = sym (not-opened _ queryWants (sym (c .before .before .before .«opening-of» .ensures) ∙ c .before .at .given .1))
 
 pub gauge-layout-spec : {M : Type 1} → statement M
 gauge-layout-spec =

@@ -3,7 +3,8 @@ use mathlib.Core.Path.{sym, _∙_}
 use mathlib.Core.Bool.{true}
 use borrow.Author.Tests.{not-true, not-false}
 use denote.Ref.{now}
-use Rattle.spec_records.specs.Records.{whole}
+use Rattle.spec_records.specs.Little.{littleAt}
+use Rattle.spec_records.specs.Layouts.{trianglesRight}
 use Rattle.spec_records.proofs.Records.{test-decides}
 use Rattle.records.proofs.Answers.{is-right, is-wrong}
 use borrow.Author.Needs.{needs}
@@ -15,26 +16,26 @@ returns c = rw (sym (c .before .«has-settings» .ensures) ∙ not-true _ (c .if
 
 returns-2 : tie.Need-returns-2
 returns-2 c =
-    let after-whole-body = c .before .before in
-    let chosen = after-whole-body .before in
+    let after-triangles = c .before .before in
+    let chosen = after-triangles .before in
     let after-has-settings = chosen .before in
     let s = now (after-has-settings .before .before .args .bytes) in
     rw (
       sym (after-has-settings .«has-settings» .ensures) ∙ not-false _ (chosen .if1 .left),
-      is-wrong 2 (whole 36) s 14 (after-whole-body .«whole-body» .ensures) (c .«enum-told» .given .1),
+      is-wrong 2 (trianglesRight (littleAt 2 s 6)) s 14 (after-triangles .«triangles-body» .ensures) (c .«enum-told» .given .1),
     )
 
 returns-3 : tie.Need-returns-3
 returns-3 c =
     let at-triangles = c .before in
-    let after-whole-body = at-triangles .before .before in
-    let chosen = after-whole-body .before in
+    let after-triangles = at-triangles .before .before in
+    let chosen = after-triangles .before in
     let after-has-settings = chosen .before in
     let s = now (after-has-settings .before .before .args .bytes) in
-    let triangles = is-right 2 (whole 36) s 14 (after-whole-body .«whole-body» .ensures) (at-triangles .triangles .given .1) in
+    let triangles = is-right 2 (trianglesRight (littleAt 2 s 6)) s 14 (after-triangles .«triangles-body» .ensures) (at-triangles .triangles .given .1) in
     rw (
       sym (after-has-settings .«has-settings» .ensures) ∙ not-false _ (chosen .if1 .left),
-      test-decides 2 (whole 36) s 14 _ true (triangles .there) (triangles .sized) (triangles .passes),
+      test-decides 2 (trianglesRight (littleAt 2 s 6)) s 14 _ true (triangles .there) (triangles .sized) (triangles .passes),
       triangles .sized,
     )
 

@@ -5,9 +5,9 @@ use borrow.Author.Tests.{not-true, not-false}
 use denote.Ref.{now}
 use Rattle.spec_records.specs.Records.{bodies, whole}
 use Prim.Native.Nat.{_+_}
-use Rattle.spec_records.specs.Layouts.{gaugeWants}
-use Rattle.spec_records.proofs.Records.{right-within, reach-start, reach-on, reach-wrong, reach-end, reach-extra}
-use Rattle.spec_records.proofs.Layouts.{exactly-right, whole-size, gauge-spans}
+use Rattle.spec_records.specs.Layouts.{queryWants}
+use Rattle.spec_records.proofs.Records.{right-within, reach-on, reach-wrong, reach-end, reach-extra}
+use Rattle.spec_records.proofs.Layouts.{exactly-right, whole-size, triangles-whole, opened, gauge-spans}
 use Rattle.records.proofs.Answers.{is-right, is-wrong, is-opened}
 use borrow.Author.Needs.{needs}
 use Rattle.records.proofs.layout.query_layout.Statement.{statement}
@@ -23,8 +23,8 @@ returns c =
     let after-whole-body = c .before .before in
     let start = after-whole-body .before .before in
     let s = now (start .args .bytes) in
-    let opened = is-opened s (start .pre) in
-    let front = reach-on (reach-on (reach-start gaugeWants s) (opened .settings)) (opened .triangles) in
+    let o = is-opened s (start .pre) in
+    let front = opened queryWants (o .settings) (o .triangles) in
     sym (reach-wrong front (is-wrong 5 (whole 12) s _ (after-whole-body .«whole-body» .ensures) (c .«enum-told» .given .1)))
 
 add-fourth : tie.Need-add-fourth
@@ -46,8 +46,8 @@ returns-2 c =
     let start = after-whole-body .before .before in
     let s = now (start .args .bytes) in
     let size = start .args .triangles in
-    let opened = is-opened s (start .pre) in
-    let front = reach-on (reach-on (reach-start gaugeWants s) (opened .settings)) (opened .triangles) in
+    let o = is-opened s (start .pre) in
+    let front = opened queryWants (o .settings) (o .triangles) in
     let points = is-right 5 (whole 12) s (20 + size) (after-whole-body .«whole-body» .ensures) (at-points .points .given .1) in
     sym (reach-wrong (reach-on front points) (sym (c .before .«has-body» .ensures) ∙ not-true _ (c .if1 .taken)))
 
@@ -72,8 +72,8 @@ returns-3 c =
     let start = after-whole-body .before .before in
     let s = now (start .args .bytes) in
     let size = start .args .triangles in
-    let opened = is-opened s (start .pre) in
-    let front = reach-on (reach-on (reach-start gaugeWants s) (opened .settings)) (opened .triangles) in
+    let o = is-opened s (start .pre) in
+    let front = opened queryWants (o .settings) (o .triangles) in
     let points = is-right 5 (whole 12) s (20 + size) (after-whole-body .«whole-body» .ensures) (at-points .points .given .1) in
     let distance = exactly-right 6 4 s _ (sym (after-has-body .«has-body» .ensures) ∙ not-false _ (chosen .if1 .left)) in
     sym (reach-extra (reach-on (reach-on front points) distance) (c .if2 .taken))
@@ -87,11 +87,11 @@ returns-4 c =
     let start = after-whole-body .before .before in
     let s = now (start .args .bytes) in
     let size = start .args .triangles in
-    let opened = is-opened s (start .pre) in
-    let front = reach-on (reach-on (reach-start gaugeWants s) (opened .settings)) (opened .triangles) in
+    let o = is-opened s (start .pre) in
+    let front = opened queryWants (o .settings) (o .triangles) in
     let points = is-right 5 (whole 12) s (20 + size) (after-whole-body .«whole-body» .ensures) (at-points .points .given .1) in
     let distance = exactly-right 6 4 s _ (sym (after-has-body .«has-body» .ensures) ∙ not-false _ (chosen .if1 .left)) in
-    ap bodies (gauge-spans size _ (whole-size 36 (opened .triangles)) (whole-size 12 points))
+    ap bodies (gauge-spans size _ (triangles-whole _ s 14 (o .triangles)) (whole-size 12 points))
     ∙ sym (reach-end (reach-on (reach-on front points) distance) (c .if2 .left))
 
 pub query-layout-spec : {M : Type 1} → statement M

@@ -4,10 +4,10 @@ use native.Mathlib.Omega.{arith}
 use borrow.Author.Tests.{not-true, not-false}
 use denote.Ref.{now}
 use Rattle.spec_records.specs.Records.{bodies, whole}
-use Prim.Native.Nat.{_+_, _*_, _/_}
+use Prim.Native.Nat.{_+_}
 use Rattle.spec_records.proofs.Records.{right-within, reach-on, reach-wrong, reach-end, reach-extra}
-use Rattle.spec_records.proofs.Layouts.{exactly-right, whole-size, tree-wanted, image-spans}
-use Rattle.records.proofs.Answers.{is-right, is-wrong, is-opened}
+use Rattle.spec_records.proofs.Layouts.{exactly-right, whole-size}
+use Rattle.records.proofs.Answers.{is-right, is-wrong, is-opened, tree-next, tree-spans}
 use borrow.Author.Needs.{needs}
 use Rattle.records.proofs.layout.tree_layout.Statement.{statement}
 use Rattle.records.proofs.layout.tree_layout.Tie as tie
@@ -15,28 +15,32 @@ use Rattle.records.proofs.layout.tree_layout.Tie as tie
 add-third : tie.Need-add-third
 add-third c =
     let s = now (c .before .args .bytes) in
-    omega (arith, right-within (is-opened s (c .before .pre) .triangles))
+    omega (arith, right-within (is-opened s (c .before .pre .front) .triangles))
 
 returns : tie.Need-returns
 returns c =
     let start = c .before .before .before in
-    let s = now (start .args .bytes) in
-    let opened = is-opened s (start .pre) in
-    sym (reach-wrong (tree-wanted (opened .settings) (opened .triangles)) (sym (c .before .«has-body» .ensures) ∙ not-true _ (c .if1 .taken)))
+    sym (reach-wrong (tree-next (start .pre)) (sym (c .before .«has-body» .ensures) ∙ not-true _ (c .if1 .taken)))
 
 add-fourth : tie.Need-add-fourth
 add-fourth c =
     let start = c .before .before .before in
-    let s = now (start .args .bytes) in
-    let size = start .args .triangles in
-    omega (arith, right-within (exactly-right 3 (2 * (size / 36)) s (20 + size) (sym (c .before .«has-body» .ensures) ∙ not-false _ (c .if1 .left))))
+    let a = start .args in
+    omega (
+      arith,
+      right-within (exactly-right 3 (a .order) (now (a .bytes)) (20 + a .triangles)
+          (sym (c .before .«has-body» .ensures) ∙ not-false _ (c .if1 .left))),
+    )
 
 add-fourth-2 : tie.Need-add-fourth-2
 add-fourth-2 c =
     let start = c .before .before .before in
-    let s = now (start .args .bytes) in
-    let size = start .args .triangles in
-    omega (arith, right-within (exactly-right 3 (2 * (size / 36)) s (20 + size) (sym (c .before .«has-body» .ensures) ∙ not-false _ (c .if1 .left))))
+    let a = start .args in
+    omega (
+      arith,
+      right-within (exactly-right 3 (a .order) (now (a .bytes)) (20 + a .triangles)
+          (sym (c .before .«has-body» .ensures) ∙ not-false _ (c .if1 .left))),
+    )
 
 returns-2 : tie.Need-returns-2
 returns-2 c =
@@ -44,26 +48,23 @@ returns-2 c =
     let chosen = after-whole-body .before in
     let after-has-body = chosen .before in
     let start = after-has-body .before .before in
-    let s = now (start .args .bytes) in
-    let size = start .args .triangles in
-    let opened = is-opened s (start .pre) in
-    let order = exactly-right 3 (2 * (size / 36)) s (20 + size) (sym (after-has-body .«has-body» .ensures) ∙ not-false _ (chosen .if1 .left)) in
-    sym (reach-wrong (reach-on (tree-wanted (opened .settings) (opened .triangles)) order)
-    (is-wrong 4 (whole 30) s _ (after-whole-body .«whole-body» .ensures) (c .«enum-told» .given .1)))
+    let a = start .args in
+    let s = now (a .bytes) in
+    let order = exactly-right 3 (a .order) s (20 + a .triangles) (sym (after-has-body .«has-body» .ensures) ∙ not-false _ (chosen .if1 .left)) in
+    sym (reach-wrong (reach-on (tree-next (start .pre)) order)
+    (is-wrong 4 (whole (a .node)) s _ (after-whole-body .«whole-body» .ensures) (c .«enum-told» .given .1)))
 
 add-end : tie.Need-add-end
 add-end c =
     let after-whole-body = c .before .before .before in
-    let start = after-whole-body .before .before .before .before in
-    let s = now (start .args .bytes) in
-    omega (arith, right-within (is-right 4 (whole 30) s _ (after-whole-body .«whole-body» .ensures) (c .before .nodes .given .1)))
+    let a = after-whole-body .before .before .before .before .args in
+    omega (arith, right-within (is-right 4 (whole (a .node)) (now (a .bytes)) _ (after-whole-body .«whole-body» .ensures) (c .before .nodes .given .1)))
 
 add-end-2 : tie.Need-add-end-2
 add-end-2 c =
     let after-whole-body = c .before .before .before in
-    let start = after-whole-body .before .before .before .before in
-    let s = now (start .args .bytes) in
-    omega (arith, right-within (is-right 4 (whole 30) s _ (after-whole-body .«whole-body» .ensures) (c .before .nodes .given .1)))
+    let a = after-whole-body .before .before .before .before .args in
+    omega (arith, right-within (is-right 4 (whole (a .node)) (now (a .bytes)) _ (after-whole-body .«whole-body» .ensures) (c .before .nodes .given .1)))
 
 returns-3 : tie.Need-returns-3
 returns-3 c =
@@ -72,12 +73,11 @@ returns-3 c =
     let chosen = after-whole-body .before in
     let after-has-body = chosen .before in
     let start = after-has-body .before .before in
-    let s = now (start .args .bytes) in
-    let size = start .args .triangles in
-    let opened = is-opened s (start .pre) in
-    let order = exactly-right 3 (2 * (size / 36)) s (20 + size) (sym (after-has-body .«has-body» .ensures) ∙ not-false _ (chosen .if1 .left)) in
-    let nodes = is-right 4 (whole 30) s _ (after-whole-body .«whole-body» .ensures) (at-nodes .nodes .given .1) in
-    sym (reach-extra (reach-on (reach-on (tree-wanted (opened .settings) (opened .triangles)) order) nodes) (c .if2 .taken))
+    let a = start .args in
+    let s = now (a .bytes) in
+    let order = exactly-right 3 (a .order) s (20 + a .triangles) (sym (after-has-body .«has-body» .ensures) ∙ not-false _ (chosen .if1 .left)) in
+    let nodes = is-right 4 (whole (a .node)) s _ (after-whole-body .«whole-body» .ensures) (at-nodes .nodes .given .1) in
+    sym (reach-extra (reach-on (reach-on (tree-next (start .pre)) order) nodes) (c .if2 .taken))
 
 returns-4 : tie.Need-returns-4
 returns-4 c =
@@ -86,16 +86,15 @@ returns-4 c =
     let chosen = after-whole-body .before in
     let after-has-body = chosen .before in
     let start = after-has-body .before .before in
-    let s = now (start .args .bytes) in
-    let size = start .args .triangles in
-    let opened = is-opened s (start .pre) in
-    let order = exactly-right 3 (2 * (size / 36)) s (20 + size) (sym (after-has-body .«has-body» .ensures) ∙ not-false _ (chosen .if1 .left)) in
-    let nodes = is-right 4 (whole 30) s _ (after-whole-body .«whole-body» .ensures) (at-nodes .nodes .given .1) in
-    ap bodies (image-spans size _ (whole-size 36 (opened .triangles)) (whole-size 30 nodes))
-    ∙ sym (reach-end (reach-on (reach-on (tree-wanted (opened .settings) (opened .triangles)) order) nodes) (c .if2 .left))
+    let a = start .args in
+    let s = now (a .bytes) in
+    let order = exactly-right 3 (a .order) s (20 + a .triangles) (sym (after-has-body .«has-body» .ensures) ∙ not-false _ (chosen .if1 .left)) in
+    let nodes = is-right 4 (whole (a .node)) s _ (after-whole-body .«whole-body» .ensures) (at-nodes .nodes .given .1) in
+    ap bodies (tree-spans (start .pre) _ (whole-size (a .node) nodes))
+    ∙ sym (reach-end (reach-on (reach-on (tree-next (start .pre)) order) nodes) (c .if2 .left))
 
 pub tree-layout-spec : {M : Type 1} → statement M
 tree-layout-spec =
     tie.close
-    (tie.spec add-third (λ c. search needs) (λ c κs. search needs) returns add-fourth add-fourth-2 (λ c κs. search needs) (λ c. search needs)
-    (λ c. search needs) returns-2 add-end add-end-2 returns-3 returns-4)
+    (tie.spec add-third (λ c κs. search needs) returns add-fourth add-fourth-2 (λ c κs. search needs) (λ c. search needs) (λ c. search needs)
+    returns-2 add-end add-end-2 returns-3 (λ c. search needs) returns-4)
