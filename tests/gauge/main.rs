@@ -104,6 +104,20 @@ fn named(cases: &mut Vec<Vec<u8>>) {
     for distance in [0.0, -0.0, -f32::from_bits(1), 4194304.0, 4194304.5, f32::NAN, f32::INFINITY, f32::NEG_INFINITY] {
         cases.push(Run { distance, ..document() }.input());
     }
+    // there is no room for as many triangles as version 2 keeps
+    cases.push(Run { version: 2, triangles: T0.repeat(908), points: vec![], ..document() }.input());
+    for version in [2, 3, 258] {
+        for triangles in [vec![], T0.to_vec()] {
+            cases.push(Run { version, triangles, ..document() }.input());
+        }
+        let mut records = Run { version, ..document() }.records();
+        records[1] = record(2, vec![0; 35]);
+        cases.push(records.concat());
+        cases.push(records[0].clone());
+    }
+    for settings in [[1, 4095, 40], [1, 65535, 40], [2, 4097, 40], [2, 65535, 40], [2, 0, 40]] {
+        cases.push(Run { settings, ..document() }.input());
+    }
 }
 
 /// A bad number at each place of the lists, alone and before others.

@@ -20,7 +20,7 @@ fn f32s(body: &[u8]) -> Vec<f32> {
 /// The four bodies, or the offset of the first wrong record.
 fn records(s: &[u8]) -> Result<Vec<&[u8]>, usize> {
     let mut at = 0;
-    let mut bodies = Vec::new();
+    let mut bodies: Vec<&[u8]> = Vec::new();
     for kind in [1, 2, 5, 6] {
         if s.len() - at < 6 {
             return Err(at);
@@ -31,8 +31,9 @@ fn records(s: &[u8]) -> Result<Vec<&[u8]>, usize> {
         }
         let body = &s[at + 6..at + 6 + size];
         let right = match kind {
-            1 => size == 8 && u16_at(body, 0) == 1,
-            2 => size % 36 == 0,
+            1 => size == 8 && (1..=2).contains(&u16_at(body, 0)),
+            // version 1 keeps up to 4,096 triangles, version 2 more
+            2 => size % 36 == 0 && (size / 36 <= 4096) == (u16_at(bodies[0], 0) == 1),
             5 => size % 12 == 0,
             _ => size == 4,
         };

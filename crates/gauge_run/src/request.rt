@@ -2,6 +2,7 @@
 ghost use mathlib.Core.Path.{_≡_};
 ghost use Rattle.lists.specs.Values.{asVerdict, asSettings};
 ghost use Rattle.spec_gauge.specs.Printed.{requestRefusal};
+use image::write::leaf_refusal;
 use lists::settings::Settings;
 use lists::settings::settings_refusal;
 use lists::tests::distance_refusal;
@@ -21,6 +22,7 @@ pub fn request_refusal(
 {
     triangles_refusal(triangles)
         .or(settings_refusal(settings))
+        .or(leaf_refusal(false, settings))
         .or(points_refusal(points))
         .or(distance_refusal(distance))
 }

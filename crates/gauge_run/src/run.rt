@@ -73,6 +73,9 @@ fn put_run(
     let mut order = [0u32; 909];
     let mut links = [0u32; 5451];
     let mut boxes = [0.0f32; 10902];
+    let mut bounds = [0.0f32; 5454];
+    let mut centres = [0.0f32; 2727];
+    let mut scratch = [0u32; 909];
     let Built::Tree { nodes, depth } = build(
         triangles,
         settings.strategy,
@@ -81,6 +84,9 @@ fn put_run(
         &mut order,
         &mut links,
         &mut boxes,
+        &mut bounds,
+        &mut centres,
+        &mut scratch,
     ) else {
         return 0;
     };
@@ -135,7 +141,7 @@ fn print_sized(input: &[u8], count: usize, touched: usize, out: &mut [u8]) -> us
     read_f32s(input, third, coordinates, &mut points, 0);
     print_request(
         &triangles[..numbers],
-        settings_of(input),
+        settings_of(input, false),
         &points[..coordinates],
         from_bits(u32_at(input, fourth)),
         out,

@@ -1,17 +1,22 @@
 -- What is printed, by what was found of the input: a layout that is wrong, one that is right, tests that passed.
-use mathlib.Core.Path.{_≡_}
-use mathlib.Core.List.{List, [], _++_}
-use mathlib.Core.Bool.{false}
+use mathlib.Core.Path.{_≡_, refl, sym, ap, _∙_}
+use mathlib.Core.List.{List, [], _∷_, _++_}
+use mathlib.Core.Bool.{Bool, true, false, not}
 use Prim.Native.Nat.{ℕ, _+_, _*_, _/_, _≤_, _<_}
 use native.Mathlib.Omega.{arith}
-use borrow.Author.Tests.{lt-ltb, le-ltb}
-use lib.Dec.{ltb}
+use borrow.Author.Tests.{lt-ltb, le-ltb, leb-true, leb-false}
+use lib.Dec.{leb, ltb}
 use lib.ListN.{length}
-use Rattle.spec_records.specs.Records.{bodies, wrong, done, one, exactly, whole, laidOut}
-use Rattle.spec_records.specs.Layouts.{version1, settingsRight, queryWants, gaugeWants, gaugeSpans}
-use Rattle.spec_records.proofs.Records.{one-back, done-back}
+use Rattle.spec_records.specs.Records.{bodies, wrong, done, one, exactly, whole, sizeAt, isRight, laidOut}
+use Rattle.spec_tables.specs.Tables.{slice}
+use Rattle.spec_records.specs.Little.{littleAt}
+use Rattle.spec_records.specs.Layouts.{Shape, version1, settingsRight, trianglesRight, queryWants, gaugeWants, gaugeSpans}
+use Rattle.spec_records.proofs.Little.{number-slice}
+use Rattle.spec_records.proofs.Records.{record-past, none-there, one-back, done-back}
+use Rattle.spec_records.proofs.Layouts.{version-small, settings-right, triangles-suit, triangles-wrong, few-in-version2}
 use Rattle.spec_printing.specs.Printed.{refusedLine}
-use Rattle.spec_lists.specs.Refusals.{passes, refused, trianglesRefusal, settingsRefusal, pointsRefusal, distanceRefusal}
+use Rattle.spec_image.specs.Writing.{leafRefusal}
+use Rattle.spec_lists.specs.Refusals.{passes, refused, refusedIf, firstRefusal, trianglesRefusal, areSettings, settingsRefusal, pointsRefusal, distanceRefusal}
 use Rattle.spec_lists.proofs.Verdicts.{all-pass}
 use Rattle.spec_gauge.specs.Printed.{maxBytes, Request, requestIn, requestRefusal, treeLine, answerLines, printedRun, printed}
 
@@ -20,11 +25,22 @@ use Rattle.spec_gauge.specs.Printed.{maxBytes, Request, requestIn, reque
 pub gauge-long : (s : List ℕ) (t p : ℕ) → laidOut gaugeWants s 0 ≡ bodies (gaugeSpans t p) → 36 + 36 * t + 12 * p ≡ length s
 unfolding gaugeSpans
 gauge-long s t p e =
-    let a = one-back 1 (settingsRight version1) (λ _. one 2 (whole 36) queryWants) s 0 _ _ e in
-    let b = one-back 2 (whole 36) queryWants s 14 _ _ (a .onward) in
+    let a = one-back 1 settingsRight (λ settings. one 2 (trianglesRight (littleAt 2 settings 0)) queryWants) s 0 _ _ e in
+    let b = one-back 2 (trianglesRight (littleAt 2 (slice s 6 8) 0)) queryWants s 14 _ _ (a .onward) in
     let c = one-back 5 (whole 12) (λ _. one 6 (exactly 4) (λ _. done)) s (20 + 36 * t) _ _ (b .onward) in
     let d = one-back 6 (exactly 4) (λ _. done) s (20 + 36 * t + 6 + 12 * p) _ _ (c .onward) in
     omega (arith, done-back s (20 + 36 * t + 6 + 12 * p + 6 + 4) [] (d .onward))
+
+-- and of version 1: so few triangles are kept in no other
+pub gauge-version : (s : List ℕ) (t p : ℕ) → length s ≤ maxBytes → laidOut gaugeWants s 0 ≡ bodies (gaugeSpans t p) → littleAt 2 s 6 ≡ 1
+unfolding gaugeSpans
+gauge-version s t p few e =
+    let two : 2 ≤ 8 = omega arith in
+    let a = one-back 1 settingsRight (λ settings. one 2 (trianglesRight (littleAt 2 settings 0)) queryWants) s 0 _ _ e in
+    let b = one-back 2 (trianglesRight (littleAt 2 (slice s 6 8) 0)) queryWants s 14 _ _ (a .onward) in
+    let small : 36 * t / 36 ≤ 4096 = omega (arith, gauge-long s t p e) in
+    sym (number-slice 2 s 6 8 two) ∙ sym (triangles-suit (littleAt 2 (slice s 6 8) 0) s 14 (b .right))
+    ∙ ap (λ (sh : Shape). sh .version) (version-small (36 * t / 36) small)
 
 -- an input over the maximum size is refused with 10 at place 0, unread
 pub too-long : (s : List ℕ) → maxBytes < length s → refusedLine 10 0 ≡ printed s
@@ -39,6 +55,16 @@ module _ (s : List ℕ) (h : length s ≤ maxBytes) where
   pub wrong-printed : (at : ℕ) → laidOut gaugeWants s 0 ≡ wrong at → refusedLine 10 at ≡ printed s
   unfolding printed
   wrong-printed at e = rw (short, e)
+
+  -- a version 2 of the settings is refused with 10 at 14, the place of the triangles: there is no room for as many as it keeps
+  pub version2-printed : isRight 1 settingsRight s 0 ≡ true → littleAt 2 s 6 ≡ 2 → refusedLine 10 14 ≡ printed s
+  version2-printed settings two = wrong-printed 14 (go (leb (20 + sizeAt s 14) (length s)) refl)
+    where
+      go : (inside : Bool) → leb (20 + sizeAt s 14) (length s) ≡ inside → laidOut gaugeWants s 0 ≡ wrong 14
+      go true e = few-in-version2 queryWants s settings two (omega (arith, leb-true (20 + sizeAt s 14) (length s) e))
+      go false e =
+          triangles-wrong queryWants (settings-right s settings)
+          (none-there 2 (trianglesRight (littleAt 2 s 6)) s 14 (record-past 2 s 14 (leb-false (20 + sizeAt s 14) (length s) e)))
 
   -- a right layout prints the run of the request that it holds
   pub right-printed : (t p : ℕ) → laidOut gaugeWants s 0 ≡ bodies (gaugeSpans t p) → printedRun (requestIn s t p) ≡ printed s
@@ -64,6 +90,7 @@ passed-printed a e = rw e
 pub record AllPassed (a : Request) : Type 0 where
   pub triangles : trianglesRefusal (a .triangles) ≡ passes
   pub settings : settingsRefusal (a .settings) ≡ passes
+  pub leaf : leafRefusal version1 (a .settings) ≡ passes
   pub points : pointsRefusal (a .points) ≡ passes
   pub distance : distanceRefusal (a .distance) ≡ passes
 
@@ -72,4 +99,14 @@ pub all-passed : (a : Request) → requestRefusal a ≡ passes → AllPassed a
 unfolding requestRefusal
 all-passed a e =
     let p = all-pass _ e in
-    record { triangles = p .0; settings = p .1 .0; points = p .1 .1 .0; distance = p .1 .1 .1 .0 }
+    record { triangles = p .0; settings = p .1 .0; leaf = p .1 .1 .0; points = p .1 .1 .1 .0; distance = p .1 .1 .1 .1 .0 }
+
+-- ---- 5
+-- a leaf minimum that version 1 does not keep is refused as 5, whatever the other settings
+pub large-leaf-refused : (a : Request) → trianglesRefusal (a .triangles) ≡ passes → 4096 < a .settings .leafMinimum → requestRefusal a ≡ refused 5 0
+unfolding requestRefusal firstRefusal settingsRefusal leafRefusal
+large-leaf-refused a t large = rw (t, lt-ltb 4096 (a .settings .leafMinimum) large) (go (not (areSettings (a .settings))))
+  where
+    go : (b : Bool) → firstRefusal (refusedIf b 5 0 ∷ refused 5 0 ∷ pointsRefusal (a .points) ∷ distanceRefusal (a .distance) ∷ []) ≡ refused 5 0
+    go true = refl
+    go false = refl

@@ -27,8 +27,9 @@ use Rattle.spec_search.specs.Sure.{limitOf, counts, offered, hit, tookSure, sca
 use Rattle.spec_search.specs.Calls.{sureAnswer}
 use Rattle.spec_records.specs.Little.{littleAt, ofLittle}
 use Rattle.spec_records.specs.Records.{bodies, isRecord, isRight, laidOut}
-use Rattle.spec_records.specs.Layouts.{gaugeWants, gaugeSpans}
-use Rattle.spec_image.specs.Image.{settingsIn}
+use Rattle.spec_records.specs.Layouts.{versionFor, gaugeWants, gaugeSpans}
+use Rattle.spec_image.specs.Image.{leafIn, settingsIn}
+use Rattle.spec_image.specs.Writing.{leafRefusal}
 use Rattle.spec_printing.specs.Printed.{Found, countsLine, foundLine, nothingLine}
 use Rattle.spec_printing.proofs.PrintedRun.{counts-printed, found-printed, nothing-printed}
 use Rattle.spec_gauge.specs.Printed.{Request, requestIn, requestRefusal, answerLine, answerLines, treeLine, printedRun, printed}
@@ -55,7 +56,7 @@ scopeLines =
 
 -- ---- what the bytes hold
 laid : laidOut gaugeWants scopeInput 0 ≡ bodies (gaugeSpans 2 2)
-unfolding laidOut isRight isRecord littleAt ofLittle gaugeSpans
+unfolding laidOut isRight isRecord versionFor littleAt ofLittle gaugeSpans
 laid = refl
 
 -- 5.5 is 11 / 2
@@ -70,13 +71,13 @@ request =
     }
 
 request-is : requestIn scopeInput 2 2 ≡ request
-unfolding requestIn concatMap littleAt ofLittle ofBits ofInt settingsIn
+unfolding requestIn concatMap littleAt ofLittle ofBits ofInt leafIn settingsIn
 request-is = refl
 
 -- ---- what is printed of it
 asked-passes : requestRefusal request ≡ passes
 unfolding requestRefusal firstRefusal isCoordinate isDistance firstBad raggedRefusal noneRefusal tooManyRefusal coordinateRefusal trianglesRefusal
-    areSettings settingsRefusal pointsRefusal distanceRefusal triangleCount ofInt le
+    areSettings settingsRefusal leafRefusal pointsRefusal distanceRefusal triangleCount ofInt le
 asked-passes = refl
 
 tree-printed : treeLine (request .triangles) (request .settings) ≡ countsLine 2 3 2

@@ -10,15 +10,16 @@ use Rattle.spec_tables.specs.Tables.{overwrite}
 use Rattle.spec_tables.proofs.Pieces.{take-overwrite, length-singles}
 use Rattle.spec_records.specs.Little.{littleAt}
 use Rattle.spec_records.specs.Entries.{floatsIn}
+use Rattle.spec_records.specs.Layouts.{version1}
 use Rattle.spec_image.specs.Image.{settingsIn}
 use Rattle.spec_printing.specs.Printed.{countsLine}
 use Rattle.spec_lists.specs.Reading.{triangleCount, pointCount}
 use Rattle.spec_lists.specs.Refusals.{Verdict, passes, refusedIf, Settings}
 use Rattle.spec_lists.proofs.Verdicts.{then-passes}
-use Rattle.spec_lists.proofs.Passed.{room-passes}
+use Rattle.spec_lists.proofs.Passed.{triangles-passed, settings-passed, room-passes}
 use Rattle.spec_tree.specs.Refusals.{treeRefusal}
-use Rattle.spec_build.specs.Build.{made, notMade, answerBy, builtTree, buildRefusal, BuildIs}
-use Rattle.spec_build.proofs.Build.{made-nodes, made-depth, made-accepted}
+use Rattle.spec_build.specs.Build.{Lists, made, notMade, answerBy, builtTree, buildRefusal, BuildIs}
+use Rattle.spec_build.proofs.Build.{build-passes, made-nodes, made-depth, made-accepted}
 use Rattle.spec_search.specs.Calls.{queryRefusal, answerWords, afterQuery, sureAnswer}
 use Rattle.spec_gauge.specs.Printed.{maxBytes, Request, requestIn, treeLine, maxGauged, maxPoints, maxPrinted, Fits}
 use Rattle.spec_gauge.proofs.Printed.{AllPassed}
@@ -27,63 +28,66 @@ accepted-passes : (b : Bool) → b ≡ true → refusedIf (not b) 7 0 ≡ passes
 accepted-passes true e = refl
 accepted-passes false e = cc
 
-module _ (a : Request) (passed : AllPassed a) (order links : List ℕ) (boxes : List Float) (few : triangleCount (a .triangles) ≤ maxGauged)
-    (order-long : length order ≡ maxGauged) (links-long : length links ≡ 5451) (boxes-long : length boxes ≡ 10902) where
-  build-passes : buildRefusal (a .triangles) (a .settings) (length order) (length links) (length boxes) ≡ passes
-  unfolding buildRefusal
-  build-passes =
+-- the lists that the program lends to the build: as many triangles as fit have room
+pub record Lent (lent : Lists) : Type 0 where
+  pub order : length (lent .order) ≡ maxGauged
+  pub links : length (lent .links) ≡ 5451
+  pub boxes : length (lent .boxes) ≡ 10902
+  pub bounds : length (lent .bounds) ≡ 5454
+  pub centres : length (lent .centres) ≡ 2727
+  pub scratch : length (lent .scratch) ≡ maxGauged
+
+module _ (a : Request) (passed : AllPassed a) (few : triangleCount (a .triangles) ≤ maxGauged) {old : Lists} (lent : Lent old) where
+  accepts : buildRefusal (a .triangles) (a .settings) old ≡ passes
+  accepts = build-passes (a .triangles) (a .settings) old (record {
+    triangles-good = triangles-passed (a .triangles) (passed .triangles);
+    settings-good = settings-passed (a .settings) (passed .settings);
+    order-room = omega arith;
+    links-room = omega arith;
+    boxes-room = omega arith;
+    bounds-room = omega arith;
+    centres-room = omega arith;
+    scratch-room = omega arith;
+  })
+
+  -- the build of a request that passed is never refused
+  pub is-built : {number place : ℕ} {new : Lists} → BuildIs binary32 (a .triangles) (a .settings) old (notMade number place) new → ⊥
+  is-built {number} {place} b =
+      let e : notMade number place ≡ made _ _ = b .answer-is
+      ∙ ap (λ (v : Verdict). answerBy v (builtTree binary32 (a .triangles) (a .settings))) accepts in
+      let z : _≡_ {A = ℕ} 0 1 = cc in
+      omega arith
+
+-- ---- the tree that was built
+module _ (a : Request) (passed : AllPassed a) {nodes depth : ℕ} {old new : Lists}
+    (b : BuildIs binary32 (a .triangles) (a .settings) old (made nodes depth) new) where
+  -- the counts that the build answers are those of the tree's line
+  pub tree-line : (count : ℕ) → count ≡ triangleCount (a .triangles) → countsLine count nodes depth ≡ treeLine (a .triangles) (a .settings)
+  unfolding treeLine
+  tree-line count e = rw (
+    e,
+    made-nodes binary32 (a .triangles) (a .settings) old new nodes depth b,
+    made-depth binary32 (a .triangles) (a .settings) old new nodes depth b,
+  )
+
+  -- the query of the tree that was built is never refused
+  pub query-passes : (count : ℕ) → count ≡ triangleCount (a .triangles) → pointCount (a .points) ≤ maxPoints
+      → queryRefusal (a .triangles) (take count (new .order)) (new .links) (new .boxes) nodes (a .points) (a .distance) 16380 ≡ passes
+  unfolding queryRefusal treeRefusal
+  query-passes count e h =
       then-passes _ (
         passed .triangles,
         (
-          passed .settings,
+          room-passes 2730 (pointCount (a .points)) h,
           (
-            room-passes _ _ (omega arith),
+            rw e (accepted-passes _ (made-accepted binary32 (a .triangles) (a .settings) old new nodes depth b)),
             (
-              room-passes _ _ (omega arith),
-              (room-passes _ _ (omega arith), tt),
+              passed .points,
+              (passed .distance, tt),
             ),
           ),
         ),
       )
-
-  -- the build of a request that passed is never refused
-  pub is-built : (number place : ℕ) (order′ links′ : List ℕ) (boxes′ : List Float)
-      → BuildIs binary32 (a .triangles) (a .settings) order links boxes (notMade number place) order′ links′ boxes′ → ⊥
-  is-built number place order′ links′ boxes′ b =
-      let e : notMade number place ≡ made _ _ = b .answer-is
-      ∙ ap (λ (v : Verdict). answerBy v (builtTree binary32 (a .triangles) (a .settings))) build-passes in
-      let z : _≡_ {A = ℕ} 0 1 = cc in
-      omega arith
-
-  module _ (nodes depth : ℕ) (order′ links′ : List ℕ) (boxes′ : List Float)
-      (b : BuildIs binary32 (a .triangles) (a .settings) order links boxes (made nodes depth) order′ links′ boxes′) where
-    -- the counts that the build answers are those of the tree's line
-    pub tree-line : (count : ℕ) → count ≡ triangleCount (a .triangles) → countsLine count nodes depth ≡ treeLine (a .triangles) (a .settings)
-    unfolding treeLine
-    tree-line count e = rw (
-      e,
-      made-nodes binary32 (a .triangles) (a .settings) order links boxes order′ links′ boxes′ nodes depth b,
-      made-depth binary32 (a .triangles) (a .settings) order links boxes order′ links′ boxes′ nodes depth b,
-    )
-
-    -- the query of the tree that was built is never refused
-    pub query-passes : (count : ℕ) → count ≡ triangleCount (a .triangles) → pointCount (a .points) ≤ maxPoints
-        → queryRefusal (a .triangles) (take count order′) links′ boxes′ nodes (a .points) (a .distance) 16380 ≡ passes
-    unfolding queryRefusal treeRefusal
-    query-passes count e h =
-        then-passes _ (
-          passed .triangles,
-          (
-            room-passes 2730 (pointCount (a .points)) h,
-            (
-              rw e (accepted-passes _ (made-accepted binary32 (a .triangles) (a .settings) order links boxes order′ links′ boxes′ nodes depth b)),
-              (
-                passed .points,
-                (passed .distance, tt),
-              ),
-            ),
-          ),
-        )
 
 -- a query that is not refused answers all points
 pub is-answered : (triangles : List Float) (distance : Float) (points : List Float) (old new : List ℕ) (v w : Verdict) → v ≡ w → w ≡ passes
@@ -101,7 +105,7 @@ unfolding triangleCount pointCount
 fits t p triangles points out a b h room = record { triangles-few = rw a (omega arith); points-few = rw b (omega arith); room = room }
 
 -- what the program reads into its lists is the request as defined
-pub request-is : (s : List ℕ) (t p : ℕ) (settings : Settings) (triangles points old older : List Float) (distance : Float) → settings ≡ settingsIn s
+pub request-is : (s : List ℕ) (t p : ℕ) (settings : Settings) (triangles points old older : List Float) (distance : Float) → settings ≡ settingsIn version1 s
     → triangles ≡ overwrite 0 (floatsIn binary32 s 20 (9 * t)) old → points ≡ overwrite 0 (floatsIn binary32 s (20 + 36 * t + 6) (3 * p)) older
     → distance ≡ ofBits binary32 (littleAt 4 s (20 + 36 * t + 6 + 12 * p + 6))
     → _≡_ {A = Request} (record { settings = settings; triangles = take (9 * t) triangles; points = take (3 * p) points; distance = distance })

@@ -9,9 +9,10 @@ use Rattle.spec_tables.specs.Tables.{concatMap}
 use Rattle.spec_records.specs.Little.{littleAt}
 use Rattle.spec_records.specs.Entries.{floatsIn}
 use Rattle.spec_records.specs.Records.{Layout, wrong, bodies, laidOut}
-use Rattle.spec_records.specs.Layouts.{gaugeWants}
+use Rattle.spec_records.specs.Layouts.{version1, gaugeWants}
 use Rattle.spec_image.specs.Image.{settingsIn}
 use Rattle.spec_image.specs.Reading.{sizeOf}
+use Rattle.spec_image.specs.Writing.{leafRefusal}
 use Rattle.spec_printing.specs.Printed.{countsLine, foundLine, nothingLine, refusedLine}
 use Rattle.spec_lists.specs.Reading.{triangleCount, pointAt, pointCount}
 use Rattle.spec_lists.specs.Refusals.{Verdict, passes, refused, firstRefusal, Settings, trianglesRefusal, settingsRefusal, pointsRefusal, distanceRefusal}
@@ -32,21 +33,24 @@ pub record Request : Type 0 where
   pub points : List Float
   pub distance : Float
 
--- of an input of t triangles and p points, whose bodies start at 6, 20, 26 + 36t and 32 + 36t + 12p
+-- of an input of t triangles and p points, whose bodies start at 6, 20, 26 + 36t and 32 + 36t + 12p; of version 1, since no more than 909
+-- triangles fit
 unfoldable pub requestIn : List ℕ → ℕ → ℕ → Request
 requestIn s t p = record {
-  settings = settingsIn s;
+  settings = settingsIn version1 s;
   triangles = floatsIn binary32 s 20 (9 * t);
   points = floatsIn binary32 s (20 + 36 * t + 6) (3 * p);
   distance = ofBits binary32 (littleAt 4 s (20 + 36 * t + 6 + 12 * p + 6));
 }
 
 -- ---- refusals 1 to 5, 8, 9; 1 and 3 cannot come up, since a body has whole triangles and no more than 909 fit
+-- 5 also of a leaf minimum that version 1 does not keep: a request is of that version
 unfoldable pub requestRefusal : Request → Verdict
 requestRefusal a =
     firstRefusal
     (trianglesRefusal (a .triangles)
     ∷ settingsRefusal (a .settings)
+    ∷ leafRefusal version1 (a .settings)
     ∷ pointsRefusal (a .points)
     ∷ distanceRefusal (a .distance)
     ∷ [])

@@ -14,13 +14,15 @@ use Rattle.gauge_run.proofs.run.put_run.Tie as tie
 
 returns : tie.Need-returns
 returns c =
-    let at-boxes2 = c .before .before in
-    let after-build = at-boxes2 .before .before .before in
-    let at-order = after-build .before .before .before in
+    let at-bounds2 = c .before .before .before .before in
+    let after-build = at-bounds2 .before .before .before .before in
+    let at-boxes = after-build .before .before .before .before in
+    let at-order = at-boxes .before .before in
     let start = at-order .before .before .before .before in
     let a = start .args in
     let request : Request = record { settings = asSettings (a .settings); triangles = now (a .triangles); points = now (a .points); distance = a .distance } in
-    absurd (is-built request (all-passed request (start .pre .0)) _ _ _ (start .pre .1 .triangles-few) refl refl refl _ _ _ _ _
+    absurd (is-built request (all-passed request (start .pre .0)) (start .pre .1 .triangles-few)
+    (record { order = refl; links = refl; boxes = refl; bounds = refl; centres = refl; scratch = refl })
     (rw (c .enum-told .given .1) at (after-build .build .ensures)))
 
 slice-aggregate-put-answers : tie.Need-slice-aggregate-put-answers
@@ -28,8 +30,11 @@ slice-aggregate-put-answers c =
     let after-put-counts = c .before .before .before in
     let after-triangle-count = after-put-counts .before .before in
     let at-nodes = after-triangle-count .before .before in
-    let at-order2 = at-nodes .before .before .before .before in
-    let at-order = at-order2 .before .before .before .before in
+    let at-bounds2 = at-nodes .before .before .before .before in
+    let at-order2 = at-bounds2 .before .before .before in
+    let after-build = at-order2 .before in
+    let at-boxes = after-build .before .before .before .before in
+    let at-order = at-boxes .before .before in
     let start = at-order .before .before .before .before in
     sym (length-take-le _ _ (omega (arith, after-triangle-count .triangle-count .ensures, start .pre .1 .triangles-few, at-order2 .order2 .given)))
 
@@ -39,15 +44,16 @@ put-answers-requires c κs =
     let after-put-counts = at-order3 .before .before .before in
     let after-triangle-count = after-put-counts .before .before in
     let at-nodes = after-triangle-count .before .before in
-    let at-boxes2 = at-nodes .before .before in
-    let after-build = at-boxes2 .before .before .before in
-    let at-order = after-build .before .before .before in
+    let at-bounds2 = at-nodes .before .before .before .before in
+    let after-build = at-bounds2 .before .before .before .before in
+    let at-boxes = after-build .before .before .before .before in
+    let at-order = at-boxes .before .before in
     let start = at-order .before .before .before .before in
     let a = start .args in
     let request : Request =
     record { settings = asSettings (a .settings); triangles = now (a .triangles); points = now (a .points); distance = a .distance } in (
-      query-passes request (all-passed request (start .pre .0)) _ _ _ (start .pre .1 .triangles-few) refl refl refl _ _ _ _ _
-          (rw (at-nodes .nodes .given .1) at (after-build .build .ensures)) _ (after-triangle-count .triangle-count .ensures) (start .pre .1 .points-few),
+      query-passes request (all-passed request (start .pre .0)) (rw (at-nodes .nodes .given .1) at (after-build .build .ensures)) _
+          (after-triangle-count .triangle-count .ensures) (start .pre .1 .points-few),
       omega (
         arith,
         after-put-counts .put-counts .ensures .1,
@@ -64,21 +70,24 @@ returns-2 c =
     let after-put-counts = at-links3 .before .before .before .before in
     let after-triangle-count = after-put-counts .before .before in
     let at-nodes = after-triangle-count .before .before in
-    let at-boxes2 = at-nodes .before .before in
-    let after-build = at-boxes2 .before .before .before in
-    let at-order = after-build .before .before .before in
+    let at-bounds2 = at-nodes .before .before .before .before in
+    let after-build = at-bounds2 .before .before .before .before in
+    let at-boxes = after-build .before .before .before .before in
+    let at-order = at-boxes .before .before in
     let start = at-order .before .before .before .before in
     let a = start .args in
     let request : Request = record { settings = asSettings (a .settings); triangles = now (a .triangles); points = now (a .points); distance = a .distance } in
     put-then
-    (put-same (tree-line request (all-passed request (start .pre .0)) _ _ _ (start .pre .1 .triangles-few) refl refl refl _ _ _ _ _
-    (rw (at-nodes .nodes .given .1) at (after-build .build .ensures)) _ (after-triangle-count .triangle-count .ensures))
+    (put-same
+    (tree-line request (all-passed request (start .pre .0)) (rw (at-nodes .nodes .given .1) at (after-build .build .ensures)) _
+    (after-triangle-count .triangle-count .ensures))
     (after-put-counts .put-counts .ensures .0))
     (after-put-answers .put-answers .ensures)
 
 pub put-run-spec : {M : Type 1} → statement M
 put-run-spec =
     tie.close
-    (tie.spec (λ c. search needs) (λ c. search needs) (λ c. search needs) (λ c κs. search needs) (λ c. search needs) (λ c. search needs) returns
+    (tie.spec (λ c. search needs) (λ c. search needs) (λ c. search needs) (λ c. search needs) (λ c. search needs) (λ c. search needs)
+    (λ c κs. search needs) (λ c. search needs) (λ c. search needs) returns
     (λ c κs. search needs) (λ c κs. search needs) (λ c. search needs) slice-aggregate-put-answers (λ c. search needs) (λ c. search needs)
     put-answers-requires (λ c. search needs) returns-2)
