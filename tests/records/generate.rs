@@ -64,11 +64,12 @@ fn layout(case: &[u8], wanted: [(u16, Test); 4]) -> Result<Vec<usize>, usize> {
 }
 
 fn is_settings(b: &[Vec<u8>]) -> bool {
-    b[0].len() == 8 && b[0][..2] == [1, 0]
+    b[0].len() == 8 && (b[0][..2] == [1, 0] || b[0][..2] == [2, 0])
 }
 
+/// Version 2 is for more than 4,096 triangles. No stored case has so many, so what comes behind the triangles is version 1's.
 fn is_triangles(b: &[Vec<u8>]) -> bool {
-    b[1].len() % 36 == 0
+    b[1].len() % 36 == 0 && (b[0][0] == 2) == (b[1].len() / 36 > 4096)
 }
 
 fn line(out: &mut String, layout: Result<[usize; 2], usize>) {
@@ -210,6 +211,12 @@ fn trees(two: &[u32], all: &mut Vec<Vec<u8>>) {
         changed[k] ^= 64;
         all.push(changed);
     }
+    // leaf minima, which the reader hands on as they stand
+    for leaf in [0u16, 1, 4096, 4097, 65535] {
+        let mut changed = right.clone();
+        changed[10..12].copy_from_slice(&leaf.to_le_bytes());
+        all.push(changed);
+    }
     all.push(right);
 }
 
@@ -252,7 +259,7 @@ fn cases() -> Vec<Vec<u8>> {
                 }
             }
         }
-        for version in [0, 2, 256, 257] {
+        for version in [0, 2, 3, 256, 257] {
             let mut other = good.clone();
             other[0] = settings(version);
             all.push(bytes(&other));
@@ -266,40 +273,93 @@ fn cases() -> Vec<Vec<u8>> {
     all.push(bytes(&image(&[corners.repeat(2), corners[..9].to_vec()].concat(), 1)));
     all.push(bytes(&image(&nan, 1)));
     all.push(bytes(&input(&[], &[])));
+    let mut none = image(&[], 0);
+    none[0] = settings(2);
+    all.push(bytes(&none));
     trees(&corners, &mut all);
     all
 }
 
-/// A build for a host: settings, how many bytes are lent, the triangles' bytes, and what is told and the image, none on a refusal.
+/// The images that the program makes itself: triangles, leaf minimum, and how many bytes are lent.
+const LARGE: [(usize, usize, usize); 15] = [
+    (4096, 1, 155770),
+    (4096, 4096, 155770),
+    (4096, 4097, 155770),
+    (4096, 65536, 155770),
+    (4096, 1, 155769),
+    (4097, 1, 164014),
+    (4097, 4097, 164014),
+    (4097, 65535, 164014),
+    (4097, 65536, 164014),
+    (4097, 65537, 164014),
+    (4097, 0, 164014),
+    (4097, 1, 164013),
+    (65536, 65536, 2621574),
+    (65536, 1, 2621573),
+    (65537, 1, 2621574),
+];
+
+/// What the writer says of such a tree of three nodes, and the reader of its bytes: as they are, with room for one triangle fewer, and with
+/// each version from 0 to 3 in them.
+fn large(out: &mut String, (count, leaf, room): (usize, usize, usize)) {
+    let (version, entry, node, max_leaf) = if count > 4096 { (2, 4, 34, 65536) } else { (1, 2, 30, 4096) };
+    let size = 4 * 6 + 8 + (36 + entry) * count + 3 * node;
+    let refused = match () {
+        _ if count > 65536 => "refused 3 0",
+        _ if !(1..=max_leaf).contains(&leaf) => "refused 5 0",
+        _ if room < size => "refused 6 0",
+        _ => "",
+    };
+    if !refused.is_empty() {
+        writeln!(out, "{refused}").unwrap();
+        return;
+    }
+    let read = format!("triangles {count} nodes 3 settings 2 {leaf} 40 the same lists");
+    writeln!(out, "bytes {size} version {version} leaf {}\n{read}\nrefused 6 0\nrefused 10 0", leaf % 65536).unwrap();
+    for other in [1, 2] {
+        writeln!(out, "{}", if other == version { &read } else { "refused 10 14" }).unwrap();
+    }
+    writeln!(out, "refused 10 0").unwrap();
+}
+
+/// A drawing for a host: settings, how many bytes are lent, the triangles' bytes, what the build tells, and what the writer tells of what was built,
+/// with the image, none on a refusal.
 struct Build {
     given: [u16; 3],
     room: usize,
     triangles: Vec<u8>,
     told: u64,
-    image: Vec<u8>,
+    written: Option<(u64, Vec<u8>)>,
+    nodes: usize,
 }
 
-/// What is refused: the tests in their order, over trees whose nodes are given.
+/// What is refused: the tests in their order, over trees whose nodes are given. The lists have room for two triangles.
 fn build(given: [u16; 3], room: usize, triangles: &[u8], nodes: &[[u16; 3]]) -> Build {
-    let refused = |number: u64, place: usize| (number << 56 | place as u64, Vec::new());
-    let corners = coordinates(&triangles[..triangles.len() / 4 * 4]);
+    let refused = |number: u64, place: usize| number << 56 | place as u64;
+    let corners = coordinates(triangles);
     let bad = corners.iter().position(|x| !(x.abs() <= 1048576.0));
     let [strategy, leaf, depth] = given;
-    let (told, image) = match bad {
-        _ if triangles.len() % 36 != 0 => refused(1, 0),
-        _ if triangles.is_empty() => refused(2, 0),
+    let told = match bad {
+        _ if corners.len() % 9 != 0 => refused(1, 0),
+        _ if corners.is_empty() => refused(2, 0),
         Some(at) => refused(4, at),
-        _ if !(1..=2).contains(&strategy) || !(1..=4096).contains(&leaf) || depth > 64 => refused(5, 0),
-        None => {
-            let bits: Vec<u32> = read::<4>(triangles).into_iter().map(u32::from_le_bytes).collect();
-            let mut image = tree(&bits, &(0..corners.len() as u16 / 9).collect::<Vec<_>>(), nodes);
-            for (k, n) in given.iter().enumerate() {
-                image[8 + 2 * k..10 + 2 * k].copy_from_slice(&n.to_le_bytes());
-            }
-            if image.len() > room { refused(6, 0) } else { (image.len() as u64, image) }
-        }
+        _ if !(1..=2).contains(&strategy) || leaf == 0 || depth > 64 => refused(5, 0),
+        _ if corners.len() > 18 => refused(6, 0),
+        None => nodes.len() as u64,
     };
-    Build { given, room, triangles: triangles.to_vec(), told, image }
+    let written = (told == nodes.len() as u64).then(|| {
+        let bits: Vec<u32> = read::<4>(triangles).into_iter().map(u32::from_le_bytes).collect();
+        let mut image = tree(&bits, &(0..corners.len() as u16 / 9).collect::<Vec<_>>(), nodes);
+        for (k, n) in given.iter().enumerate() {
+            image[8 + 2 * k..10 + 2 * k].copy_from_slice(&n.to_le_bytes());
+        }
+        match () {
+            _ if leaf > 4096 => (refused(5, 0), Vec::new()),
+            _ if image.len() > room => (refused(6, 0), Vec::new()),
+            _ => (image.len() as u64, image),
+        }
+    });
+    Build { given, room, triangles: triangles.to_vec(), told, written, nodes: nodes.len() }
 }
 
 fn builds() -> Vec<Build> {
@@ -322,23 +382,29 @@ fn builds() -> Vec<Build> {
         all.push(build(given, 138, &t0_t1, &leaf));
     }
     all.push(build([2, 1, 64], 101, &zeros, &one));
-    for given in [[0, 1, 40], [3, 1, 40], [1, 0, 40], [1, 4097, 40], [1, 1, 65]] {
+    for given in [[0, 1, 40], [3, 1, 40], [1, 0, 40], [1, 1, 65]] {
         all.push(build(given, 198, &t0_t1, &split));
+    }
+    // a leaf minimum that is built and that no image of two triangles keeps
+    for given in [[1, 4097, 40], [2, 65535, 40]] {
+        all.push(build(given, 138, &t0_t1, &leaf));
     }
     for (at, x) in [(0, 1048576.125), (7, -1048576.125), (17, f32::NAN), (9, f32::INFINITY)] {
         all.push(build([1, 1, 40], 198, &changed(at, x), &split));
     }
-    for n in [0, 1, 4, 35, 37, 71] {
-        all.push(build([1, 1, 40], 198, &t0_t1[..n], &split));
+    for n in [0, 1, 4, 8, 10, 17] {
+        all.push(build([1, 1, 40], 198, &t0_t1[..4 * n], &split));
     }
+    // one triangle more than the lists have room for
+    all.push(build([1, 1, 40], 198, &[t0_t1.clone(), zeros.clone()].concat(), &split));
     // several at once: the lowest number is told
-    all.push(build([0, 1, 40], 0, &changed(3, f32::NAN)[..70], &split));
+    all.push(build([0, 1, 40], 0, &changed(3, f32::NAN)[..68], &split));
     all.push(build([0, 1, 40], 0, &changed(3, f32::NAN), &split));
     all.push(build([0, 1, 40], 0, &t0_t1, &split));
     all
 }
 
-fn put_build(stdout: &mut Vec<u8>, told: u64, room: usize, image: &[u8]) {
+fn put_image(stdout: &mut Vec<u8>, told: u64, room: usize, image: &[u8]) {
     stdout.extend(format!("{told:016x}\n").bytes());
     stdout.extend(image);
     stdout.extend(vec![b'.'; room - image.len()]);
@@ -353,6 +419,7 @@ fn main() {
         stdin.extend(&case);
         expected(&mut stdout, &case);
     }
+    LARGE.into_iter().for_each(|case| large(&mut stdout, case));
     assert!(stdin.len() <= 65536, "{} bytes are more than the program reads", stdin.len());
     std::fs::write(format!("{folder}/stdin"), stdin).unwrap();
     std::fs::write(format!("{folder}/stdout"), stdout).unwrap();
@@ -364,9 +431,19 @@ fn main() {
         stdin.extend((b.room as u16).to_le_bytes());
         stdin.extend((b.triangles.len() as u32).to_le_bytes());
         stdin.extend(&b.triangles);
-        put_build(&mut stdout, b.told, b.room, &b.image);
+        stdout.extend(format!("{:016x}\n", b.told).bytes());
+        if let Some((told, image)) = b.written {
+            put_image(&mut stdout, told, b.room, &image);
+            if !image.is_empty() {
+                stdout.extend(format!("{:016x}\n{:016x}\n", b.triangles.len() / 36, b.nodes).bytes());
+                put_image(&mut stdout, told, 256, &image);
+            }
+        }
     }
-    put_build(&mut stdout, 3 << 56, 200, &[]);
+    // the largest image of n triangles: 98 bytes each and two, in version 2 108 each less two
+    for size in [0, 100, 98 * 4096 + 2, 108 * 4097 - 2, 108 * 65536 - 2, 0u64] {
+        stdout.extend(format!("{size:016x}\n").bytes());
+    }
     std::fs::write(format!("{folder}/stdin"), stdin).unwrap();
     std::fs::write(format!("{folder}/stdout"), stdout).unwrap();
 }

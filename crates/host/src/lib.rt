@@ -1,90 +1,214 @@
-// What a C host links (include/gauge.h). Each function is the proved one behind it, under its C name. A refusal changes no lent byte.
+// What a C host links (include/gauge.h). Each function is the proved one behind it, under its C name. A call that refuses changes nothing that is lent.
 ghost use mathlib.Core.Path.{_≡_};
-ghost use Prim.Native.Nat.{_/_};
-ghost use lib.ListN.{length};
 ghost use Rattle.spec_lists.specs.Reading.{triangleCount};
-ghost use Rattle.spec_host.specs.Status.{status};
-ghost use Rattle.spec_host.specs.Build.{imageMax, numbersOf, builtImage, bytesRefusal, ImagePut};
-ghost use Rattle.spec_host.specs.PointBytes.{answerBytes, windingBytes, afterBytes};
+ghost use Rattle.spec_tree.specs.Refusals.{checkRefusal};
 ghost use Rattle.spec_search.specs.Answers.{sure, source};
-ghost use Rattle.spec_host.specs.Requests.{contents, checkVerdict, queryVerdict, windingVerdict, answerIn};
-use host_ask::calls::check_image;
+ghost use Rattle.image.specs.Values.{imageFrom};
+ghost use Rattle.spec_host.specs.Status.{status};
+ghost use Rattle.spec_host.specs.Build.{BuildPut};
+ghost use Rattle.spec_host.specs.Images.{imageMax, layoutRefusal, imageTriangles, WritePut, ReadPut};
+ghost use Rattle.spec_host.specs.Requests.{QueryIs, WindingIs};
+use host_ask::calls::check_lists;
 use host_ask::calls::source_points;
 use host_ask::calls::sure_points;
 use host_ask::calls::winding_points;
-use host_build::from_bytes::build_image;
-use host_build::max::image_max;
+use host_build::calls::build_lists;
+use host_image::calls::image_max;
+use host_image::calls::image_triangles;
+use host_image::calls::read_lists;
+use host_image::calls::write_lists;
 
 // The maximum size of an image of that many triangles, or 0 where no such list passes.
 #[no_mangle]
-pub extern "C" fn gauge_image_most(triangles: usize) -> u64
+pub extern "C" fn gauge_image_max(triangles: usize) -> u64
     ensures { λ r. ⌜ r ≡ imageMax triangles ⌝ }
 {
     image_max(triangles)
 }
 
-// Builds the tree over the triangles and writes its image to the front of `image`. The status is the size of the image.
+// How many triangles an image has. The status is their number.
+#[no_mangle]
+pub extern "C" fn gauge_image_triangles(image: &[u8]) -> u64
+    ensures { λ r. ⌜ r ≡ status (layoutRefusal (now (image .entry))) (imageTriangles (now (image .entry))) ⌝ }
+{
+    image_triangles(image)
+}
+
+// Reads an image into the lists of a drawing. The status is the number of nodes.
+#[no_mangle]
+pub extern "C" fn gauge_read(
+    image: &[u8],
+    settings: &mut [u32],
+    triangles: &mut [f32],
+    order: &mut [u32],
+    links: &mut [u32],
+    boxes: &mut [f32],
+) -> u64
+    ensures { λ r. ⌜ ReadPut (now (image .entry)) (record {
+      settings = now (settings .entry);
+      triangles = now (triangles .entry);
+      order = now (order .entry);
+      links = now (links .entry);
+      boxes = now (boxes .entry);
+    }) r (record {
+      settings = now (settings .exit);
+      triangles = now (triangles .exit);
+      order = now (order .exit);
+      links = now (links .exit);
+      boxes = now (boxes .exit);
+    }) ⌝ }
+{
+    read_lists(image, settings, triangles, order, links, boxes)
+}
+
+// Builds the tree over the triangles in the lent lists. The status is the number of nodes.
 #[no_mangle]
 pub extern "C" fn gauge_build(
     strategy: usize,
     leaf_minimum: usize,
     maximum_depth: usize,
-    triangles: &[u8],
-    image: &mut [u8],
+    triangles: &[f32],
+    order: &mut [u32],
+    links: &mut [u32],
+    boxes: &mut [f32],
+    bounds: &mut [f32],
+    centres: &mut [f32],
+    scratch: &mut [u32],
 ) -> u64
-    ensures { λ r. ⌜ ImagePut (bytesRefusal (now (triangles .entry))
-        (record { strategy = strategy; leafMinimum = «leaf_minimum»; maximumDepth = «maximum_depth» }) (length (now (image .entry))))
-        (builtImage (numbersOf (now (triangles .entry))) (record { strategy = strategy; leafMinimum = «leaf_minimum»; maximumDepth = «maximum_depth» }))
-        (now (image .entry)) r (now (image .exit)) ⌝ }
+    ensures { λ r. ⌜ BuildPut (now (triangles .entry)) (record { strategy = strategy; leafMinimum = «leaf_minimum»; maximumDepth = «maximum_depth» })
+        (record {
+          order = now (order .entry);
+          links = now (links .entry);
+          boxes = now (boxes .entry);
+          bounds = now (bounds .entry);
+          centres = now (centres .entry);
+          scratch = now (scratch .entry);
+        }) r (record {
+          order = now (order .exit);
+          links = now (links .exit);
+          boxes = now (boxes .exit);
+          bounds = now (bounds .exit);
+          centres = now (centres .exit);
+          scratch = now (scratch .exit);
+        }) ⌝ }
 {
-    build_image(strategy, leaf_minimum, maximum_depth, triangles, image)
+    build_lists(
+        strategy,
+        leaf_minimum,
+        maximum_depth,
+        triangles,
+        order,
+        links,
+        boxes,
+        bounds,
+        centres,
+        scratch,
+    )
 }
 
-// Whether an image can be queried. The status is its triangle count.
+// Writes the image of a drawing to the front of `image`. The status is the number of bytes.
 #[no_mangle]
-pub extern "C" fn gauge_check(image: &[u8]) -> u64
-    ensures { λ r. ⌜ r ≡ status (checkVerdict (now (image .entry))) (triangleCount (contents (now (image .entry)) .triangles)) ⌝ }
+pub extern "C" fn gauge_write(
+    strategy: usize,
+    leaf_minimum: usize,
+    maximum_depth: usize,
+    triangles: &[f32],
+    order: &[u32],
+    links: &[u32],
+    boxes: &[f32],
+    nodes: usize,
+    image: &mut [u8],
+) -> u64
+    ensures { λ r. ⌜ WritePut (imageFrom strategy «leaf_minimum» «maximum_depth» (now (triangles .entry)) (now (order .entry)) (now (links .entry))
+        (now (boxes .entry)) nodes) (now (image .entry)) r (now (image .exit)) ⌝ }
 {
-    check_image(image)
+    write_lists(
+        strategy,
+        leaf_minimum,
+        maximum_depth,
+        triangles,
+        order,
+        links,
+        boxes,
+        nodes,
+        image,
+    )
+}
+
+// Whether the lists can be queried. The status is the number of triangles.
+#[no_mangle]
+pub extern "C" fn gauge_check(
+    triangles: &[f32],
+    order: &[u32],
+    links: &[u32],
+    boxes: &[f32],
+    nodes: usize,
+) -> u64
+    ensures { λ r. ⌜ r
+        ≡ status (checkRefusal (now (triangles .entry)) (now (order .entry)) (now (links .entry)) (now (boxes .entry)) nodes)
+        (triangleCount (now (triangles .entry))) ⌝ }
+{
+    check_lists(triangles, order, links, boxes, nodes)
 }
 
 // Writes the sure query's answer at each point. The status is the number of points.
 #[no_mangle]
-pub extern "C" fn gauge_sure(image: &[u8], points: &[u8], distance: f32, answers: &mut [u8]) -> u64
-    ensures status { λ r. ⌜ r
-        ≡ status (queryVerdict (now (image .entry)) (now (points .entry)) distance (length (now (answers .entry)))) (length (now (points .entry)) / 12) ⌝ }
-    ensures answers { λ _. ⌜ now (answers .exit)
-        ≡ afterBytes (queryVerdict (now (image .entry)) (now (points .entry)) distance (length (now (answers .entry))))
-        (answerBytes (answerIn sure (contents (now (image .entry))) distance) (now (points .entry))) (now (answers .entry)) ⌝ }
+pub extern "C" fn gauge_sure(
+    triangles: &[f32],
+    order: &[u32],
+    links: &[u32],
+    boxes: &[f32],
+    nodes: usize,
+    points: &[u8],
+    distance: f32,
+    answers: &mut [u8],
+) -> u64
+    ensures { λ r. ⌜ QueryIs sure (now (triangles .entry)) (now (order .entry)) (now (links .entry)) (now (boxes .entry)) nodes
+        (now (points .entry)) distance (now (answers .entry)) r (now (answers .exit)) ⌝ }
 {
-    sure_points(image, points, distance, answers)
+    sure_points(
+        triangles,
+        order,
+        links,
+        boxes,
+        nodes,
+        points,
+        distance,
+        answers,
+    )
 }
 
 // Writes the source query's answer at each point. The status is the number of points.
 #[no_mangle]
 pub extern "C" fn gauge_source(
-    image: &[u8],
+    triangles: &[f32],
+    order: &[u32],
+    links: &[u32],
+    boxes: &[f32],
+    nodes: usize,
     points: &[u8],
     distance: f32,
     answers: &mut [u8],
 ) -> u64
-    ensures status { λ r. ⌜ r
-        ≡ status (queryVerdict (now (image .entry)) (now (points .entry)) distance (length (now (answers .entry)))) (length (now (points .entry)) / 12) ⌝ }
-    ensures answers { λ _. ⌜ now (answers .exit)
-        ≡ afterBytes (queryVerdict (now (image .entry)) (now (points .entry)) distance (length (now (answers .entry))))
-        (answerBytes (answerIn source (contents (now (image .entry))) distance) (now (points .entry))) (now (answers .entry)) ⌝ }
+    ensures { λ r. ⌜ QueryIs source (now (triangles .entry)) (now (order .entry)) (now (links .entry)) (now (boxes .entry)) nodes
+        (now (points .entry)) distance (now (answers .entry)) r (now (answers .exit)) ⌝ }
 {
-    source_points(image, points, distance, answers)
+    source_points(
+        triangles,
+        order,
+        links,
+        boxes,
+        nodes,
+        points,
+        distance,
+        answers,
+    )
 }
 
 // Writes the winding number about each point. The status is the number of points.
 #[no_mangle]
-pub extern "C" fn gauge_winding(image: &[u8], points: &[u8], windings: &mut [u8]) -> u64
-    ensures status { λ r. ⌜ r
-        ≡ status (windingVerdict (now (image .entry)) (now (points .entry)) (length (now (windings .entry)))) (length (now (points .entry)) / 12) ⌝ }
-    ensures windings { λ _. ⌜ now (windings .exit)
-        ≡ afterBytes (windingVerdict (now (image .entry)) (now (points .entry)) (length (now (windings .entry))))
-        (windingBytes (contents (now (image .entry)) .triangles) (now (points .entry))) (now (windings .entry)) ⌝ }
+pub extern "C" fn gauge_winding(triangles: &[f32], points: &[u8], windings: &mut [u8]) -> u64
+    ensures { λ r. ⌜ WindingIs (now (triangles .entry)) (now (points .entry)) (now (windings .entry)) r (now (windings .exit)) ⌝ }
 {
-    winding_points(image, points, windings)
+    winding_points(triangles, points, windings)
 }

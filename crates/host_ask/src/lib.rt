@@ -1,8 +1,5 @@
-// Answers a C host's queries over an image: the image is loaded, tested, and queried at the bytes of points.
+// Answers a C host's queries over the lists that it keeps: they are tested, and queried at the bytes of points where they lie.
 // Each contract is an equation with a definition of `spec_host`.
-pub mod ask;
 pub mod calls;
 pub mod point_queries;
 pub mod point_windings;
-pub mod tests;
-pub mod winding;

@@ -1,29 +1,28 @@
-// The answers of a query at all points: tests 7, 8 and 9, then 24 bytes a point.
+// The answers of a query at all points: tests 1 to 4 and 6 to 9, then 24 bytes a point.
 ghost use mathlib.Core.Path.{_≡_};
 ghost use Prim.Native.Nat.{_*_, _/_, _≤_};
 ghost use lib.ListN.{length};
 ghost use lib.Ieee.{binary32};
 ghost use Rattle.spec_tables.specs.Tables.{overwrite};
-ghost use Rattle.spec_lists.specs.Limits.{maxTriangles};
-ghost use Rattle.spec_lists.specs.Reading.{triangleCount};
 ghost use Rattle.spec_lists.specs.Passed.{GoodPoints};
 ghost use Rattle.lists.specs.Values.{asVerdict};
 ghost use Rattle.spec_search.specs.Calls.{Searchable, answerBy};
-ghost use Rattle.spec_host.specs.Build.{numbersOf};
-ghost use Rattle.spec_host.specs.PointBytes.{answerBytes, afterBytes};
-ghost use Rattle.spec_host.specs.Loading.{lateRefusal, Ready};
+ghost use Rattle.spec_host.specs.PointBytes.{numbersOf, answerBytes, afterBytes};
+ghost use Rattle.spec_host.specs.Requests.{queryBytesRefusal};
 ghost use Rattle.walks.specs.Values.{asQuery};
 use host_bytes::answers::put_answer_bytes;
 use host_bytes::points::point_bytes_refusal;
 use host_bytes::points::point_in;
 use lists::tests::distance_refusal;
+use lists::tests::triangles_refusal;
 use lists::verdict::Verdict;
+use lists::verdict::room_refusal;
 use queries::query::answer_at;
 use tree::calls::tree_refusal;
 use walks::answer::Query;
 
-// The first of the tests 7, 8 and 9 that refuses.
-fn late_refusal(
+// The first of the tests 1 to 4 and 6 to 9 that refuses. The room is in bytes: 24 an answer, where a point has 12.
+fn query_refusal(
     triangles: &[f32],
     order: &[u32],
     links: &[u32],
@@ -31,11 +30,16 @@ fn late_refusal(
     nodes: usize,
     points: &[u8],
     distance: f32,
+    room: usize,
 ) -> Verdict
-    requires { ⌜ triangleCount (now triangles) ≤ maxTriangles ⌝ }
     ensures { λ r. ⌜ asVerdict r
-        ≡ lateRefusal (now (triangles .entry)) (now (order .entry)) (now (links .entry)) (now (boxes .entry)) nodes (now (points .entry)) distance ⌝ }
+        ≡ queryBytesRefusal (now (triangles .entry)) (now (order .entry)) (now (links .entry)) (now (boxes .entry)) nodes (now (points .entry)) distance
+        room ⌝ }
 {
+    let early = triangles_refusal(triangles).or(room_refusal(room / 24, points.len() / 12));
+    if early.refuses() {
+        return early;
+    }
     tree_refusal(triangles, order, links, boxes, nodes)
         .or(point_bytes_refusal(points))
         .or(distance_refusal(distance))
@@ -79,8 +83,8 @@ fn put_answers(
     }
 }
 
-// Makes the tests 7, 8 and 9, and writes the answers. A refusal changes nothing.
-pub fn ask_lists(
+// Makes the tests, and writes the answers. A refusal changes nothing.
+pub fn ask(
     query: Query,
     triangles: &[f32],
     order: &[u32],
@@ -91,14 +95,23 @@ pub fn ask_lists(
     distance: f32,
     answers: &mut [u8],
 ) -> Verdict
-    requires { ⌜ Ready (now triangles) (now points) (length (now answers)) ⌝ }
     ensures verdict { λ r. ⌜ asVerdict r
-        ≡ lateRefusal (now (triangles .entry)) (now (order .entry)) (now (links .entry)) (now (boxes .entry)) nodes (now (points .entry)) distance ⌝ }
+        ≡ queryBytesRefusal (now (triangles .entry)) (now (order .entry)) (now (links .entry)) (now (boxes .entry)) nodes (now (points .entry)) distance
+        (length (now (answers .entry))) ⌝ }
     ensures answers { λ r. ⌜ now (answers .exit)
         ≡ afterBytes (asVerdict r) (answerBytes (answerBy binary32 (asQuery query) (now (triangles .entry)) (now (order .entry)) (now (links .entry))
         (now (boxes .entry)) nodes distance) (now (points .entry))) (now (answers .entry)) ⌝ }
 {
-    let verdict = late_refusal(triangles, order, links, boxes, nodes, points, distance);
+    let verdict = query_refusal(
+        triangles,
+        order,
+        links,
+        boxes,
+        nodes,
+        points,
+        distance,
+        answers.len(),
+    );
     if verdict.refuses() {
         return verdict;
     }

@@ -1,4 +1,4 @@
-// The winding numbers about all points: tests 2 to 4, 6 and 8, then four bytes a point.
+// The winding numbers about all points: tests 1 to 4, 6 and 8, then four bytes a point.
 ghost use mathlib.Core.Path.{_≡_};
 ghost use Prim.Native.Nat.{_*_, _/_, _≤_};
 ghost use lib.ListN.{length};
@@ -15,7 +15,7 @@ use lists::tests::triangles_refusal;
 use lists::verdict::Verdict;
 use lists::verdict::room_refusal;
 
-// The first of the tests 2 to 4, 6 and 8 that refuses.
+// The first of the tests 1 to 4, 6 and 8 that refuses.
 fn winding_refusal(triangles: &[f32], points: &[u8], room: usize) -> Verdict
     ensures { λ r. ⌜ asVerdict r ≡ windingBytesRefusal (now (triangles .entry)) (now (points .entry)) room ⌝ }
 {
@@ -40,7 +40,7 @@ fn put_windings(triangles: &[f32], points: &[u8], out: &mut [u8])
 }
 
 // Makes the tests, and writes the winding numbers. A refusal changes nothing.
-pub fn winding_lists(triangles: &[f32], points: &[u8], out: &mut [u8]) -> Verdict
+pub fn winding(triangles: &[f32], points: &[u8], out: &mut [u8]) -> Verdict
     ensures verdict { λ r. ⌜ asVerdict r ≡ windingBytesRefusal (now (triangles .entry)) (now (points .entry)) (length (now (out .entry))) ⌝ }
     ensures windings { λ r. ⌜ now (out .exit) ≡ afterBytes (asVerdict r) (windingBytes (now (triangles .entry)) (now (points .entry))) (now (out .entry)) ⌝ }
 {

@@ -21,7 +21,7 @@ pub fn encode_refusal(number: usize, place: usize) -> u64
 
 // The status of a call that is done with this count, or refused.
 pub fn encode(verdict: Verdict, count: usize) -> u64
-    requires { ⌜ Status.Encodable (Values.asVerdict verdict) count ⌝ }
+    requires { ⌜ Status.InPlace (Values.asVerdict verdict) ⌝ }
     ensures { λ r. ⌜ r ≡ Status.status (Values.asVerdict verdict) count ⌝ }
 {
     match verdict {

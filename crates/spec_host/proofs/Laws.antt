@@ -1,147 +1,114 @@
--- A call answers on an image that was written as the list call on the lists that it was written from, what was written passes the
--- check, and the status of a call is decoded without loss.
-use mathlib.Core.Path.{_≡_, refl, sym, ap, _∙_}
+-- The status of a call over lists is decoded without loss, and on whole points a call refuses and answers as the list call does.
+use mathlib.Core.Path.{_≡_, sym, ap, _∙_}
 use mathlib.Core.Bool.{true}
-use mathlib.Core.List.{List, _∷_}
+use mathlib.Core.List.{List}
 use Prim.Native.Nat.{ℕ, _/_, _%_, _^_, _<_}
 use native.Mathlib.Omega.{arith}
 use borrow.Author.Tests.{eq-eqb}
 use lib.Dec.{eqb}
-use lib.ListN.{length, take}
+use lib.ListN.{length}
 use lib.Ieee.{Float, binary32}
-use Rattle.spec_tables.specs.Tables.{overwrite}
-use Rattle.spec_tables.proofs.Pieces.{take-overwrite}
-use Rattle.spec_records.specs.Little.{Bytes}
-use Rattle.spec_records.specs.Records.{bodies, laidOut}
-use Rattle.spec_records.specs.Layouts.{version1, imageWants, imageSpans}
-use Rattle.spec_image.specs.Image.{Image, imageBytes}
-use Rattle.spec_image.specs.Stored.{Storable, used}
-use Rattle.spec_image.specs.Writing.{exactSize, writeRefusal}
-use Rattle.spec_image.proofs.Written.{written-laid, written-read}
-use Rattle.spec_image.proofs.Writing.{Good, used-good, write-passed}
-use Rattle.spec_image.proofs.Kept.{floats-fit, good-storable, good-long}
-use Rattle.spec_lists.specs.Reading.{boxAt, triangleCount}
-use Rattle.spec_lists.specs.Passed.{AllFit}
-use Rattle.spec_lists.specs.Refusals.{Verdict, passes, refused, firstRefusal, trianglesRefusal, Settings, settingsRefusal, pointsRefusal}
-use Rattle.spec_lists.proofs.Verdicts.{all-pass, then-passes}
-use Rattle.spec_lists.proofs.Passed.{triangles-passed, triangles-pass, settings-passed, settings-pass}
-use Rattle.spec_tree.specs.Accepted.{accepted}
-use Rattle.spec_tree.specs.Refusals.{treeRefusal}
-use Rattle.spec_tree.proofs.Accepted.{listed-accepted}
-use Rattle.spec_search.specs.Calls.{queryRefusal}
-use Rattle.spec_angles.specs.Windings.{windingRefusal}
+use Rattle.spec_lists.specs.Reading.{triangleCount}
+use Rattle.spec_lists.specs.Refusals.{Verdict, pointsRefusal, afterVerdict}
+use Rattle.spec_lists.proofs.Verdicts.{all-pass}
+use Rattle.spec_lists.proofs.Passed.{triangles-passed}
+use Rattle.spec_tree.specs.Refusals.{checkRefusal}
+use Rattle.spec_search.specs.Answers.{Query}
+use Rattle.spec_search.specs.Calls.{queryRefusal, afterQuery, answerBy}
+use Rattle.spec_angles.specs.Windings.{windingRefusal, written, afterWinding}
 use Rattle.spec_host.specs.Status.{status, Decoded}
-use Rattle.spec_host.proofs.Status.{status-decoded}
-use Rattle.spec_host.specs.Build.{numbersOf, imageOver, builtImage, listRefusal, bytesRefusal, ImagePut}
-use Rattle.spec_host.proofs.Build.{built-good, numbers-long}
-use Rattle.spec_host.specs.PointBytes.{pointBytesRefusal}
-use Rattle.spec_host.specs.Requests.{contents, checkedRefusal, requestRefusal, windingBytesRefusal, checkVerdict, queryVerdict, windingVerdict}
-use Rattle.spec_host.proofs.PointBytes.{points-count}
-use Rattle.spec_host.proofs.Requests.{contents-are, inner-decides}
-use Rattle.spec_host.proofs.RequestsStatus.{query-encodable, winding-encodable}
-
--- ---- an image that was written
-module _ (x : Image) (ok : Storable version1 x) where
-  abbrev written : List ℕ
-  written = imageBytes version1 x
-
-  laid : laidOut (imageWants version1) written 0 ≡ bodies (imageSpans version1 (length (x .order)) (x .nodes))
-  laid = written-laid version1 x ok
-
-  -- an image that was written holds what the writer was given
-  pub written-contents : contents written ≡ used x
-  written-contents = contents-are written (length (x .order)) (x .nodes) laid ∙ written-read version1 x ok
-
-  -- the check of an image that was written refuses what the tests of its lists refuse
-  pub written-checked : checkVerdict written ≡ checkedRefusal (used x)
-  unfolding checkVerdict
-  written-checked =
-      sym (inner-decides written (length (x .order)) (x .nodes) laid checkedRefusal (checkedRefusal (used x))
-      (ap checkedRefusal (sym (written-read version1 x ok))))
-
-  -- a query of an image that was written refuses what the tests of its lists refuse
-  pub written-queried : (points : List ℕ) (distance : Float) (room : ℕ)
-      → queryVerdict written points distance room ≡ requestRefusal (used x) points distance room
-  unfolding queryVerdict
-  written-queried points distance room =
-      sym (inner-decides written (length (x .order)) (x .nodes) laid (λ y. requestRefusal y points distance room) (requestRefusal (used x) points distance room)
-      (ap (λ (y : Image). requestRefusal y points distance room) (sym (written-read version1 x ok))))
-
--- ---- what the writer accepts passes the check of the image that it writes
-good-checked : (x : Image) → Good x → checkedRefusal x ≡ passes
-unfolding checkedRefusal treeRefusal
-good-checked x g =
-    let yes : accepted (boxAt (x .triangles)) (triangleCount (x .triangles)) (x .order) (x .links) (x .boxes) (x .nodes) ≡ true =
-    listed-accepted (boxAt (x .triangles)) (triangleCount (x .triangles)) (x .order) (x .links) (x .boxes) (x .nodes) (g .tree) (g .listing) in
-    then-passes _ (triangles-pass (x .triangles) (g .triangles), (settings-pass (x .settings) (g .settings), (rw yes, tt)))
-
-good-passes : (x : Image) → Good x → AllFit binary32 (x .triangles) → checkVerdict (imageBytes version1 x) ≡ passes
-good-passes x g fit = written-checked x (good-storable x g fit) ∙ good-checked (used x) (used-good x g)
-
--- what the writer accepts passes the check, once it is written
-pub written-passes : (x : Image) (given : ℕ) → AllFit binary32 (x .triangles) → writeRefusal version1 x given ≡ passes
-    → checkVerdict (imageBytes version1 x) ≡ passes
-written-passes x given fit accepts = good-passes x (write-passed version1 x given accepts .0) fit
-
--- ---- so does an image that the host builds
-module _ (s : List ℕ) (settings : Settings) (given : ℕ) (accepts : bytesRefusal s settings given ≡ passes) where
-  built : Good (builtImage (numbersOf s) settings)
-  unfolding bytesRefusal listRefusal
-  built =
-      let p = all-pass _ (all-pass _ accepts .1 .0) in
-      built-good (numbersOf s) settings (triangles-passed (numbersOf s) (p .0)) (settings-passed settings (p .1 .0))
-
-  -- the image that the host builds passes the check
-  pub built-passes : checkVerdict (imageBytes version1 (builtImage (numbersOf s) settings)) ≡ passes
-  unfolding imageOver
-  built-passes = good-passes (builtImage (numbersOf s) settings) built (floats-fit s 0 (length s / 4))
-
-  -- and so do the bytes that the call leaves, as many as its status says
-  pub put-passes : {old new : List ℕ} {answer : ℕ} → ImagePut (bytesRefusal s settings given) (builtImage (numbersOf s) settings) old answer new
-      → checkVerdict (take answer new) ≡ passes
-  put-passes {old} {new} {answer} p =
-      let x : Image = builtImage (numbersOf s) settings in
-      let status-is : answer ≡ exactSize version1 x = rw accepts at (p .status-is) in
-      let bytes-are : new ≡ overwrite 0 (imageBytes version1 x) old = rw accepts at (p .bytes-are) in
-      rw (status-is, bytes-are, take-overwrite (exactSize version1 x) (imageBytes version1 x) old (good-long x built)) built-passes
+use Rattle.spec_host.proofs.Status.{decoded}
+use Rattle.spec_host.specs.PointBytes.{numbersOf, bytesOf, wordBytes, pointBytesRefusal}
+use Rattle.spec_host.specs.Requests.{queryBytesRefusal, windingBytesRefusal, QueryIs, WindingIs}
+use Rattle.spec_host.proofs.PointBytes.{numbers-long, points-count, words-long, bytes-long, answers-after, windings-after}
+use Rattle.spec_host.proofs.Requests.{check-encodable, query-passed, query-encodable, winding-passed, winding-encodable}
 
 -- ---- the status is decoded
-module _ (image points : List ℕ) (ok : Bytes image) (fits : length points < 2 ^ 63) (few : length points / 12 < 2 ^ 56) (room : ℕ) where
+-- the status of the check is decoded without loss
+pub check-decoded : (triangles : List Float) (order links : List ℕ) (boxes : List Float) (nodes : ℕ)
+    → Decoded (checkRefusal triangles order links boxes nodes) (triangleCount triangles)
+    (status (checkRefusal triangles order links boxes nodes) (triangleCount triangles))
+unfolding checkRefusal
+check-decoded triangles order links boxes nodes =
+    decoded (checkRefusal triangles order links boxes nodes) (triangleCount triangles) (check-encodable triangles order links boxes nodes)
+    (λ e. omega (arith, triangles-passed triangles (all-pass _ e .0) .few))
+
+module _ (triangles : List Float) (points : List ℕ) (fits : length points < 2 ^ 63) (few : length points / 12 < 2 ^ 56) (room : ℕ) where
   -- the status of a query is decoded without loss
-  pub query-decoded : (distance : Float)
-      → Decoded (queryVerdict image points distance room) (length points / 12) (status (queryVerdict image points distance room) (length points / 12))
-  query-decoded distance =
-      status-decoded (queryVerdict image points distance room) (length points / 12)
-      (record { verdict = query-encodable image points ok fits room distance; counted = few })
+  pub query-decoded : (order links : List ℕ) (boxes : List Float) (nodes : ℕ) (distance : Float)
+      → Decoded (queryBytesRefusal triangles order links boxes nodes points distance room) (length points / 12)
+      (status (queryBytesRefusal triangles order links boxes nodes points distance room) (length points / 12))
+  query-decoded order links boxes nodes distance =
+      decoded (queryBytesRefusal triangles order links boxes nodes points distance room) (length points / 12)
+      (query-encodable triangles order links boxes nodes points distance room fits) (λ _. few)
 
   -- the status of the winding call is decoded without loss
-  pub winding-decoded : Decoded (windingVerdict image points room) (length points / 12) (status (windingVerdict image points room) (length points / 12))
+  pub winding-decoded : Decoded (windingBytesRefusal triangles points room) (length points / 12)
+      (status (windingBytesRefusal triangles points room) (length points / 12))
   winding-decoded =
-      status-decoded (windingVerdict image points room) (length points / 12) (record { verdict = winding-encodable image points ok fits room; counted = few })
+      decoded (windingBytesRefusal triangles points room) (length points / 12) (winding-encodable triangles points room fits) (λ _. few)
 
--- ---- on whole points a call refuses as the list call does on what the image holds
-points-as-lists : (points : List ℕ) → length points % 12 ≡ 0 → pointBytesRefusal points ≡ pointsRefusal (numbersOf points)
-unfolding pointBytesRefusal pointsRefusal
-points-as-lists points whole =
-    let ragged : eqb (length points % 12) 0 ≡ true = eq-eqb (length points % 12) 0 whole in
-    let raggedToo : eqb (length (numbersOf points) % 3) 0 ≡ true = eq-eqb (length (numbersOf points) % 3) 0 (rw (numbers-long points) (omega arith)) in
-    rw (ragged, raggedToo)
+-- ---- on whole points a call refuses as the list call does
+module _ (points : List ℕ) (whole : length points % 12 ≡ 0) where
+  points-as-lists : pointBytesRefusal points ≡ pointsRefusal (numbersOf points)
+  unfolding pointBytesRefusal pointsRefusal
+  points-as-lists =
+      let ragged : eqb (length points % 12) 0 ≡ true = eq-eqb (length points % 12) 0 whole in
+      let raggedToo : eqb (length (numbersOf points) % 3) 0 ≡ true = eq-eqb (length (numbersOf points) % 3) 0 (rw (numbers-long points) (omega arith)) in
+      rw (ragged, raggedToo)
 
-drop-second : (a : Verdict) (rest : List Verdict) → firstRefusal (a ∷ passes ∷ rest) ≡ firstRefusal (a ∷ rest)
-unfolding firstRefusal
-drop-second passes rest = refl
-drop-second (refused n p) rest = refl
+  -- on whole points a query is refused as the list query is, whose room is in words
+  pub queries-as-lists : (triangles : List Float) (order links : List ℕ) (boxes : List Float) (nodes : ℕ) (distance : Float) (room : ℕ)
+      → queryBytesRefusal triangles order links boxes nodes points distance room
+      ≡ queryRefusal triangles order links boxes nodes (numbersOf points) distance (room / 4)
+  unfolding queryBytesRefusal queryRefusal
+  queries-as-lists triangles order links boxes nodes distance room =
+      let rooms : room / 4 / 6 ≡ room / 24 = omega arith in
+      rw (rooms, points-count points, points-as-lists)
 
--- on whole points a query of an image is refused as the list query is, which has no settings to test
-pub queries-as-lists : (x : Image) (points : List ℕ) (distance : Float) (room : ℕ) → settingsRefusal (x .settings) ≡ passes → length points % 12 ≡ 0
-    → requestRefusal x points distance room ≡ queryRefusal (x .triangles) (x .order) (x .links) (x .boxes) (x .nodes) (numbersOf points) distance (room / 4)
-unfolding requestRefusal queryRefusal
-queries-as-lists x points distance room fine whole =
-    let rooms : room / 4 / 6 ≡ room / 24 = omega arith in
-    rw (fine, rooms, points-count points, points-as-lists points whole) (drop-second (trianglesRefusal (x .triangles)) _)
+  -- and in bytes that hold words it leaves the words that the list query leaves
+  pub answers-as-lists : {query : Query} {triangles : List Float} {order links : List ℕ} {boxes : List Float} {nodes : ℕ} {distance : Float} {new : List ℕ}
+      {r : ℕ} (old : List ℕ) → QueryIs query triangles order links boxes nodes points distance (wordBytes old) r new
+      → new ≡ wordBytes (afterQuery binary32 (answerBy binary32 query triangles order links boxes nodes distance) (numbersOf points)
+      (queryRefusal triangles order links boxes nodes (numbersOf points) distance (length old)) old)
+  answers-as-lists {query} {triangles} {order} {links} {boxes} {nodes} {distance} old q =
+      let answer = answerBy binary32 query triangles order links boxes nodes distance in
+      let long : length (wordBytes old) / 4 ≡ length old = rw (words-long old) (omega arith) in
+      let v = queryBytesRefusal triangles order links boxes nodes points distance (length (wordBytes old)) in
+      let same : v ≡ queryRefusal triangles order links boxes nodes (numbersOf points) distance (length old) =
+      queries-as-lists triangles order links boxes nodes distance (length (wordBytes old))
+      ∙ ap (queryRefusal triangles order links boxes nodes (numbersOf points) distance) long in
+      q .answers-are ∙ answers-after answer points old v
+      (λ e. omega (arith, words-long old, query-passed triangles order links boxes nodes points distance (length (wordBytes old)) e .1 .1))
+      ∙ ap (λ (w : Verdict). wordBytes (afterQuery binary32 answer (numbersOf points) w old)) same
 
--- on whole points the winding call on an image is refused as the list call is
-pub windings-as-lists : (triangles : List Float) (points : List ℕ) (room : ℕ) → length points % 12 ≡ 0
-    → windingBytesRefusal triangles points room ≡ windingRefusal triangles (numbersOf points) (room / 4)
-unfolding windingBytesRefusal windingRefusal
-windings-as-lists triangles points room whole = rw (points-count points, points-as-lists points whole)
+  -- on whole points the winding call is refused as the list call is
+  pub windings-as-lists : (triangles : List Float) (room : ℕ)
+      → windingBytesRefusal triangles points room ≡ windingRefusal triangles (numbersOf points) (room / 4)
+  unfolding windingBytesRefusal windingRefusal
+  windings-as-lists triangles room = rw (points-count points, points-as-lists)
+
+  -- and in bytes that hold numbers it leaves the numbers that the list call leaves
+  pub turns-as-lists : {triangles : List Float} {new : List ℕ} {r : ℕ} (old : List Float) → WindingIs triangles points (bytesOf old) r new
+      → new ≡ bytesOf (afterWinding binary32 triangles (numbersOf points) old)
+  unfolding afterWinding
+  turns-as-lists {triangles} old q =
+      let long : length (bytesOf old) / 4 ≡ length old = rw (bytes-long old) (omega arith) in
+      let v = windingBytesRefusal triangles points (length (bytesOf old)) in
+      let same : v ≡ windingRefusal triangles (numbersOf points) (length old) =
+      windings-as-lists triangles (length (bytesOf old)) ∙ ap (windingRefusal triangles (numbersOf points)) long in
+      q .windings-are ∙ windings-after triangles old points v
+      (λ e. omega (arith, bytes-long old, winding-passed triangles points (length (bytesOf old)) e))
+      ∙ ap (λ (w : Verdict). bytesOf (afterVerdict w (written binary32 triangles (numbersOf points) old) old)) same
+
+-- ---- the contracts leave nothing open
+-- a query's status and bytes are fixed by what it is asked
+pub query-is-unique : {query : Query} {triangles : List Float} {order links : List ℕ} {boxes : List Float} {nodes : ℕ} {points : List ℕ} {distance : Float}
+    {old new new₂ : List ℕ} {r r₂ : ℕ} → QueryIs query triangles order links boxes nodes points distance old r new
+    → QueryIs query triangles order links boxes nodes points distance old r₂ new₂ → (r ≡ r₂) × (new ≡ new₂)
+query-is-unique p q = (p .status-is ∙ sym (q .status-is), p .answers-are ∙ sym (q .answers-are))
+
+-- so are those of the winding call
+pub winding-is-unique : {triangles : List Float} {points old new new₂ : List ℕ} {r r₂ : ℕ} → WindingIs triangles points old r new
+    → WindingIs triangles points old r₂ new₂ → (r ≡ r₂) × (new ≡ new₂)
+winding-is-unique p q = (p .status-is ∙ sym (q .status-is), p .windings-are ∙ sym (q .windings-are))

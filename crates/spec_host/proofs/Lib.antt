@@ -1,7 +1,7 @@
 pub mod Status
-pub mod Build
 pub mod PointBytes
 pub mod Requests
-pub mod Loading
-pub mod RequestsStatus
+pub mod Build
+pub mod Images
 pub mod Laws
+pub mod Drawings

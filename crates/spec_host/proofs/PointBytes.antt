@@ -7,32 +7,34 @@ use native.Mathlib.Nat.{zero-add, add-zero, add-suc}
 use native.Mathlib.Omega.{arith}
 use borrow.Author.Tests.{eqb-true}
 use lib.Dec.{eqb}
-use lib.ListN.{length, getD, length-append, drop-of-length-le, List·getD-append}
-use lib.Seq.{getD-append-add}
+use lib.ListN.{length, getD, take, drop, length-append, drop-of-length-le, take-append-drop, List·getD-append}
+use lib.Seq.{getD-append-add, drop-at, length-take-le}
 use lib.Ieee.{Float, nan, binary32, ofBits, toBits}
 use Rattle.spec_tables.specs.Tables.{overwrite, concatMap}
-use Rattle.spec_tables.proofs.Tables.{concatMap-same}
-use Rattle.spec_tables.proofs.Pieces.{getD-concatMap}
+use Rattle.spec_tables.proofs.Tables.{length-concatMap, concatMap-same}
+use Rattle.spec_tables.proofs.Pieces.{getD-concatMap, length-singles}
 use Rattle.spec_tables.proofs.Runs.{Run, run-start, run-front, run-end}
 use Rattle.spec_records.specs.Little.{little, littleAt}
-use Rattle.spec_records.specs.Entries.{numberBytes}
+use Rattle.spec_records.specs.Entries.{numberBytes, floatBytes}
 use Rattle.spec_records.proofs.Little.{length-little}
 use Rattle.spec_records.proofs.Entries.{length-numbers}
 use Rattle.spec_shapes.specs.Points.{Point}
 use Rattle.spec_lists.specs.Reading.{pointAt, pointCount}
-use Rattle.spec_lists.specs.Refusals.{Verdict, passes, refuses}
+use Rattle.spec_lists.specs.Refusals.{Verdict, passes, refused, refuses, afterVerdict}
 use Rattle.spec_lists.specs.Passed.{GoodPoints}
 use Rattle.spec_lists.proofs.Verdicts.{all-pass, so, refusal-leaves}
 use Rattle.spec_lists.proofs.Passed.{coordinates-passed}
 use Rattle.spec_search.specs.Answers.{Answer, nothing, found, sixWords}
-use Rattle.spec_search.specs.Calls.{answerWords}
-use Rattle.spec_angles.specs.Windings.{windingAt}
-use Rattle.spec_host.specs.Build.{numbersOf}
-use Rattle.spec_host.proofs.Build.{numbers-long}
-use Rattle.spec_host.specs.PointBytes.{pointBytesRefusal, wordBytes, answerBytes, windings, windingBytes, afterBytes}
+use Rattle.spec_search.specs.Calls.{answerWords, afterQuery}
+use Rattle.spec_angles.specs.Windings.{windingAt, written}
+use Rattle.spec_host.specs.PointBytes.{numbersOf, bytesOf, pointBytesRefusal, wordBytes, answerBytes, windings, windingBytes, afterBytes}
 
 -- ---- what is read
 module _ (s : List ℕ) where
+  -- four bytes are a number, and a rest of fewer is none
+  pub numbers-long : length (numbersOf s) ≡ length s / 4
+  numbers-long = length-singles _ (length s / 4)
+
   -- twelve bytes are a point, and a rest of fewer is none
   pub points-count : pointCount (numbersOf s) ≡ length s / 12
   unfolding pointCount
@@ -56,14 +58,39 @@ unfolding concatMap
 concatMap-add f m zero = rw (add-zero, append-nil)
 concatMap-add f m (suc n) = rw (add-suc, concatMap-add f m n) (append-assoc (concatMap f m) (concatMap (λ i. f (m + i)) n) (f (m + n)))
 
+-- entries of a list as bytes, `w` each
+module _ {A : Type 0} (entry : A → List ℕ) (d : A) where
+  abbrev entries : List A → List ℕ
+  entries xs = concatMap (λ i. entry (getD xs (0 + i) d)) (length xs)
+
+  entries-append : (a b : List A) → entries (a ++ b) ≡ entries a ++ entries b
+  entries-append a b =
+      let g : ℕ → List ℕ = λ i. entry (getD (a ++ b) (0 + i) d) in
+      ap (concatMap g) (length-append a b) ∙ concatMap-add g (length a) (length b)
+      ∙ ap (λ (l : List ℕ). l ++ concatMap (λ i. g (length a + i)) (length b))
+      (concatMap-same g (λ i. entry (getD a (0 + i) d)) (length a) (λ i h. simp zero-add (ap entry (List·getD-append a b d i h))))
+      ∙ ap (λ (l : List ℕ). entries a ++ l)
+      (concatMap-same (λ i. g (length a + i)) (λ i. entry (getD b (0 + i) d)) (length b) (λ i h. simp zero-add (ap entry (getD-append-add a b i d))))
+
+  module _ (w : ℕ) (wide : (a : A) → length (entry a) ≡ w) where
+    entries-long : (xs : List A) → length (entries xs) ≡ w * length xs
+    entries-long xs = length-concatMap _ w (length xs) (λ i. wide (getD xs (0 + i) d))
+
+    entries-drop : (xs : List A) (n : ℕ) → n ≤ length xs → drop (w * n) (entries xs) ≡ entries (drop n xs)
+    entries-drop xs n h =
+        ap (λ (l : List A). drop (w * n) (entries l)) (sym (take-append-drop n xs))
+        ∙ ap (drop (w * n)) (entries-append (take n xs) (drop n xs))
+        ∙ drop-at (entries (take n xs)) (entries (drop n xs)) (w * n) (entries-long (take n xs) ∙ ap (λ (k : ℕ). w * k) (length-take-le n xs h))
+
+    entries-overwrite : (new old : List A) → length new ≤ length old → entries (overwrite 0 new old) ≡ overwrite 0 (entries new) (entries old)
+    unfolding overwrite
+    entries-overwrite new old h =
+        entries-append new (drop (0 + length new) old)
+        ∙ ap (λ (l : List ℕ). entries new ++ l) (ap (λ (k : ℕ). entries (drop k old)) (zero-add (length new))
+        ∙ sym (entries-drop old (length new) h) ∙ ap (λ (k : ℕ). drop k (entries old)) (sym (zero-add (length (entries new)) ∙ entries-long new)))
+
 word-append : (a b : List ℕ) → wordBytes (a ++ b) ≡ wordBytes a ++ wordBytes b
-word-append a b =
-    let g : ℕ → List ℕ = λ i. little 4 (getD (a ++ b) (0 + i) 0) in
-    ap (concatMap g) (length-append a b) ∙ concatMap-add g (length a) (length b)
-    ∙ ap (λ (l : List ℕ). l ++ concatMap (λ i. g (length a + i)) (length b))
-    (concatMap-same g (λ i. little 4 (getD a (0 + i) 0)) (length a) (λ i h. simp zero-add (ap (little 4) (List·getD-append a b 0 i h))))
-    ∙ ap (λ (l : List ℕ). wordBytes a ++ l)
-    (concatMap-same (λ i. g (length a + i)) (λ i. little 4 (getD b (0 + i) 0)) (length b) (λ i h. simp zero-add (ap (little 4) (getD-append-add a b i 0))))
+word-append a b = entries-append (little 4) 0 a b
 
 word-concatMap : (f : ℕ → List ℕ) (n : ℕ) → wordBytes (concatMap f n) ≡ concatMap (λ k. wordBytes (f k)) n
 unfolding concatMap
@@ -148,7 +175,8 @@ module _ (triangles : List Float) (points old : List ℕ) where
       ∙ ap (λ (new : List ℕ). overwrite 0 new old)
       (concatMap-same turn _ (pointCount (numbersOf points))
       (λ i h. ap (λ (x : Float). little 4 (toBits binary32 x)) (sym (getD-concatMap nan (windingAt binary32 triangles (numbersOf points))
-      (pointCount (numbersOf points)) (0 + i) (rw zero-add h) ∙ ap (windingAt binary32 triangles (numbersOf points)) (zero-add i)))))
+      (pointCount (numbersOf points)) (0 + i) (rw zero-add h) ∙ ap (windingAt binary32 triangles (numbersOf points)) (zero-add i))))
+      ∙ ap (floatBytes binary32 (windings triangles (numbersOf points)) 0) (sym (length-singles _ (pointCount (numbersOf points)))))
 
 -- ---- the lent bytes afterwards
 -- a call that refuses keeps its contract by leaving the lent bytes as they were
@@ -160,3 +188,33 @@ as-it-was v new old h = refusal-leaves v (overwrite 0 new old) old h
 pub as-written : (v : Verdict) (new old out : List ℕ) → v ≡ passes → out ≡ overwrite 0 new old → out ≡ afterBytes v new old
 unfolding afterBytes
 as-written v new old out e h = rw e h
+
+-- ---- bytes that hold numbers, as the list calls write them
+-- four bytes a word
+pub words-long : (words : List ℕ) → length (wordBytes words) ≡ 4 * length words
+words-long = entries-long (little 4) 0 4 (length-little 4)
+
+-- four bytes a number
+pub bytes-long : (xs : List Float) → length (bytesOf xs) ≡ 4 * length xs
+bytes-long = entries-long (λ x. little 4 (toBits binary32 x)) nan 4 (λ x. length-little 4 (toBits binary32 x))
+
+-- in bytes that hold words, answers are left as the words that the list query leaves
+pub answers-after : (answer : Point → Answer) (points old : List ℕ) (v : Verdict) → (v ≡ passes → 6 * (length points / 12) ≤ length old)
+    → afterBytes v (answerBytes answer points) (wordBytes old) ≡ wordBytes (afterQuery binary32 answer (numbersOf points) v old)
+unfolding afterBytes afterQuery answerBytes answerWords
+answers-after answer points old passes room =
+    let words : List ℕ = answerWords binary32 answer (numbersOf points) in
+    let long : length words ≡ 6 * pointCount (numbersOf points) = length-concatMap _ 6 (pointCount (numbersOf points)) (λ k. six-long _) in
+    sym (entries-overwrite (little 4) 0 4 (length-little 4) words old (omega (arith, room refl, points-count points)))
+answers-after answer points old (refused number place) room = refl
+
+-- in bytes that hold numbers, winding numbers are left as the numbers that the list call leaves
+pub windings-after : (triangles old : List Float) (points : List ℕ) (v : Verdict) → (v ≡ passes → length points / 12 ≤ length old)
+    → afterBytes v (windingBytes triangles points) (bytesOf old) ≡ bytesOf (afterVerdict v (written binary32 triangles (numbersOf points) old) old)
+unfolding afterBytes windingBytes windings written
+windings-after triangles old points passes room =
+    let turns : List Float = windings triangles (numbersOf points) in
+    let long : length turns ≡ pointCount (numbersOf points) = length-singles _ (pointCount (numbersOf points)) in
+    sym (entries-overwrite (λ x. little 4 (toBits binary32 x)) nan 4 (λ x. length-little 4 (toBits binary32 x)) turns old
+    (omega (arith, room refl, points-count points)))
+windings-after triangles old points (refused number place) room = refl

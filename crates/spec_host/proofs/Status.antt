@@ -13,6 +13,8 @@ use Rattle.spec_lists.specs.Limits.{maxTriangles}
 use Rattle.spec_lists.specs.Reading.{triangleCount}
 use Rattle.spec_lists.specs.Refusals.{Verdict, passes, refused, firstRefusal, refusedIf, raggedRefusal, noneRefusal, tooManyRefusal, coordinateRefusal, trianglesRefusal, Settings, settingsRefusal, roomRefusal, distanceRefusal, firstBad, areSettings, isDistance}
 use Rattle.spec_lists.proofs.Verdicts.{not-refused}
+use Rattle.spec_tree.specs.Accepted.{accepted}
+use Rattle.spec_tree.specs.Refusals.{treeRefusal}
 use Rattle.spec_host.specs.Status.{status, refusalStatus, statusNumber, statusPlace, statusCount, Placed, InPlace, Encodable, Decoded}
 
 -- ---- decoding
@@ -120,3 +122,8 @@ room-encodable given need = at-zero (ltb given need) 6 (omega arith) (omega arit
 pub distance-encodable : (d : Float) → InPlace (distanceRefusal d)
 unfolding distanceRefusal
 distance-encodable d = at-zero (not (isDistance d)) 9 (omega arith) (omega arith)
+
+-- the test of the tree can be encoded
+pub tree-encodable : (triangles : List Float) (order links : List ℕ) (boxes : List Float) (nodes : ℕ) → InPlace (treeRefusal triangles order links boxes nodes)
+unfolding treeRefusal
+tree-encodable triangles order links boxes nodes = at-zero (not (accepted _ _ order links boxes nodes)) 7 (omega arith) (omega arith)

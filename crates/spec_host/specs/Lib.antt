@@ -1,5 +1,5 @@
 pub mod Status
-pub mod Build
 pub mod PointBytes
 pub mod Requests
-pub mod Loading
+pub mod Build
+pub mod Images

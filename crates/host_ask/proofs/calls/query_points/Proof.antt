@@ -3,36 +3,38 @@ use mathlib.Core.Path.{ap, _∙_}
 use Prim.Native.Nat.{_/_}
 use native.Mathlib.Omega.{arith}
 use lib.ListN.{length}
+use lib.Ieee.{binary32}
 use Rattle.spec_lists.specs.Refusals.{Verdict}
+use Rattle.spec_search.specs.Calls.{answerBy}
+use Rattle.walks.specs.Values.{asQuery}
 use Rattle.spec_host.specs.Status.{status}
 use Rattle.spec_host.specs.PointBytes.{answerBytes, afterBytes}
-use Rattle.spec_host.specs.Requests.{contents, answerIn}
-use Rattle.spec_host.proofs.RequestsStatus.{query-encodable}
-use Rattle.walks.specs.Values.{asQuery}
+use Rattle.spec_host.proofs.Requests.{query-encodable}
 use borrow.Author.Needs.{needs}
 use Rattle.host_ask.proofs.calls.query_points.Statement.{statement}
 use Rattle.host_ask.proofs.calls.query_points.Tie as tie
 
-encode-count-requires : tie.Need-encode-count-requires
-encode-count-requires c κs =
-    let after-ask = c .before .before in
-    let known = after-ask .before .before .before .before in
-    let start = known .before in
+encode-requires : tie.Need-encode-requires
+encode-requires c κs =
+    let asked = c .before .before in
+    let known = asked .before .before .before .before in
+    let start = known .before .before .before .before in
     let a = start .args in
-    rw (after-ask .ask .ensures .0) (query-encodable (a .image .now) (a .points .now)
-    (record { below = λ i. omega (arith, known .shared-slice-known .given i) }) (omega arith) (length (a .answers .now)) (a .distance))
+    rw (asked .ask .ensures .0) (query-encodable (a .triangles .now) (a .order .now) (a .links .now) (a .boxes .now) (a .nodes) (a .points .now) (a .distance)
+    (length (a .answers .now)) (omega (arith, start .good)))
 
 returns : tie.Need-returns
 returns c =
-    let after-ask = c .before .before .before in
-    let at-ask-arg = after-ask .before in
-    let start = at-ask-arg .before .before .before .before in
-    let a = start .args in (
-      c .encode-count .ensures ∙ ap (λ (v : Verdict). status v (length (a .points .now) / 12)) (after-ask .ask .ensures .0),
-      after-ask .ask .ensures .1 ∙ ap (λ (v : Verdict). afterBytes v (answerBytes (answerIn (asQuery (a .query)) (contents (a .image .now)) (a .distance))
-          (a .points .now)) (a .answers .now)) (after-ask .ask .ensures .0),
-    )
+    let asked = c .before .before .before in
+    let known = asked .before .before .before .before in
+    let start = known .before .before .before .before in
+    let a = start .args in
+    record {
+      status-is = c .encode .ensures ∙ ap (λ (v : Verdict). status v (length (a .points .now) / 12)) (asked .ask .ensures .0);
+      answers-are = asked .ask .ensures .1 ∙ ap (λ (v : Verdict). afterBytes v (answerBytes (answerBy binary32 (asQuery (a .query)) (a .triangles .now)
+          (a .order .now) (a .links .now) (a .boxes .now) (a .nodes) (a .distance)) (a .points .now)) (a .answers .now)) (asked .ask .ensures .0);
+    }
 
 pub query-points-spec : {M : Type 1} → statement M
 query-points-spec = tie.close
-    (tie.spec (λ c κs. search needs) encode-count-requires (λ c. search needs) returns)
+    (tie.spec (λ c κs. search needs) encode-requires (λ c. search needs) returns)

@@ -5,9 +5,8 @@ use native.Mathlib.Omega.{arith}
 use lib.Ieee.{binary32}
 use Rattle.spec_lists.proofs.Reading.{point-finite}
 use Rattle.spec_search.specs.Calls.{answerBy}
-use Rattle.spec_host.specs.Build.{numbersOf}
-use Rattle.spec_host.proofs.Build.{numbers-long}
-use Rattle.spec_host.proofs.PointBytes.{Answered, answered-start, answered-more, answered-end}
+use Rattle.spec_host.specs.PointBytes.{numbersOf}
+use Rattle.spec_host.proofs.PointBytes.{numbers-long, Answered, answered-start, answered-more, answered-end}
 use Rattle.walks.specs.Values.{asQuery}
 use Rattle.host_ask.proofs.point_queries.put_answers.Statement.{statement}
 use Rattle.host_ask.proofs.point_queries.put_answers.Tie as tie

@@ -8,8 +8,8 @@ use borrow.Author.Tests.{not-true, not-false}
 use lib.ListN.{drop}
 use Rattle.spec_lists.specs.Refusals.{isCoordinate, firstBad}
 use Rattle.spec_lists.proofs.Coordinates.{bad-here, good-here, none-remaining}
-use Rattle.spec_host.specs.Build.{numbersOf}
-use Rattle.spec_host.proofs.Build.{numbers-long}
+use Rattle.spec_host.specs.PointBytes.{numbersOf}
+use Rattle.spec_host.proofs.PointBytes.{numbers-long}
 use Rattle.host_bytes.proofs.points.first_bad_in.Statement.{statement}
 use Rattle.host_bytes.proofs.points.first_bad_in.Tie as tie
 

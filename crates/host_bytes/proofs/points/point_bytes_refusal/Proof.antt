@@ -3,7 +3,7 @@ use mathlib.Core.Path.{_∙_}
 use Rattle.spec_lists.specs.Refusals.{coordinateRefusal}
 use Rattle.spec_lists.proofs.Verdicts.{ends, or-test}
 use Rattle.spec_host.specs.PointBytes.{pointBytesRefusal}
-use Rattle.spec_host.proofs.Build.{numbers-long}
+use Rattle.spec_host.proofs.PointBytes.{numbers-long}
 use borrow.Author.Needs.{needs}
 use Rattle.host_bytes.proofs.points.point_bytes_refusal.Statement.{statement}
 use Rattle.host_bytes.proofs.points.point_bytes_refusal.Tie as tie
