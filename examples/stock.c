@@ -10,8 +10,8 @@
  * browser shows: the drawing from two sides, each place in the colour of the touched point nearest to
  * it.
  *
- * The engine's part is ask(): an image is built, and the points are asked for their nearest place on
- * the drawing and for inside or outside. */
+ * The engine's part is ask(): a tree is built over the drawing, and the points are asked for their
+ * nearest place on it and for inside or outside. */
 #include "gauge.h"
 
 #include <math.h>
@@ -23,10 +23,10 @@ enum { MOST_POINTS = 10000 };
 
 typedef struct { double x, y, z; } Vec;
 
-static float drawing[9 * GAUGE_MOST_TRIANGLES], touched[3 * MOST_POINTS], windings[MOST_POINTS];
+static struct gauge_drawing drawing;
+static float touched[3 * MOST_POINTS], windings[MOST_POINTS];
 static struct gauge_answer answers[MOST_POINTS];
-static uint8_t image[GAUGE_IMAGE_MOST(GAUGE_MOST_TRIANGLES)];
-static size_t triangles, points;
+static size_t points;
 static unsigned strategy, leaf_minimum, maximum_depth;
 static float distance;
 static double least = 1, most = 4;
@@ -39,19 +39,24 @@ static void fail(const char *what, const char *more)
 
 /* ---- the drawing */
 
+/* Laid for as many triangles as may come, then for those that there are. */
 static void read_drawing(const char *path)
 {
     char line[512], word[16], name[16], extra[2]; /* where a line reads an extra, it has one word too many */
     int distances = 0;
+    size_t triangles = 0;
     FILE *file = fopen(path, "r");
     if (file == NULL)
         fail("cannot read ", path);
+    drawing = gauge_lay(malloc(GAUGE_DRAWING_BYTES(GAUGE_MAX_TRIANGLES)), GAUGE_MAX_TRIANGLES);
+    if (drawing.triangles == NULL)
+        fail("no memory", "");
     while (fgets(line, sizeof line, file) != NULL) {
-        float *t = drawing + 9 * triangles, *p = touched + 3 * points;
+        float *t = drawing.triangles + 9 * triangles, *p = touched + 3 * points;
         line[strcspn(line, "#\n")] = 0;
         if (sscanf(line, "%15s", word) != 1)
             continue;
-        if (strcmp(word, "triangle") == 0 && triangles < GAUGE_MOST_TRIANGLES &&
+        if (strcmp(word, "triangle") == 0 && triangles < GAUGE_MAX_TRIANGLES &&
             sscanf(line, "%*s %f %f %f %f %f %f %f %f %f %1s", t, t + 1, t + 2, t + 3, t + 4, t + 5, t + 6, t + 7, t + 8, extra) == 9)
             triangles++;
         else if (strcmp(word, "point") == 0 && points < MOST_POINTS && sscanf(line, "%*s %f %f %f %1s", p, p + 1, p + 2, extra) == 3)
@@ -67,29 +72,26 @@ static void read_drawing(const char *path)
     fclose(file);
     if (strategy == 0 || distances == 0)
         fail("a settings line and a distance line are wanted in ", path);
+    drawing = gauge_lay(drawing.triangles, triangles);
 }
 
 /* ---- the engine's part */
 
-static uint64_t done(const char *call, uint64_t returned)
+static void done(const char *call, uint64_t returned)
 {
     if (gauge_refused(returned)) {
         fprintf(stderr, "stock: %s refused: %u at %llu (include/gauge.h says what that is)\n", call, gauge_number(returned),
                 (unsigned long long)gauge_place(returned));
         exit(1);
     }
-    return returned;
 }
 
 static void ask(void)
 {
-    const uint8_t *p = (const uint8_t *)touched;
-    size_t length = GAUGE_POINT_BYTES * points;
-    uint64_t size = done("gauge_build", gauge_build(strategy, leaf_minimum, maximum_depth, (const uint8_t *)drawing,
-                                                    GAUGE_TRIANGLE_BYTES * triangles, image, sizeof image));
-    done("gauge_sure", gauge_sure(image, size, p, length, distance, (uint8_t *)answers, sizeof answers));
-    done("gauge_winding", gauge_winding(image, size, p, length, (uint8_t *)windings, sizeof windings));
-    printf("%zu triangles, an image of %llu bytes, %zu points touched\n", triangles, (unsigned long long)size, points);
+    done("gauge_build", gauge_drawing_build(&drawing, strategy, leaf_minimum, maximum_depth));
+    done("gauge_sure", gauge_drawing_sure(&drawing, touched, points, distance, answers));
+    done("gauge_winding", gauge_drawing_winding(&drawing, touched, points, windings));
+    printf("%zu triangles, a tree of %zu nodes, %zu points touched\n", drawing.count, drawing.nodes, points);
 }
 
 static double stock_of(size_t i)
@@ -176,7 +178,7 @@ static Vec unit(Vec a)
 
 static Vec corner(size_t t, int k)
 {
-    const float *c = drawing + 9 * t + 3 * k;
+    const float *c = drawing.triangles + 9 * t + 3 * k;
     Vec r = {c[0], c[1], c[2]};
     return r;
 }
@@ -236,11 +238,11 @@ static int parts_of(Vec a, Vec b, double step)
  * the same way; unknown where none is within reach. */
 static int class_near(Vec p, Vec normal, double reach)
 {
-    static Vec normals[GAUGE_MOST_TRIANGLES];
+    static Vec normals[GAUGE_MAX_TRIANGLES];
     static int made;
     double best = reach * reach;
     int class = UNKNOWN;
-    for (size_t t = 0; !made && t < triangles; t++)
+    for (size_t t = 0; !made && t < drawing.count; t++)
         normals[t] = normal_of(t);
     made = 1;
     for (size_t i = 0; i < points; i++) {
@@ -277,18 +279,56 @@ static void add_piece(const View *v, Vec a, Vec b, Vec c, Vec normal, double rea
     }
 }
 
+/* The sides of all triangles, sorted by the bytes of their ends: one that runs the other way is found at once. */
+typedef struct { float from[3], to[3]; size_t triangle; } Side;
+static Side sides[3 * GAUGE_MAX_TRIANGLES];
+
+static int by_ends(const void *a, const void *b)
+{
+    return memcmp(a, b, 6 * sizeof(float));
+}
+
+static Side side_of(size_t t, size_t from, size_t to)
+{
+    Side s = {{0}, {0}, t};
+    for (size_t k = 0; k < 3; k++) { /* minus zero is zero */
+        s.from[k] = drawing.triangles[9 * t + 3 * from + k] + 0.0f;
+        s.to[k] = drawing.triangles[9 * t + 3 * to + k] + 0.0f;
+    }
+    return s;
+}
+
+static void sort_sides(void)
+{
+    for (size_t i = 0; i < 3 * drawing.count; i++)
+        sides[i] = side_of(i / 3, i % 3, (i + 1) % 3);
+    qsort(sides, 3 * drawing.count, sizeof *sides, by_ends);
+}
+
+/* Whether the surface goes on behind this side and hardly bends there. */
+static int is_smooth(size_t t, size_t side)
+{
+    Side wanted = side_of(t, (side + 1) % 3, side);
+    size_t first = 0, last = 3 * drawing.count, end = last;
+    while (first < last) {
+        size_t middle = (first + last) / 2;
+        if (by_ends(&sides[middle], &wanted) < 0)
+            first = middle + 1;
+        else
+            last = middle;
+    }
+    for (; first < end && by_ends(&sides[first], &wanted) == 0; first++)
+        if (sides[first].triangle != t && dot(normal_of(sides[first].triangle), normal_of(t)) > 0.8)
+            return 1;
+    return 0;
+}
+
 /* A side of a triangle where the surface bends sharply. */
 static void add_edge(const View *v, size_t t, int side, double step)
 {
-    Vec a = corner(t, side), b = corner(t, (side + 1) % 3), normal = normal_of(t);
-    if (dot(normal, v->eye) <= 0)
+    Vec a = corner(t, side), b = corner(t, (side + 1) % 3);
+    if (dot(normal_of(t), v->eye) <= 0 || is_smooth(t, (size_t)side))
         return;
-    for (size_t other = 0; other < triangles; other++)
-        for (int k = 0; other != t && k < 3; k++) {
-            Vec from = minus(corner(other, (k + 1) % 3), a), to = minus(corner(other, k), b);
-            if (dot(from, from) == 0 && dot(to, to) == 0 && dot(normal_of(other), normal) > 0.8)
-                return;
-        }
     int parts = parts_of(a, b, step);
     for (int i = 0; i < parts; i++) {
         Vec ends[2] = {mixed(a, b, a, (double)i / parts, 0), mixed(a, b, a, (double)(i + 1) / parts, 0)};
@@ -339,7 +379,7 @@ static void draw_view(FILE *f, const View *v, double size)
 {
     double step = size / 28, reach = size / 14;
     piece_count = 0;
-    for (size_t t = 0; t < triangles; t++) {
+    for (size_t t = 0; t < drawing.count; t++) {
         add_triangle(v, t, step, reach);
         for (int side = 0; side < 3; side++)
             add_edge(v, t, side, step);
@@ -431,7 +471,7 @@ static View view_from(double turn, double rise, double x)
     Vec eye = {cos(rise) * cos(turn), cos(rise) * sin(turn), sin(rise)}, right = {-sin(turn), cos(turn), 0};
     View v = {right, cross(eye, right), eye, 0, 0, 0, x, 465};
     double low[2] = {INFINITY, INFINITY}, high[2] = {-INFINITY, -INFINITY};
-    for (size_t t = 0; t < triangles; t++)
+    for (size_t t = 0; t < drawing.count; t++)
         for (int k = 0; k < 3; k++) {
             double at[2] = {dot(v.right, corner(t, k)), dot(v.up, corner(t, k))};
             for (int i = 0; i < 2; i++) {
@@ -454,6 +494,7 @@ static void draw(const char *path)
         fail("cannot write ", path);
     fprintf(f, "<svg xmlns='http://www.w3.org/2000/svg' viewBox='0 0 %d %d' font-family='sans-serif' font-weight='bold'>\n", WIDE, HIGH);
     fprintf(f, "<rect width='%d' height='%d' fill='#f4f4f4'/>\n", WIDE, HIGH);
+    sort_sides();
     draw_view(f, &above, size);
     draw_view(f, &under, size);
     draw_ring(f, &above);

@@ -1,36 +1,52 @@
 /* gauge.h: the measuring engine, as a C host calls it. Link libhost.a (README, "Link it from C").
  *
- * A drawing is built into an image once. An image is bytes: keep it in memory or in a file, hand it
- * to as many calls as are wanted. Each call looks its image over first, so no bytes, from wherever
- * they come, make it read or write outside the slices that it was handed.
+ * A drawing lives in lists that the host owns: its triangles, and a tree of boxes over them. It is built
+ * once, or read from an image once, and then asked where it lies, as often as is wanted: no call copies
+ * it. An image is bytes that keep a drawing and its tree in a file. The struct at the end of this header
+ * has all lists of a drawing in one block of memory, with a function for each call; the calls themselves
+ * take lists from anywhere. Each call looks over what it is handed, so no numbers and no bytes, from
+ * wherever they come, make it read or write outside its lists and slices.
  *
- * A slice is a pointer and a length in bytes. A length of 0 may go with any pointer, NULL too. No
- * alignment is asked for. A slice that a call writes must not overlap another slice of that call.
+ * A list is a pointer and a count of entries: a C array of float or of uint32_t, aligned as C aligns it.
  *
- * What stands in the slices is little-endian, numbers u32 or IEEE f32:
+ *     triangles   9 floats each: corners a, b, c, each x y z. Counted from 0; 1 to 65,536 of them
+ *     order       an entry for each triangle: their numbers, as the leaves have them from left to right
+ *     links       3 entries a node: 1 leaf or 2 branch, left, right. Of a leaf these are its range in
+ *                 order, the end not included; of a branch its children. The root is the last node
+ *     boxes       6 floats a node: min x y z, max x y z
+ *     bounds, centres, scratch
+ *                 what a build works in: 6 floats, 3 floats and 1 entry a triangle
  *
- *     triangles   36 bytes each: corners a, b, c, each x y z. Counted from 0; 1 to 4,096 of them
- *     points      12 bytes each: x y z. A list of none is accepted
+ * A tree of n triangles has 2n - 1 nodes at most.
+ *
+ * A slice is a pointer and a length in bytes; no alignment is asked for. What stands in it is
+ * little-endian, numbers u32 or IEEE f32:
+ *
+ *     points      12 bytes each: x y z. A slice of none is accepted
  *     answers     24 bytes each: 1 or 0, triangle, x, y, z, squared distance (struct gauge_answer);
  *                 nothing found is six zeros
  *     windings    4 bytes each: an f32
+ *     image       settings, triangles, order and nodes: version 1 of up to 4,096 triangles, version 2
+ *                 of more. Both are written and read; one drawing with one tree has one image
  *
  * On x86-64 Linux, for which the library is, an array of float or of struct gauge_answer has these
- * bytes: hand it over by a cast.
+ * bytes: hand it over by a cast. A count or a length of 0 may go with any pointer, NULL too. What a call
+ * writes must not overlap anything else that it is handed.
  *
  * Every call returns a number. Below 2^56 it is done, and the number is the count that stands at
  * the call; of slices that a machine can address no count is as large as 2^56. Else it is refused:
- * gauge_number says why, gauge_place where, and no byte was changed.
+ * gauge_number says why, gauge_place where, and nothing was written, to no list and no slice.
  *
  *     number                 given exactly when                                  place
- *     GAUGE_RAGGED        1  triangle bytes are no multiple of 36                0
+ *     GAUGE_RAGGED        1  triangle list length is no multiple of nine         0
  *     GAUGE_NONE          2  there are no triangles                              0
- *     GAUGE_TOO_MANY      3  there are more than 4,096                           0
+ *     GAUGE_TOO_MANY      3  there are more than 65,536                          0
  *     GAUGE_COORDINATE    4  a coordinate of a triangle is no number, or         index of the first
  *                            beyond 1,048,576 either way                         among the numbers
  *     GAUGE_SETTING       5  a setting is out of range                           0
- *     GAUGE_ROOM          6  the slice to write is too short                     0
- *     GAUGE_TREE          7  the image's tree is none of these triangles         0
+ *     GAUGE_ROOM          6  a list or slice to write is too short               0
+ *     GAUGE_TREE          7  order, links and boxes are no tree of these         0
+ *                            triangles
  *     GAUGE_POINT         8  point bytes are no multiple of 12,                  their length;
  *                            else a coordinate is no number or out of range      index of the first
  *                                                                                among the numbers
@@ -42,12 +58,12 @@
  * An index among the numbers counts from 0. In triangles place / 9 is the triangle and place % 9 the
  * number in it; in points place / 3 is the point and place % 3 its x, y or z.
  *
- * Where several hold, GAUGE_LAYOUT is told first, then the lowest number. On success bytes past
- * those that are counted stay as they were.
+ * Where several hold, GAUGE_LAYOUT is told first, then the lowest number. On success entries and bytes
+ * past those that a call writes stay as they were.
  *
  * No call allocates, keeps anything between calls, or writes to a file or a screen; any number of
- * threads may call at once, as long as none writes a slice that another uses. The calls count on the
- * floating-point state that C starts with: round to nearest, subnormals kept. (A host linked with
+ * threads may call at once, as long as none writes a list or a slice that another uses. The calls count
+ * on the floating-point state that C starts with: round to nearest, subnormals kept. (A host linked with
  * -ffast-math starts in another state, in which subnormals are zero.)
  */
 #ifndef GAUGE_H
@@ -57,18 +73,21 @@
 #include <stdint.h>
 
 /* Of this header: the first number changes when a host must change. */
-#define GAUGE_VERSION_MAJOR 1
+#define GAUGE_VERSION_MAJOR 2
 #define GAUGE_VERSION_MINOR 0
-/* Of the images that are written and read. */
-#define GAUGE_IMAGE_VERSION 1
 
-#define GAUGE_MOST_TRIANGLES 4096
-#define GAUGE_MOST_LEAF_MINIMUM 4096
-#define GAUGE_MOST_DEPTH 64
-#define GAUGE_MOST_COORDINATE 1048576.0f
-#define GAUGE_MOST_DISTANCE 4194304.0f
+#define GAUGE_MAX_TRIANGLES 65536
+#define GAUGE_MAX_LEAF_MINIMUM 65536
+#define GAUGE_MAX_DEPTH 64
+#define GAUGE_MAX_COORDINATE 1048576.0f
+#define GAUGE_MAX_DISTANCE 4194304.0f
 
-#define GAUGE_TRIANGLE_BYTES 36
+/* A drawing of so many triangles or fewer is small: its image is of version 1 and keeps no larger leaf
+ * minimum. The image of a larger drawing is of version 2. */
+#define GAUGE_MAX_SMALL 4096
+#define GAUGE_IMAGE_VERSION_SMALL 1
+#define GAUGE_IMAGE_VERSION_LARGE 2
+
 #define GAUGE_POINT_BYTES 12
 #define GAUGE_ANSWER_BYTES 24
 #define GAUGE_WINDING_BYTES 4
@@ -90,15 +109,18 @@
 
 /* A thread whose whole stack is so many bytes is enough for the call. Measured, not proved: on
  * the largest and the deepest inputs, with the toolchain that the library was made by,
- * tests/host/stack.c found 7 to 9 bytes in a hundred left. gauge_image_most takes next to none. */
-#define GAUGE_STACK_BUILD (704 * 1024)
-#define GAUGE_STACK_CHECK (512 * 1024)
-#define GAUGE_STACK_SURE (512 * 1024)
-#define GAUGE_STACK_SOURCE (512 * 1024)
-#define GAUGE_STACK_WINDING (160 * 1024)
+ * tests/host/stack.c found 9 to 12 bytes in a hundred left, and more of the 16 KB, which is the least
+ * that a thread may have. gauge_image_max and gauge_image_triangles take next to none. */
+#define GAUGE_STACK_READ (16 * 1024)
+#define GAUGE_STACK_BUILD (40 * 1024)
+#define GAUGE_STACK_WRITE (100 * 1024)
+#define GAUGE_STACK_CHECK (100 * 1024)
+#define GAUGE_STACK_SURE (100 * 1024)
+#define GAUGE_STACK_SOURCE (100 * 1024)
+#define GAUGE_STACK_WINDING (16 * 1024)
 
-/* Room for the image of n triangles, whatever tree is built: for an array's length. n is 1 to 4,096. */
-#define GAUGE_IMAGE_MOST(n) (98 * (size_t)(n) + 2)
+/* Room for the image of n triangles, whatever tree they have: for an array's length. n is 1 to 65,536. */
+#define GAUGE_IMAGE_MAX(n) ((n) <= GAUGE_MAX_SMALL ? 98 * (size_t)(n) + 2 : 108 * (size_t)(n) - 2)
 
 #ifdef __cplusplus
 extern "C" {
@@ -130,29 +152,71 @@ static inline uint64_t gauge_place(uint64_t returned)
     return returned >> 63 != 0 ? returned & 0x7fffffffffffffffu : returned & 0x00ffffffffffffffu;
 }
 
-/* The most bytes that an image of so many triangles can take, GAUGE_IMAGE_MOST(triangles).
- * 0 where triangles is not 1 to 4,096. Never refused. */
-uint64_t gauge_image_most(size_t triangles);
+/* ---- the calls */
 
-/* Builds the image of a drawing: the settings, the triangles, and a tree of boxes over them.
+/* The most bytes that an image of so many triangles can take, GAUGE_IMAGE_MAX(triangles).
+ * 0 where triangles is not 1 to 65,536. Never refused. */
+uint64_t gauge_image_max(size_t triangles);
+
+/* How many triangles the image holds: so long must the lists be that it is read into. It may be none, or
+ * more than 65,536: such a drawing is read, and every other call refuses it.
+ *
+ * Counted: its triangles.
+ * Refused: GAUGE_LAYOUT. */
+uint64_t gauge_image_triangles(const uint8_t *image, size_t image_length);
+
+/* Reads an image into lists: settings gets strategy, leaf minimum and maximum depth, the others what the
+ * image holds, all from the front. It looks at the layout alone: whether the lists are a drawing with its
+ * tree gauge_check tells, and each call that asks them finds out by itself. A float that is no number is
+ * read as one and the same NaN, whatever its bits.
+ *
+ * Counted: the nodes.
+ * Refused: GAUGE_LAYOUT, and GAUGE_ROOM where settings has fewer than 3 entries, or another list fewer
+ * than the image's triangles or nodes take. */
+uint64_t gauge_read(const uint8_t *image, size_t image_length,
+                    uint32_t *settings, size_t settings_length,
+                    float *triangles, size_t triangles_length, uint32_t *order, size_t order_length,
+                    uint32_t *links, size_t links_length, float *boxes, size_t boxes_length);
+
+/* Builds a tree of boxes over n triangles, into the front of order, links and boxes.
  *
  *     strategy        GAUGE_MEDIAN or GAUGE_AREA: how a box is cut in two. The answers of
  *                     gauge_sure are the same by either
- *     leaf_minimum    1 to 4,096: so few triangles are not cut further
+ *     leaf_minimum    1 to 65,536: so few triangles are not cut further
  *     maximum_depth   0 to 64: how many levels the tree may have; 0 is one level too
  *
- * Counted: the bytes written, from the front of image.
- * Refused: GAUGE_RAGGED, GAUGE_NONE, GAUGE_TOO_MANY, GAUGE_COORDINATE, GAUGE_SETTING, and
- * GAUGE_ROOM where image is shorter than the image is; GAUGE_IMAGE_MOST is always enough. */
+ * The working lists bounds, centres and scratch hold zeros afterwards where they were used. The calls
+ * that follow want as many entries of order as there are triangles.
+ *
+ * Counted: the nodes.
+ * Refused: GAUGE_RAGGED, GAUGE_NONE, GAUGE_TOO_MANY, GAUGE_COORDINATE, GAUGE_SETTING, and GAUGE_ROOM
+ * where order or scratch has fewer than n entries, links fewer than 3(2n - 1), boxes fewer than
+ * 6(2n - 1), bounds fewer than 6n or centres fewer than 3n. */
 uint64_t gauge_build(size_t strategy, size_t leaf_minimum, size_t maximum_depth,
-                     const uint8_t *triangles, size_t triangles_length,
+                     const float *triangles, size_t triangles_length, uint32_t *order, size_t order_length,
+                     uint32_t *links, size_t links_length, float *boxes, size_t boxes_length,
+                     float *bounds, size_t bounds_length, float *centres, size_t centres_length,
+                     uint32_t *scratch, size_t scratch_length);
+
+/* Writes the image of a drawing: its settings, which are those of gauge_build, its triangles and its tree
+ * of so many nodes.
+ *
+ * Counted: the bytes written, from the front of image.
+ * Refused: GAUGE_RAGGED, GAUGE_NONE, GAUGE_TOO_MANY, GAUGE_COORDINATE, GAUGE_SETTING as gauge_build and
+ * where a drawing of 4,096 triangles or fewer has a leaf minimum above 4,096, GAUGE_ROOM where image is
+ * shorter than the image is (GAUGE_IMAGE_MAX is always enough), GAUGE_TREE. */
+uint64_t gauge_write(size_t strategy, size_t leaf_minimum, size_t maximum_depth,
+                     const float *triangles, size_t triangles_length, const uint32_t *order, size_t order_length,
+                     const uint32_t *links, size_t links_length, const float *boxes, size_t boxes_length, size_t nodes,
                      uint8_t *image, size_t image_length);
 
-/* Whether the bytes are an image that can be asked.
+/* Whether the lists are a drawing that can be asked: order has as many entries as there are triangles,
+ * links and boxes have the nodes at their front, and these are a tree of 64 levels at most.
  *
- * Counted: its triangles, which stand in it from byte 20 on.
- * Refused: GAUGE_LAYOUT, GAUGE_NONE, GAUGE_TOO_MANY, GAUGE_COORDINATE, GAUGE_SETTING, GAUGE_TREE. */
-uint64_t gauge_check(const uint8_t *image, size_t image_length);
+ * Counted: the triangles.
+ * Refused: GAUGE_RAGGED, GAUGE_NONE, GAUGE_TOO_MANY, GAUGE_COORDINATE, GAUGE_TREE. */
+uint64_t gauge_check(const float *triangles, size_t triangles_length, const uint32_t *order, size_t order_length,
+                     const uint32_t *links, size_t links_length, const float *boxes, size_t boxes_length, size_t nodes);
 
 /* For each point the nearest point of the drawing, the lowest triangle number among equals, or
  * nothing where none is nearer than distance: what measuring every triangle would find, bit for bit.
@@ -161,10 +225,10 @@ uint64_t gauge_check(const uint8_t *image, size_t image_length);
  * mostly too far (docs/DIFFERENCES.md, "The hazard that stays").
  *
  * Counted: the points answered, from the front of answers.
- * Refused: GAUGE_LAYOUT, GAUGE_NONE, GAUGE_TOO_MANY, GAUGE_COORDINATE, GAUGE_SETTING, GAUGE_ROOM
- * where answers has room for fewer than points_length / 12 answers, GAUGE_TREE, GAUGE_POINT,
- * GAUGE_DISTANCE. */
-uint64_t gauge_sure(const uint8_t *image, size_t image_length,
+ * Refused: GAUGE_RAGGED, GAUGE_NONE, GAUGE_TOO_MANY, GAUGE_COORDINATE, GAUGE_ROOM where answers has room
+ * for fewer than points_length / 12 answers, GAUGE_TREE, GAUGE_POINT, GAUGE_DISTANCE. */
+uint64_t gauge_sure(const float *triangles, size_t triangles_length, const uint32_t *order, size_t order_length,
+                    const uint32_t *links, size_t links_length, const float *boxes, size_t boxes_length, size_t nodes,
                     const uint8_t *points, size_t points_length, float distance,
                     uint8_t *answers, size_t answers_length);
 
@@ -172,20 +236,138 @@ uint64_t gauge_sure(const uint8_t *image, size_t image_length,
  * lie beyond the distance, and is not always the nearest: for measuring use gauge_sure.
  *
  * Counted and refused as gauge_sure. */
-uint64_t gauge_source(const uint8_t *image, size_t image_length,
+uint64_t gauge_source(const float *triangles, size_t triangles_length, const uint32_t *order, size_t order_length,
+                      const uint32_t *links, size_t links_length, const float *boxes, size_t boxes_length, size_t nodes,
                       const uint8_t *points, size_t points_length, float distance,
                       uint8_t *answers, size_t answers_length);
 
 /* For each point how often the drawing's surface goes round it. Where the drawing is closed and its
  * corners run counter-clockwise seen from outside: near 1 inside, near 0 outside. It measures every
- * triangle and does not look at the image's settings or its tree.
+ * triangle and needs no tree.
  *
  * Counted: the points answered, from the front of windings.
- * Refused: GAUGE_LAYOUT, GAUGE_NONE, GAUGE_TOO_MANY, GAUGE_COORDINATE, GAUGE_ROOM where windings has
+ * Refused: GAUGE_RAGGED, GAUGE_NONE, GAUGE_TOO_MANY, GAUGE_COORDINATE, GAUGE_ROOM where windings has
  * room for fewer than points_length / 12 numbers, GAUGE_POINT. */
-uint64_t gauge_winding(const uint8_t *image, size_t image_length,
+uint64_t gauge_winding(const float *triangles, size_t triangles_length,
                        const uint8_t *points, size_t points_length,
                        uint8_t *windings, size_t windings_length);
+
+/* ---- a drawing in one block of memory
+ *
+ *     struct gauge_drawing d = gauge_lay(malloc(GAUGE_DRAWING_BYTES(n)), n);
+ *     if (d.triangles == NULL) ..                                     there is no memory
+ *     .. fill d.triangles ..
+ *     uint64_t built = gauge_drawing_build(&d, GAUGE_AREA, 1, 40);
+ *     if (gauge_refused(built)) ..
+ *     .. ask &d ..
+ *     free(d.triangles);
+ *
+ * Nothing of this is in the library: the functions hand the struct's lists to the calls above, which say
+ * what is counted and refused. */
+
+struct gauge_drawing {
+    size_t count;         /* how many triangles */
+    size_t nodes;         /* of the tree; 0 while there is none */
+    uint32_t settings[3]; /* the tree's strategy, leaf minimum and maximum depth */
+    float *triangles;     /* where the block starts */
+    uint32_t *order;
+    uint32_t *links; /* links and boxes have room for 2 count nodes */
+    float *boxes;
+    float *bounds; /* bounds, centres and scratch are what a build works in */
+    float *centres;
+    uint32_t *scratch;
+};
+
+/* The bytes of a block for n triangles, for an array's length too. Where so many cannot be counted it is
+ * SIZE_MAX, which no malloc gives. */
+#define GAUGE_DRAWING_BYTES(n) ((size_t)(n) / (SIZE_MAX / 152 + 1) == 0 ? 152 * (size_t)(n) : SIZE_MAX)
+
+/* Lays the lists of exactly so many triangles into a block of GAUGE_DRAWING_BYTES(triangles), aligned as
+ * an array of float. Nothing is written to the block: the triangles are the host's to fill, and there is
+ * no tree. Who does not know yet how many there will be lays a block for as many as may come, fills its
+ * triangles from the front, and lays the same block again for those that there are: they stay. Where
+ * block is NULL, or so many cannot be counted, count is 0 and every pointer NULL. */
+static inline struct gauge_drawing gauge_lay(void *block, size_t triangles)
+{
+    struct gauge_drawing d = {0, 0, {0, 0, 0}, NULL, NULL, NULL, NULL, NULL, NULL, NULL};
+    if (block == NULL || triangles > SIZE_MAX / 152)
+        return d;
+    d.count = triangles;
+    d.triangles = (float *)block;
+    d.order = (uint32_t *)block + 9 * triangles;
+    d.links = (uint32_t *)block + 10 * triangles;
+    d.boxes = (float *)block + 16 * triangles;
+    d.bounds = (float *)block + 28 * triangles;
+    d.centres = (float *)block + 34 * triangles;
+    d.scratch = (uint32_t *)block + 37 * triangles;
+    return d;
+}
+
+/* gauge_build. Where it is done nodes and settings are the new tree's; else the drawing is as it was. */
+static inline uint64_t gauge_drawing_build(struct gauge_drawing *d, size_t strategy, size_t leaf_minimum, size_t maximum_depth)
+{
+    uint64_t nodes = gauge_build(strategy, leaf_minimum, maximum_depth, d->triangles, 9 * d->count, d->order, d->count,
+                                 d->links, 6 * d->count, d->boxes, 12 * d->count, d->bounds, 6 * d->count,
+                                 d->centres, 3 * d->count, d->scratch, d->count);
+    if (!gauge_refused(nodes)) {
+        d->nodes = (size_t)nodes;
+        d->settings[0] = (uint32_t)strategy;
+        d->settings[1] = (uint32_t)leaf_minimum;
+        d->settings[2] = (uint32_t)maximum_depth;
+    }
+    return nodes;
+}
+
+/* gauge_read, into a drawing that is laid for as many triangles as gauge_image_triangles counts, or for
+ * more. Where it is done count, nodes and settings are the image's; else the drawing is as it was. An
+ * image with more than two nodes a triangle, which is no tree, is GAUGE_ROOM here. */
+static inline uint64_t gauge_drawing_read(struct gauge_drawing *d, const uint8_t *image, size_t image_length)
+{
+    uint64_t count = gauge_image_triangles(image, image_length);
+    uint64_t nodes = gauge_read(image, image_length, d->settings, 3, d->triangles, 9 * d->count, d->order, d->count,
+                                d->links, 6 * d->count, d->boxes, 12 * d->count);
+    if (!gauge_refused(nodes)) {
+        d->count = (size_t)count;
+        d->nodes = (size_t)nodes;
+    }
+    return nodes;
+}
+
+/* gauge_write. */
+static inline uint64_t gauge_drawing_write(const struct gauge_drawing *d, uint8_t *image, size_t image_length)
+{
+    return gauge_write(d->settings[0], d->settings[1], d->settings[2], d->triangles, 9 * d->count, d->order, d->count,
+                       d->links, 6 * d->count, d->boxes, 12 * d->count, d->nodes, image, image_length);
+}
+
+/* gauge_check. */
+static inline uint64_t gauge_drawing_check(const struct gauge_drawing *d)
+{
+    return gauge_check(d->triangles, 9 * d->count, d->order, d->count, d->links, 6 * d->count, d->boxes, 12 * d->count, d->nodes);
+}
+
+/* gauge_sure of so many points, three floats each, with as many answers. */
+static inline uint64_t gauge_drawing_sure(const struct gauge_drawing *d, const float *points, size_t count, float distance,
+                                          struct gauge_answer *answers)
+{
+    return gauge_sure(d->triangles, 9 * d->count, d->order, d->count, d->links, 6 * d->count, d->boxes, 12 * d->count, d->nodes,
+                      (const uint8_t *)points, GAUGE_POINT_BYTES * count, distance, (uint8_t *)answers, GAUGE_ANSWER_BYTES * count);
+}
+
+/* gauge_source, likewise. */
+static inline uint64_t gauge_drawing_source(const struct gauge_drawing *d, const float *points, size_t count, float distance,
+                                            struct gauge_answer *answers)
+{
+    return gauge_source(d->triangles, 9 * d->count, d->order, d->count, d->links, 6 * d->count, d->boxes, 12 * d->count, d->nodes,
+                        (const uint8_t *)points, GAUGE_POINT_BYTES * count, distance, (uint8_t *)answers, GAUGE_ANSWER_BYTES * count);
+}
+
+/* gauge_winding, likewise with as many windings. It needs no tree. */
+static inline uint64_t gauge_drawing_winding(const struct gauge_drawing *d, const float *points, size_t count, float *windings)
+{
+    return gauge_winding(d->triangles, 9 * d->count, (const uint8_t *)points, GAUGE_POINT_BYTES * count,
+                         (uint8_t *)windings, GAUGE_WINDING_BYTES * count);
+}
 
 #ifdef __cplusplus
 }

@@ -1,13 +1,14 @@
-/* Calls the library with good and bad input and compares with plain.c what it returns and every byte
- * that it leaves.
+/* Calls the library with good and bad input and compares with plain.c what it returns and every entry
+ * and byte that it leaves.
  *
  *     fuzz CALLS [SEED]
  *
- * First each bad image and each small length in turn, then drawings, damages and questions by chance,
- * until so many calls are made. Each slice stands flush with a page that cannot be touched, before it
- * or behind it, and what is written has other bytes beside it: a byte read or written outside ends the
- * program or is counted as a difference. The exit status is 0 where nothing differs and, of ENOUGH
- * calls or more, each call was done and refused in every way that gauge.h lists for it. */
+ * First each bad image, each bad tree and each small length in turn, then drawings, damages and
+ * questions by chance, until so many calls are made. Each list and slice stands flush with a page that
+ * cannot be touched, before it or behind it, and has other bytes beside it: a byte read or written
+ * outside ends the program or is counted as a difference, and so is a byte that a refused call writes.
+ * The exit status is 0 where nothing differs and, of ENOUGH calls or more, each call was done and refused
+ * in every way that gauge.h lists for it. */
 #define _DEFAULT_SOURCE
 #include "plain.h"
 
@@ -40,171 +41,243 @@ static float between(float lo, float hi)
     return lo + (hi - lo) * (float)(chance() >> 40) / 16777216.0f;
 }
 
-/* ---- slices beside pages that cannot be touched */
+/* ---- lists beside pages that cannot be touched */
 
-typedef struct { uint8_t *first; size_t size; } Room;
-typedef struct { const uint8_t *bytes; size_t length; } Slice;
+/* What a call may be handed: slices of bytes, lists of four bytes an entry. */
+enum { IMAGE, SETTINGS, TRIANGLES, ORDER, LINKS, BOXES, BOUNDS, CENTRES, SCRATCH, POINTS, ANSWERS, LISTS };
+enum { ROOM = 4 << 20, MARGIN = 64 };
 
-static Room make_room(size_t size)
+/* One that is lent to a call: where it stands, and a copy for plain.c; both with margins as far as the
+ * pages allow. What the library leaves must be what plain.c leaves in the copy. */
+typedef struct { uint8_t *at, *copy, *first, *first_copy; size_t length, all; } Lent;
+
+static uint8_t *rooms[LISTS], *copies[LISTS];
+static Lent lent[LISTS];
+
+static uint8_t *make_room(void)
 {
     size_t page = (size_t)sysconf(_SC_PAGESIZE);
-    Room room;
-    room.size = (size + page - 1) / page * page;
-    uint8_t *all = mmap(NULL, room.size + 2 * page, PROT_NONE, MAP_PRIVATE | MAP_ANONYMOUS, -1, 0);
-    room.first = all + page;
-    if (all == MAP_FAILED || mprotect(room.first, room.size, PROT_READ | PROT_WRITE) != 0) {
+    uint8_t *all = mmap(NULL, ROOM + 2 * page, PROT_NONE, MAP_PRIVATE | MAP_ANONYMOUS, -1, 0);
+    if (all == MAP_FAILED || mprotect(all + page, ROOM, PROT_READ | PROT_WRITE) != 0) {
         perror("mmap");
         exit(2);
     }
-    return room;
+    return all + page;
 }
 
-static uint8_t *in_room(Room room, size_t length)
+static void paint(uint8_t *s, size_t length)
 {
-    if (length > room.size) {
-        fprintf(stderr, "fuzz: a slice of %zu bytes has no room\n", length);
+    for (size_t i = 0; i < length; i += 8) {
+        uint64_t any = chance();
+        memcpy(s + i, &any, length - i < 8 ? length - i : 8);
+    }
+}
+
+/* Lends so many bytes: these, or painted ones where none are given. */
+static void lend(int list, const void *bytes, size_t length)
+{
+    Lent *l = &lent[list];
+    Lent nothing = {NULL, NULL, NULL, NULL, 0, 0};
+    *l = nothing;
+    if (length > ROOM) {
+        fprintf(stderr, "fuzz: a list of %zu bytes has no room\n", length);
         exit(2);
     }
     if (length == 0 && below(2))
-        return NULL;
-    return below(2) ? room.first : room.first + (room.size - length);
-}
-
-static uint8_t *placed(Room room, Slice s)
-{
-    uint8_t *at = in_room(room, s.length);
-    if (s.length != 0)
-        memcpy(at, s.bytes, s.length);
-    return at;
-}
-
-/* What is written: painted, with a margin where the page allows one, and a copy that plain.c writes. */
-enum { MARGIN = 64, MOST_OUT = 500000 };
-
-typedef struct { uint8_t *first, *out, *copy; size_t length, margin_before, all; } Out;
-
-static Room image_room, points_room, out_room;
-static uint8_t copies[MOST_OUT + 2 * MARGIN];
-
-static Out make_out(size_t length)
-{
-    Out o;
-    o.out = in_room(out_room, length);
-    o.length = length;
-    o.margin_before = o.all = 0;
-    o.first = o.out;
-    o.copy = copies;
-    if (o.out == NULL)
-        return o;
-    size_t before = (size_t)(o.out - out_room.first), behind = out_room.size - before - length;
-    o.margin_before = before < MARGIN ? before : MARGIN;
-    o.all = o.margin_before + length + (behind < MARGIN ? behind : MARGIN);
-    o.first = o.out - o.margin_before;
-    o.copy = copies + o.margin_before;
-    for (size_t i = 0; i < o.all; i += 8) {
-        uint64_t paint = chance();
-        memcpy(copies + i, &paint, o.all - i < 8 ? o.all - i : 8);
+        return;
+    size_t before = below(2) ? 0 : ROOM - length, behind = ROOM - length - before;
+    size_t margin = before < MARGIN ? before : MARGIN, margin_behind = behind < MARGIN ? behind : MARGIN;
+    l->length = length;
+    l->all = margin + length + margin_behind;
+    l->at = rooms[list] + before;
+    l->first = l->at - margin;
+    l->first_copy = copies[list];
+    l->copy = copies[list] + margin;
+    paint(l->first_copy, bytes == NULL ? l->all : margin);
+    if (bytes != NULL) {
+        memcpy(l->copy, bytes, length);
+        paint(l->copy + length, margin_behind);
     }
-    memcpy(o.first, copies, o.all);
-    return o;
+    memcpy(l->first, l->first_copy, l->all);
+}
+
+static int as_wanted(void)
+{
+    for (int list = 0; list < LISTS; list++)
+        if (lent[list].all != 0 && memcmp(lent[list].first, lent[list].first_copy, lent[list].all) != 0)
+            return 0;
+    return 1;
 }
 
 /* ---- one call, compared */
 
-enum { MOST_CALL, BUILD, CHECK, SURE, SOURCE, WINDING, CALLS };
-static const char *const names[CALLS] = {"gauge_image_most", "gauge_build", "gauge_check", "gauge_sure", "gauge_source", "gauge_winding"};
+enum { MAX_CALL, COUNT, READ, BUILD, WRITE, CHECK, SURE, SOURCE, WINDING, CALLS };
+static const char *const names[CALLS] = {"gauge_image_max", "gauge_image_triangles", "gauge_read", "gauge_build", "gauge_write",
+                                         "gauge_check", "gauge_sure", "gauge_source", "gauge_winding"};
 static uint64_t calls, called[CALLS], ended[CALLS][11], differences, unknown;
 
 /* How a call may end, as gauge.h lists it: 0 is done, the others are refusals. */
 enum { ENOUGH = 20000 };
 static const int listed[CALLS][11] = {
-    {1, 0, 0, 0, 0, 0, 0, 0, 0, 0, 0}, /* gauge_image_most */
+    {1, 0, 0, 0, 0, 0, 0, 0, 0, 0, 0}, /* gauge_image_max */
+    {1, 0, 0, 0, 0, 0, 0, 0, 0, 0, 1}, /* gauge_image_triangles */
+    {1, 0, 0, 0, 0, 0, 1, 0, 0, 0, 1}, /* gauge_read */
     {1, 1, 1, 1, 1, 1, 1, 0, 0, 0, 0}, /* gauge_build */
-    {1, 0, 1, 1, 1, 1, 0, 1, 0, 0, 1}, /* gauge_check */
-    {1, 0, 1, 1, 1, 1, 1, 1, 1, 1, 1}, /* gauge_sure */
-    {1, 0, 1, 1, 1, 1, 1, 1, 1, 1, 1}, /* gauge_source */
-    {1, 0, 1, 1, 1, 0, 1, 0, 1, 0, 1}, /* gauge_winding */
+    {1, 1, 1, 1, 1, 1, 1, 1, 0, 0, 0}, /* gauge_write */
+    {1, 1, 1, 1, 1, 0, 0, 1, 0, 0, 0}, /* gauge_check */
+    {1, 1, 1, 1, 1, 0, 1, 1, 1, 1, 0}, /* gauge_sure */
+    {1, 1, 1, 1, 1, 0, 1, 1, 1, 1, 0}, /* gauge_source */
+    {1, 1, 1, 1, 1, 0, 1, 0, 1, 0, 0}, /* gauge_winding */
 };
 
-static void count(int call, uint64_t returned, uint64_t wanted, int same_bytes)
+/* Who is called: the library, with the lists themselves, and plain.c, with their copies. */
+enum { GAUGE, PLAIN, BOTH };
+#define BYTES(list) (who == PLAIN ? lent[list].copy : lent[list].at), lent[list].length
+#define WORDS(list) (uint32_t *)(who == PLAIN ? lent[list].copy : lent[list].at), lent[list].length / 4
+#define FLOATS(list) (float *)(who == PLAIN ? lent[list].copy : lent[list].at), lent[list].length / 4
+#define TREE FLOATS(TRIANGLES), WORDS(ORDER), WORDS(LINKS), FLOATS(BOXES)
+
+/* Compares, and takes back what was lent. Returns what is right. */
+static uint64_t compared(int call, const uint64_t returned[BOTH])
 {
+    uint64_t by_library = returned[GAUGE], wanted = returned[PLAIN];
+    int same = as_wanted();
+    for (int list = 0; list < LISTS; list++)
+        lent[list].length = lent[list].all = 0;
     calls++;
     called[call]++;
-    if (gauge_number(returned) <= 10)
-        ended[call][gauge_number(returned)]++;
+    if (gauge_number(by_library) <= 10)
+        ended[call][gauge_number(by_library)]++;
     else
         unknown++;
-    if (returned == wanted && same_bytes)
-        return;
-    if (differences++ < 10)
-        fprintf(stderr, "fuzz: call %llu, %s: returned %u at %llu, plain C %u at %llu; bytes %s\n",
-                (unsigned long long)calls, names[call], gauge_number(returned), (unsigned long long)gauge_place(returned),
-                gauge_number(wanted), (unsigned long long)gauge_place(wanted), same_bytes ? "same" : "differ");
-}
-
-static int untouched(const uint8_t *at, Slice s)
-{
-    return s.length == 0 || memcmp(at, s.bytes, s.length) == 0;
-}
-
-static int as_wanted(Out o)
-{
-    return o.all == 0 || memcmp(o.first, copies, o.all) == 0;
-}
-
-static void ask_most(size_t n)
-{
-    count(MOST_CALL, gauge_image_most(n), plain_image_most(n), n < 1 || n > 4096 || plain_image_most(n) == GAUGE_IMAGE_MOST(n));
-}
-
-static uint64_t ask_build(size_t strategy, size_t leaf_minimum, size_t depth, Slice triangles, size_t room)
-{
-    const uint8_t *t = placed(image_room, triangles);
-    Out o = make_out(room);
-    uint64_t wanted = plain_build(strategy, leaf_minimum, depth, t, triangles.length, o.copy, room);
-    uint64_t returned = gauge_build(strategy, leaf_minimum, depth, t, triangles.length, o.out, room);
-    count(BUILD, returned, wanted, as_wanted(o) && untouched(t, triangles));
+    if ((by_library != wanted || !same) && differences++ < 10)
+        fprintf(stderr, "fuzz: call %llu, %s: returned %u at %llu, plain C %u at %llu; lists and slices %s\n",
+                (unsigned long long)calls, names[call], gauge_number(by_library), (unsigned long long)gauge_place(by_library),
+                gauge_number(wanted), (unsigned long long)gauge_place(wanted), same ? "same" : "differ");
     return wanted;
 }
 
-static void ask_check(Slice image)
+/* A slice of bytes. */
+typedef struct { const uint8_t *bytes; size_t length; } Slice;
+
+/* The lists of a drawing and its tree, as they are handed over; lengths count entries. */
+typedef struct {
+    const float *triangles;
+    size_t triangles_length;
+    const uint32_t *order;
+    size_t order_length;
+    const uint32_t *links;
+    size_t links_length;
+    const float *boxes;
+    size_t boxes_length, nodes;
+} Drawing;
+
+typedef struct { size_t strategy, leaf_minimum, maximum_depth; } Settings;
+
+/* How many entries the lists have that a build or a reading writes. */
+typedef struct { size_t settings, triangles, order, links, boxes, bounds, centres, scratch; } Rooms;
+
+static Rooms rooms_for(size_t n, size_t nodes)
 {
-    const uint8_t *i = placed(image_room, image);
-    uint64_t wanted = plain_check(i, image.length), returned = gauge_check(i, image.length);
-    count(CHECK, returned, wanted, untouched(i, image));
+    Rooms r = {3, 9 * n, n, 3 * nodes, 6 * nodes, 6 * n, 3 * n, n};
+    return r;
 }
 
-static void ask_points(int call, Slice image, Slice points, float distance, size_t room)
+static void lend_drawing(Drawing d)
 {
-    const uint8_t *i = placed(image_room, image), *p = placed(points_room, points);
-    Out o = make_out(room);
-    uint64_t wanted, returned;
-    if (call == SURE) {
-        wanted = plain_sure(i, image.length, p, points.length, distance, o.copy, room);
-        returned = gauge_sure(i, image.length, p, points.length, distance, o.out, room);
-    } else if (call == SOURCE) {
-        wanted = plain_source(i, image.length, p, points.length, distance, o.copy, room);
-        returned = gauge_source(i, image.length, p, points.length, distance, o.out, room);
-    } else {
-        wanted = plain_winding(i, image.length, p, points.length, o.copy, room);
-        returned = gauge_winding(i, image.length, p, points.length, o.out, room);
-    }
-    count(call, returned, wanted, as_wanted(o) && untouched(i, image) && untouched(p, points));
+    lend(TRIANGLES, d.triangles, 4 * d.triangles_length);
+    lend(ORDER, d.order, 4 * d.order_length);
+    lend(LINKS, d.links, 4 * d.links_length);
+    lend(BOXES, d.boxes, 4 * d.boxes_length);
 }
 
-static void ask_all(Slice image, Slice points, float distance)
+static void ask_max(size_t n)
 {
-    size_t n = points.length / 12;
-    ask_check(image);
-    ask_points(SURE, image, points, distance, 24 * n);
-    ask_points(SOURCE, image, points, distance, 24 * n);
-    ask_points(WINDING, image, points, distance, 4 * n);
+    uint64_t returned[BOTH] = {gauge_image_max(n), plain_image_max(n)};
+    if (n >= 1 && n <= GAUGE_MAX_TRIANGLES && returned[PLAIN] != GAUGE_IMAGE_MAX(n))
+        differences++;
+    compared(MAX_CALL, returned);
+}
+
+static uint64_t ask_count(Slice image)
+{
+    uint64_t returned[BOTH];
+    lend(IMAGE, image.bytes, image.length);
+    for (int who = 0; who < BOTH; who++)
+        returned[who] = (who == PLAIN ? plain_image_triangles : gauge_image_triangles)(BYTES(IMAGE));
+    return compared(COUNT, returned);
+}
+
+static uint64_t ask_read(Slice image, Rooms r)
+{
+    uint64_t returned[BOTH];
+    lend(IMAGE, image.bytes, image.length);
+    lend(SETTINGS, NULL, 4 * r.settings);
+    lend(TRIANGLES, NULL, 4 * r.triangles);
+    lend(ORDER, NULL, 4 * r.order);
+    lend(LINKS, NULL, 4 * r.links);
+    lend(BOXES, NULL, 4 * r.boxes);
+    for (int who = 0; who < BOTH; who++)
+        returned[who] = (who == PLAIN ? plain_read : gauge_read)(BYTES(IMAGE), WORDS(SETTINGS), TREE);
+    return compared(READ, returned);
+}
+
+static uint64_t ask_build(Settings s, const float *triangles, size_t length, Rooms r)
+{
+    uint64_t returned[BOTH];
+    lend(TRIANGLES, triangles, 4 * length);
+    lend(ORDER, NULL, 4 * r.order);
+    lend(LINKS, NULL, 4 * r.links);
+    lend(BOXES, NULL, 4 * r.boxes);
+    lend(BOUNDS, NULL, 4 * r.bounds);
+    lend(CENTRES, NULL, 4 * r.centres);
+    lend(SCRATCH, NULL, 4 * r.scratch);
+    for (int who = 0; who < BOTH; who++)
+        returned[who] = (who == PLAIN ? plain_build : gauge_build)(s.strategy, s.leaf_minimum, s.maximum_depth, TREE, FLOATS(BOUNDS),
+                                                                   FLOATS(CENTRES), WORDS(SCRATCH));
+    return compared(BUILD, returned);
+}
+
+static uint64_t ask_write(Settings s, Drawing d, size_t room)
+{
+    uint64_t returned[BOTH];
+    lend_drawing(d);
+    lend(IMAGE, NULL, room);
+    for (int who = 0; who < BOTH; who++)
+        returned[who] = (who == PLAIN ? plain_write : gauge_write)(s.strategy, s.leaf_minimum, s.maximum_depth, TREE, d.nodes, BYTES(IMAGE));
+    return compared(WRITE, returned);
+}
+
+static void ask_check(Drawing d)
+{
+    uint64_t returned[BOTH];
+    lend_drawing(d);
+    for (int who = 0; who < BOTH; who++)
+        returned[who] = (who == PLAIN ? plain_check : gauge_check)(TREE, d.nodes);
+    compared(CHECK, returned);
+}
+
+static void ask_points(int call, Drawing d, Slice points, float distance, size_t room)
+{
+    uint64_t returned[BOTH];
+    lend_drawing(d);
+    lend(POINTS, points.bytes, points.length);
+    lend(ANSWERS, NULL, room);
+    for (int who = 0; who < BOTH; who++)
+        if (call == SURE)
+            returned[who] = (who == PLAIN ? plain_sure : gauge_sure)(TREE, d.nodes, BYTES(POINTS), distance, BYTES(ANSWERS));
+        else if (call == SOURCE)
+            returned[who] = (who == PLAIN ? plain_source : gauge_source)(TREE, d.nodes, BYTES(POINTS), distance, BYTES(ANSWERS));
+        else
+            returned[who] = (who == PLAIN ? plain_winding : gauge_winding)(FLOATS(TRIANGLES), BYTES(POINTS), BYTES(ANSWERS));
+    compared(call, returned);
 }
 
 /* ---- drawings, points, distances by chance */
 
-static float drawing[9 * 4200], touched[3 * 64];
-static uint8_t image_bytes[MOST_OUT], damaged[MOST_OUT];
+enum { MOST = 5000, MOST_NODES = 2 * MOST + 2, MOST_IMAGE = 110 * MOST };
+
+static float drawing[9 * MOST], touched[3 * 64];
 
 static float any_bits(void)
 {
@@ -217,7 +290,7 @@ static float any_bits(void)
 static float good_bits(void)
 {
     float x = any_bits();
-    return fabsf(x) <= GAUGE_MOST_COORDINATE ? x : between(-1, 1);
+    return fabsf(x) <= GAUGE_MAX_COORDINATE ? x : between(-1, 1);
 }
 
 static float bad_coordinate(void)
@@ -279,7 +352,7 @@ static void make_points(size_t n, size_t triangles)
                 x = between(-1048576, 1048576);
             else if (kind == 6)
                 x = good_bits();
-            touched[3 * i + k] = fabsf(x) <= GAUGE_MOST_COORDINATE ? x : 1048576.0f;
+            touched[3 * i + k] = fabsf(x) <= GAUGE_MAX_COORDINATE ? x : 1048576.0f;
         }
     }
 }
@@ -294,236 +367,463 @@ static float make_distance(void)
     return kind < 9 ? some[below(sizeof some / sizeof *some)] : ldexpf(between(1, 2), (int)below(60) - 38);
 }
 
+/* ---- a tree over the drawing and its image, by plain C */
+
+static uint32_t tree_order[MOST], tree_links[3 * MOST_NODES];
+static float tree_boxes[6 * MOST_NODES];
+static uint8_t image_bytes[MOST_IMAGE];
+
 static Slice bytes_of(const void *bytes, size_t length)
 {
     Slice s = {bytes, length};
     return s;
 }
 
-/* The image of the drawing, by plain C. */
-static Slice make_image(size_t n, size_t strategy, size_t leaf_minimum, size_t depth)
+static size_t done(uint64_t returned)
 {
-    uint64_t size = plain_build(strategy, leaf_minimum, depth, (const uint8_t *)drawing, 36 * n, image_bytes, sizeof image_bytes);
-    if (gauge_refused(size)) {
-        fprintf(stderr, "fuzz: plain C refused a drawing: %u at %llu\n", gauge_number(size), (unsigned long long)gauge_place(size));
+    if (gauge_refused(returned)) {
+        fprintf(stderr, "fuzz: plain C refused a drawing: %u at %llu\n", gauge_number(returned), (unsigned long long)gauge_place(returned));
         exit(2);
     }
-    return bytes_of(image_bytes, size);
+    return returned;
 }
 
-/* ---- an image damaged */
-
-static size_t triangles_in(Slice image)
+static Drawing tree_of(size_t n, size_t nodes)
 {
-    return (size_t)(image.bytes[14] | image.bytes[15] << 8 | image.bytes[16] << 16) / 36;
+    Drawing d = {drawing, 9 * n, tree_order, n, tree_links, 3 * nodes, tree_boxes, 6 * nodes, nodes};
+    return d;
 }
 
-/* Where the headers, the orders and the nodes of a good image stand. */
-static size_t header_at(Slice image, int record)
+static Drawing make_tree(size_t n, Settings s)
 {
-    size_t n = triangles_in(image);
-    size_t at[4] = {0, 14, 20 + 36 * n, 26 + 38 * n};
+    static float bounds[6 * MOST], centres[3 * MOST];
+    static uint32_t scratch[MOST];
+    return tree_of(n, done(plain_build(s.strategy, s.leaf_minimum, s.maximum_depth, drawing, 9 * n, tree_order, MOST, tree_links,
+                                       3 * MOST_NODES, tree_boxes, 6 * MOST_NODES, bounds, 6 * MOST, centres, 3 * MOST, scratch, MOST)));
+}
+
+static uint64_t write_image(Settings s, Drawing d, uint8_t *image, size_t length)
+{
+    return plain_write(s.strategy, s.leaf_minimum, s.maximum_depth, d.triangles, d.triangles_length, d.order, d.order_length, d.links,
+                       d.links_length, d.boxes, d.boxes_length, d.nodes, image, length);
+}
+
+static Slice make_image(Settings s, Drawing d)
+{
+    return bytes_of(image_bytes, done(write_image(s, d, image_bytes, sizeof image_bytes)));
+}
+
+/* The bytes of an entry and of a node in the image of n triangles, and where its headers stand. */
+static size_t entry_bytes(size_t n)
+{
+    return n <= GAUGE_MAX_SMALL ? 2 : 4;
+}
+
+static size_t node_bytes(size_t n)
+{
+    return 26 + 2 * entry_bytes(n);
+}
+
+static size_t header_at(size_t n, int record)
+{
+    size_t at[4] = {0, 14, 20 + 36 * n, 26 + (36 + entry_bytes(n)) * n};
     return at[record];
 }
 
-static Slice copied(Slice image)
+static size_t nodes_in(Slice image, size_t n)
 {
-    memcpy(damaged, image.bytes, image.length);
-    return bytes_of(damaged, image.length);
+    return (image.length - header_at(n, 3) - 6) / node_bytes(n);
+}
+
+/* ---- every question to one drawing, and to one image */
+
+static size_t exact_size(Drawing d)
+{
+    size_t n = d.triangles_length / 9, nodes = d.nodes < 2 * n + 2 ? d.nodes : 2 * n + 2;
+    return header_at(n, 3) + 6 + node_bytes(n) * nodes;
+}
+
+static void ask_all(Settings s, Drawing d, Slice points, float distance)
+{
+    size_t n = points.length / 12;
+    ask_check(d);
+    ask_points(SURE, d, points, distance, 24 * n);
+    ask_points(SOURCE, d, points, distance, 24 * n);
+    ask_points(WINDING, d, points, distance, 4 * n);
+    ask_write(s, d, exact_size(d));
+}
+
+/* A copy of a drawing, to be damaged: each list has room for some entries more. */
+enum { MORE = 40 };
+static float bad_triangles[9 * MOST + MORE], bad_boxes[6 * MOST_NODES + MORE];
+static uint32_t bad_order[MOST + MORE], bad_links[3 * MOST_NODES + MORE];
+
+/* The image is counted and read, and what was read is asked. Where it can be written it gives the same bytes. */
+static void ask_image(Slice image, Slice points)
+{
+    static uint8_t again[MOST_IMAGE];
+    uint32_t settings[3];
+    uint64_t n = ask_count(image);
+    if (gauge_refused(n)) {
+        ask_read(image, rooms_for(3, 5));
+        return;
+    }
+    size_t nodes = nodes_in(image, n);
+    ask_read(image, rooms_for(n, nodes));
+    if (n > MOST || nodes > MOST_NODES)
+        return;
+    plain_read(image.bytes, image.length, settings, 3, bad_triangles, 9 * n, bad_order, n, bad_links, 3 * nodes, bad_boxes, 6 * nodes);
+    Settings s = {settings[0], settings[1], settings[2]};
+    Drawing d = {bad_triangles, 9 * n, bad_order, n, bad_links, 3 * nodes, bad_boxes, 6 * nodes, nodes};
+    ask_all(s, d, points, GAUGE_MAX_DISTANCE);
+    uint64_t size = write_image(s, d, again, sizeof again);
+    if (!gauge_refused(size) && (size != image.length || memcmp(again, image.bytes, size) != 0) && differences++ < 10)
+        fprintf(stderr, "fuzz: call %llu: an image that was read is written as another\n", (unsigned long long)calls);
+}
+
+/* ---- damage */
+
+static Drawing copied(Drawing d)
+{
+    memcpy(bad_triangles, d.triangles, 4 * d.triangles_length);
+    memcpy(bad_order, d.order, 4 * d.order_length);
+    memcpy(bad_links, d.links, 4 * d.links_length);
+    memcpy(bad_boxes, d.boxes, 4 * d.boxes_length);
+    for (int i = 0; i < MORE; i++) {
+        bad_triangles[d.triangles_length + (size_t)i] = between(-1, 1);
+        bad_order[d.order_length + (size_t)i] = below((unsigned)d.order_length + 2);
+        bad_links[d.links_length + (size_t)i] = below(4);
+        bad_boxes[d.boxes_length + (size_t)i] = between(-1, 1);
+    }
+    d.triangles = bad_triangles;
+    d.order = bad_order;
+    d.links = bad_links;
+    d.boxes = bad_boxes;
+    return d;
+}
+
+static Drawing with_link(Drawing d, size_t at, uint32_t value)
+{
+    d = copied(d);
+    bad_links[at] = value;
+    return d;
+}
+
+static Drawing with_side(Drawing d, size_t at, uint32_t bits)
+{
+    d = copied(d);
+    memcpy(bad_boxes + at, &bits, 4);
+    return d;
+}
+
+static Drawing with_order(Drawing d, size_t at, uint32_t value)
+{
+    d = copied(d);
+    bad_order[at] = value;
+    return d;
+}
+
+static size_t made_up(size_t count)
+{
+    static const size_t some[] = {0, 1, 4096, 65536, 131071, 131072, 4294967296u, 4294967297u, SIZE_MAX / 6, SIZE_MAX / 3 + 1, SIZE_MAX};
+    return below(2) ? some[below(sizeof some / sizeof *some)] : count + below(7) - 3;
+}
+
+/* A tree's lists with something wrong in them, or nothing. */
+static Drawing damage(Drawing d)
+{
+    unsigned n = (unsigned)d.order_length, nodes = (unsigned)d.nodes, node = below(nodes), entry = below(n), other = below(n);
+    uint32_t bits;
+    switch (below(13)) {
+    case 0: /* the kind of a node */
+        return with_link(d, 3 * node, below(4) ? below(4) : (uint32_t)chance());
+    case 1: /* a side of a node, near what it was or anything */
+    case 2:
+        node = 3 * node + 1 + below(2);
+        return with_link(d, node, below(3) ? d.links[node] + below(5) - 2 : (uint32_t)chance());
+    case 3: /* a box that is another */
+        return with_side(d, 6 * node + below(6), below(2) ? 0x7fc00000 : (uint32_t)chance());
+    case 4: /* the next number, up or down, or the other zero */
+        node = 6 * node + below(6);
+        memcpy(&bits, d.boxes + node, 4);
+        return with_side(d, node, bits == 0 ? 0x80000000 : bits ^ 1);
+    case 5: /* an entry of the order twice, or past the end */
+        return with_order(d, entry, below(2) ? other : n + below(2) * (uint32_t)chance());
+    case 6: /* two entries of the order changed over */
+        d = with_order(d, entry, d.order[other]);
+        bad_order[other] = tree_order[entry];
+        return d;
+    case 7: /* a bad corner */
+        d = copied(d);
+        bad_triangles[below(9 * n)] = bad_coordinate();
+        return d;
+    case 8: { /* a node left out, or twice */
+        int more = (int)below(2);
+        size_t rest = nodes - node - (more ? 0 : 1);
+        d = copied(d);
+        memmove(bad_links + 3 * (node + more), tree_links + 3 * (node + !more), 12 * rest);
+        memmove(bad_boxes + 6 * (node + more), tree_boxes + 6 * (node + !more), 24 * rest);
+        d.nodes = more ? d.nodes + 1 : d.nodes - 1;
+        d.links_length = 3 * d.nodes;
+        d.boxes_length = 6 * d.nodes;
+        return d;
+    }
+    case 9: /* a node count that is made up */
+        d.nodes = made_up(d.nodes);
+        return d;
+    case 10: /* lists that are longer */
+        d = copied(d);
+        d.order_length += below(3) ? 0 : below(MORE);
+        d.links_length += below(MORE);
+        d.boxes_length += below(MORE);
+        d.nodes += below(3) ? 0 : below(4);
+        return d;
+    case 11: /* lists that are shorter */
+        d.order_length -= below(3) ? 0 : 1 + below(n);
+        d.links_length -= below(3) ? 0 : 1 + below(3 * nodes);
+        d.boxes_length -= below(3) ? 0 : 1 + below(6 * nodes);
+        return d;
+    default: /* triangles of another length */
+        d = copied(d);
+        d.triangles_length = below(2) ? d.triangles_length + below(20) : below(9 * n);
+        return d;
+    }
+}
+
+static uint8_t bad_image[MOST_IMAGE];
+
+static Slice copied_image(Slice image)
+{
+    memcpy(bad_image, image.bytes, image.length);
+    return bytes_of(bad_image, image.length);
+}
+
+static Slice with_bit(Slice image, size_t bit)
+{
+    image = copied_image(image);
+    bad_image[bit / 8] ^= (uint8_t)(1u << bit % 8);
+    return image;
 }
 
 static Slice with_u16(Slice image, size_t at, unsigned value)
 {
-    Slice s = copied(image);
-    damaged[at] = (uint8_t)value;
-    damaged[at + 1] = (uint8_t)(value >> 8);
-    return s;
+    image = copied_image(image);
+    bad_image[at] = (uint8_t)value;
+    bad_image[at + 1] = (uint8_t)(value >> 8);
+    return image;
 }
 
-static Slice with_f32(Slice image, size_t at, float value)
+static Slice with_u32(Slice image, size_t at, uint32_t value)
 {
-    Slice s = copied(image);
-    memcpy(damaged + at, &value, 4);
-    return s;
+    image = copied_image(image);
+    memcpy(bad_image + at, &value, 4);
+    return image;
 }
 
-static Slice damage(Slice image)
+/* A NaN that signals, a quiet one, an infinity. */
+static uint32_t no_number(void)
 {
-    size_t n = triangles_in(image), orders = header_at(image, 2) + 6, nodes = header_at(image, 3) + 6;
-    size_t count = (image.length - nodes) / 30, node = nodes + 30 * below((unsigned)count);
-    size_t order = orders + 2 * below((unsigned)n);
-    Slice s;
-    switch (below(14)) {
+    static const uint32_t some[] = {0x7f800001, 0xff800001, 0x7fc00000, 0xffc00123, 0x7f800000, 0xff800000};
+    return some[below(sizeof some / sizeof *some)];
+}
+
+/* The image of n triangles with something wrong in it, or nothing. */
+static Slice damage_image(Slice image, size_t n)
+{
+    size_t nodes = header_at(n, 3) + 6, size = node_bytes(n), node = nodes + size * below((unsigned)nodes_in(image, n));
+    switch (below(10)) {
     case 0: /* cut */
-        s = copied(image);
-        s.length = below((unsigned)image.length);
-        return s;
-    case 1: /* a bit of a header or of the settings */
-        s = copied(image);
-        damaged[header_at(image, (int)below(4)) + below(6)] ^= (uint8_t)(1u << below(8));
-        return s;
-    case 2:
-        s = copied(image);
-        damaged[6 + below(8)] ^= (uint8_t)(1u << below(8));
-        return s;
+        image.length = below((unsigned)image.length);
+        return image;
+    case 1: /* a bit of a header */
+        return with_bit(image, 8 * header_at(n, (int)below(4)) + below(48));
+    case 2: /* a bit of the settings */
+        return with_bit(image, 48 + below(64));
     case 3: /* any bit */
-        s = copied(image);
-        damaged[below((unsigned)image.length)] ^= (uint8_t)(1u << below(8));
-        return s;
-    case 4:
-        return with_u16(image, node, below(4) ? below(4) : (unsigned)chance());
-    case 5: /* a side of a node, near what it was or anything */
-        node += 2 + 2 * below(2);
-        return with_u16(image, node, below(3) ? image.bytes[node] + 256u * image.bytes[node + 1] + below(5) - 2u : (unsigned)chance());
-    case 6:
-        return with_f32(image, node + 6 + 4 * below(6), below(2) ? NAN : any_bits());
-    case 7: /* the next number, up or down */
-        s = copied(image);
-        damaged[node + 6 + 4 * below(6)] ^= 1;
-        return s;
-    case 8: /* an entry of the order twice, or past the end */
-        return with_u16(image, order, below(2) ? below((unsigned)n) : (unsigned)n + below(2) * (unsigned)chance());
-    case 9: { /* two entries of the order changed over */
-        size_t other = orders + 2 * below((unsigned)n);
-        s = copied(image);
-        memcpy(damaged + order, image.bytes + other, 2);
-        memcpy(damaged + other, image.bytes + order, 2);
+        return with_bit(image, 8 * (size_t)below((unsigned)image.length) + below(8));
+    case 4: /* another version, another leaf minimum */
+        return below(2) ? with_u16(image, 6, below(4)) : with_u16(image, 10, below(2) ? 0 : 4095 + below(3));
+    case 5: /* in a corner or in a box */
+        return with_u32(image, below(2) ? 20 + 4 * (size_t)below(9 * (unsigned)n) : node + size - 24 + 4 * below(6), no_number());
+    case 6: /* in the order */
+        return with_u16(image, nodes - 6 - entry_bytes(n) * (1 + below((unsigned)n)), (unsigned)chance());
+    case 7: { /* bytes behind the last */
+        size_t length = image.length;
+        image = copied_image(image);
+        image.length += 1 + below(40);
+        for (size_t i = length; i < image.length; i++)
+            bad_image[i] = (uint8_t)(below(3) ? 0 : chance());
+        return image;
+    }
+    case 8: { /* a node left out, or twice, the length told right */
+        size_t length = below(2) ? image.length + size : image.length - size, from = length > image.length ? node : node + size;
+        Slice s = copied_image(image);
+        memmove(bad_image + from + length - image.length, image.bytes + from, image.length - from);
+        uint32_t told = (uint32_t)(length - nodes);
+        memcpy(bad_image + nodes - 6, &told, 4);
+        s.length = length;
         return s;
     }
-    case 10: /* bytes behind the last */
-        s = copied(image);
-        s.length += 1 + below(40);
-        for (size_t i = image.length; i < s.length; i++)
-            damaged[i] = (uint8_t)(below(3) ? 0 : chance());
-        return s;
-    case 11: /* a bad corner */
-        return with_f32(image, 20 + 4 * below(9 * (unsigned)n), bad_coordinate());
-    case 12: { /* a node left out, or twice, the length told right */
-        int more = (int)below(2);
-        s = copied(image);
-        memmove(damaged + node + 30, image.bytes + node, image.length - node);
-        if (!more)
-            memmove(damaged + node, image.bytes + node + 30, image.length - node - 30);
-        s.length = more ? image.length + 30 : image.length - 30;
-        uint32_t size = (uint32_t)(s.length - nodes);
-        memcpy(damaged + nodes - 6, &size, 4);
-        return s;
-    }
-    default: /* a stretch of it from elsewhere */
-        s = copied(image);
+    default: { /* some of it from elsewhere */
+        Slice s = copied_image(image);
         for (unsigned k = 1 + below(12); k > 0; k--)
-            damaged[below((unsigned)image.length)] = image.bytes[below((unsigned)image.length)];
+            bad_image[below((unsigned)image.length)] = image.bytes[below((unsigned)image.length)];
         return s;
+    }
     }
 }
 
 /* ---- each in turn */
 
+static const Settings usual = {1, 1, 40};
+
 static void each_cut(Slice image, Slice points)
 {
-    for (size_t k = 0; k <= image.length; k++)
-        ask_all(bytes_of(image.bytes, k), points, 4194304);
+    for (size_t k = 0; k < image.length; k++)
+        ask_image(bytes_of(image.bytes, k), points);
 }
 
-static void each_header_bit(Slice image, Slice points)
+/* Of record 1 the body too. */
+static void each_header_bit(Slice image, size_t n, Slice points)
 {
     for (int record = 0; record < 4; record++)
-        for (unsigned bit = 0; bit < (record == 0 ? 112u : 48u); bit++) { /* of record 1 the body too */
-            Slice s = copied(image);
-            damaged[header_at(image, record) + bit / 8] ^= (uint8_t)(1u << bit % 8);
-            ask_all(s, points, 4194304);
-        }
+        for (size_t bit = 0; bit < (record == 0 ? 112u : 48u); bit++)
+            ask_image(with_bit(image, 8 * header_at(n, record) + bit), points);
 }
 
-static void each_node(Slice image, Slice points)
+static void each_node(Drawing d, Slice points)
 {
-    static const unsigned kinds[] = {0, 1, 2, 3, 257, 258, 65535};
-    for (size_t node = header_at(image, 3) + 6; node < image.length; node += 30) {
+    static const uint32_t kinds[] = {0, 1, 2, 3, 257, 65537, 65538, 0xffffffff};
+    static const uint32_t far[] = {65535, 65536, 0x80000000, 0xffffffff};
+    static const uint32_t sides[] = {0x7fc00000, 0x7f800001, 0xff800000};
+    for (size_t node = 0; node < d.nodes; node++) {
         for (size_t k = 0; k < sizeof kinds / sizeof *kinds; k++)
-            ask_all(with_u16(image, node, kinds[k]), points, 4194304);
-        for (size_t side = node + 2; side < node + 6; side += 2)
-            for (unsigned value = 0; value < 12; value++)
-                ask_all(with_u16(image, side, value < 10 ? value : 65544 - value), points, 4194304);
-        for (size_t number = node + 6; number < node + 30; number += 4) {
-            ask_all(with_f32(image, number, NAN), points, 4194304);
-            ask_all(with_f32(image, number, -INFINITY), points, 4194304);
-            Slice s = copied(image);
-            damaged[number + 3] = 0x7f; /* a signalling NaN */
-            damaged[number + 2] = 0x80;
-            damaged[number] = 1;
-            ask_all(s, points, 4194304);
+            ask_all(usual, with_link(d, 3 * node, kinds[k]), points, GAUGE_MAX_DISTANCE);
+        for (size_t side = 1; side < 3; side++)
+            for (uint32_t value = 0; value < 12; value++)
+                ask_all(usual, with_link(d, 3 * node + side, value < 8 ? value : far[value - 8]), points, GAUGE_MAX_DISTANCE);
+        for (size_t number = 6 * node; number < 6 * node + 6; number++)
+            for (size_t k = 0; k < sizeof sides / sizeof *sides; k++)
+                ask_all(usual, with_side(d, number, sides[k]), points, GAUGE_MAX_DISTANCE);
+    }
+}
+
+static void each_order(Drawing d, Slice points)
+{
+    size_t n = d.order_length;
+    for (size_t i = 0; i < n; i++)
+        for (size_t value = 0; value <= n + 2; value++)
+            ask_all(usual, with_order(d, i, value <= n ? (uint32_t)value : value == n + 1 ? 65536 + (uint32_t)i : 0xffffffff), points,
+                    GAUGE_MAX_DISTANCE);
+}
+
+/* Node counts, and lists of other lengths. */
+static void each_count(Drawing d, Slice points)
+{
+    static const size_t far[] = {4294967296u, 4294967297u, SIZE_MAX / 30, SIZE_MAX / 6 + 1, SIZE_MAX / 3 + 1, SIZE_MAX};
+    Drawing more = copied(d);
+    for (size_t k = 0; k < d.nodes + 9; k++) {
+        more.links_length = d.links_length + 9;
+        more.boxes_length = d.boxes_length + 18;
+        more.nodes = k < d.nodes + 3 ? k : far[k - d.nodes - 3];
+        ask_all(usual, more, points, GAUGE_MAX_DISTANCE);
+    }
+    more.nodes = d.nodes;
+    for (size_t length = 0; length <= 6 * d.nodes + 1; length++) {
+        Drawing order = more, links = more, boxes = more, triangles = more;
+        order.order_length = length;
+        links.links_length = length;
+        boxes.boxes_length = length;
+        triangles.triangles_length = length;
+        if (length <= d.order_length + 2)
+            ask_all(usual, order, points, GAUGE_MAX_DISTANCE);
+        if (length <= 3 * d.nodes + 1)
+            ask_all(usual, links, points, GAUGE_MAX_DISTANCE);
+        ask_all(usual, boxes, points, GAUGE_MAX_DISTANCE);
+        if (length <= 9 * d.order_length)
+            ask_all(usual, triangles, points, GAUGE_MAX_DISTANCE);
+    }
+}
+
+static void each_length(Drawing d, Slice points)
+{
+    static const size_t some[] = {0, 1, 3, 4, 5, 8, 11, 12, 23, 24, 25, 47, 48, 49, 71, 72, 73, 100};
+    for (size_t length = 0; length <= 40; length++)
+        for (size_t k = 0; k < sizeof some / sizeof *some; k++)
+            for (int call = SURE; call <= WINDING; call++)
+                ask_points(call, d, bytes_of(points.bytes, length), GAUGE_MAX_DISTANCE, some[k]);
+    for (size_t length = 0; length <= 30; length++) {
+        Settings s = {1 + length % 2, 1, 40};
+        ask_build(s, drawing, length, rooms_for(4, 7));
+    }
+}
+
+/* Each list that is written, from none to some entries too many, where the others are exact. */
+static void each_room(Drawing d, Slice image)
+{
+    size_t n = d.order_length;
+    for (size_t room = 0; room <= image.length + 3; room++)
+        ask_write(usual, d, room);
+    for (int list = 0; list < 8; list++) {
+        Rooms exact = rooms_for(n, 2 * n - 1);
+        size_t wanted[8] = {exact.settings, exact.triangles, exact.order, exact.links, exact.boxes, exact.bounds, exact.centres, exact.scratch};
+        for (size_t room = 0; room <= wanted[list] + 2; room++) {
+            Settings s = {1 + room % 2, 1, 40};
+            size_t given[8];
+            memcpy(given, wanted, sizeof given);
+            given[list] = room;
+            Rooms r = {given[0], given[1], given[2], given[3], given[4], given[5], given[6], given[7]};
+            if (list >= 2)
+                ask_build(s, drawing, 9 * n, r);
+            if (list <= 4)
+                ask_read(image, r);
         }
     }
 }
 
-static void each_order(Slice image, Slice points)
-{
-    size_t n = triangles_in(image), orders = header_at(image, 2) + 6;
-    for (size_t i = 0; i < n; i++)
-        for (size_t value = 0; value <= n + 1; value++)
-            ask_all(with_u16(image, orders + 2 * i, value <= n ? (unsigned)value : 65535), points, 4194304);
-}
-
-static void each_length(Slice image, Slice points)
-{
-    static const size_t rooms[] = {0, 1, 3, 4, 5, 8, 11, 12, 23, 24, 25, 47, 48, 49, 71, 72, 73, 100};
-    for (size_t length = 0; length <= 40; length++)
-        for (size_t k = 0; k < sizeof rooms / sizeof *rooms; k++)
-            for (int call = SURE; call <= WINDING; call++)
-                ask_points(call, image, bytes_of(points.bytes, length), 4194304, rooms[k]);
-    for (size_t length = 0; length <= 120; length++)
-        for (size_t k = 0; k < sizeof rooms / sizeof *rooms; k++)
-            ask_build(1 + k % 2, 1, 40, bytes_of(drawing, length), rooms[k]);
-}
-
-static void each_room(size_t n)
-{
-    Slice t = bytes_of(drawing, 36 * n);
-    for (size_t room = 0; room <= GAUGE_IMAGE_MOST(n) + 3; room++)
-        ask_build(1 + room % 2, 1, 40, t, room);
-}
-
-static void each_setting(size_t n)
+static void each_setting(Drawing d)
 {
     static const size_t some[] = {0, 1, 2, 3, 4, 40, 63, 64, 65, 4095, 4096, 4097, 65535, 65536, 65537, 4294967297u, SIZE_MAX};
-    size_t many = sizeof some / sizeof *some;
+    size_t many = sizeof some / sizeof *some, n = d.order_length;
     for (size_t i = 0; i < many; i++) {
         for (size_t k = 0; k < many; k++) {
-            ask_build(some[i], some[k], 40, bytes_of(drawing, 36 * n), 9999);
-            ask_build(2, some[i], some[k], bytes_of(drawing, 36 * n), 9999);
+            Settings one = {some[i], some[k], 40}, other = {2, some[i], some[k]};
+            ask_build(one, drawing, 9 * n, rooms_for(n, 2 * n));
+            ask_build(other, drawing, 9 * n, rooms_for(n, 2 * n));
+            ask_write(one, d, exact_size(d));
+            ask_write(other, d, exact_size(d));
         }
-        ask_most(some[i]);
+        ask_max(some[i]);
     }
-    for (size_t i = 0; i <= 4100; i += i < 8 || i > 4090 ? 1 : 17)
-        ask_most(i);
 }
 
-/* An image with no triangles, and one with too many; as many nodes as are wanted, all zeros. */
-static void ask_empty_and_full(Slice points)
+static void each_max(void)
 {
-    static const size_t counts[] = {0, 4097};
-    for (int i = 0; i < 2; i++)
-        for (uint32_t nodes = 0; nodes < 2; nodes++) {
-            uint32_t n = (uint32_t)counts[i], sizes[4] = {8, 36 * n, 2 * n, 30 * nodes};
-            size_t at = 0;
-            memset(damaged, 0, sizeof damaged);
-            for (int k = 0; k < 4; k++) {
-                memcpy(damaged + at, &sizes[k], 4);
-                damaged[at + 4] = (uint8_t)(k + 1);
-                if (k == 0)
-                    damaged[6] = damaged[8] = damaged[10] = damaged[12] = 1;
-                at += 6 + sizes[k];
-            }
-            ask_all(bytes_of(damaged, at), points, 4194304);
-        }
-    memset(drawing, 0, sizeof drawing);
-    ask_build(1, 1, 40, bytes_of(drawing, 36 * 4097), MOST_OUT);
-    ask_build(1, 1, 40, bytes_of(drawing, 36 * 4097 + 4), MOST_OUT);
-    ask_build(1, 1, 40, bytes_of(drawing, 36 * 4096), MOST_OUT);
+    for (size_t i = 0; i <= 65540; i += i < 8 || (i > 4090 && i < 4100) || i > 65530 ? 1 : i < 4090 ? 17 : 613)
+        ask_max(i);
+}
+
+static void in_turn(size_t n)
+{
+    Slice points = bytes_of(touched, 36);
+    make_drawing(n);
+    make_points(4, n);
+    Settings s = {1 + below(2), 1, 40};
+    Drawing d = make_tree(n, s);
+    Slice image = make_image(s, d);
+    ask_image(image, points);
+    each_cut(image, points);
+    each_header_bit(image, n, points);
+    each_node(d, points);
+    each_order(d, points);
+    each_count(d, points);
+    each_length(d, points);
+    each_room(d, image);
+    each_setting(d);
 }
 
 /* 64 levels are accepted, 65 are not. */
-static void each_depth(Slice points)
+static void each_depth(void)
 {
     static const size_t levels[] = {1, 2, 63, 64, 65, 66, 100};
     make_drawing(100);
@@ -532,47 +832,122 @@ static void each_depth(Slice points)
         for (int leaves_right = 0; leaves_right < 2; leaves_right++)
             for (size_t more = 0; more < 2; more++) {
                 size_t n = levels[k] + more * (100 - levels[k]);
-                size_t size = plain_chain(levels[k], leaves_right, (const uint8_t *)drawing, n, image_bytes);
-                ask_all(bytes_of(image_bytes, size), points, 4194304);
+                size_t nodes = plain_chain(levels[k], leaves_right, drawing, n, tree_order, tree_links, tree_boxes);
+                ask_all(usual, tree_of(n, nodes), bytes_of(touched, 36), GAUGE_MAX_DISTANCE);
             }
 }
 
-static void in_turn(size_t n)
+/* ---- few triangles and many */
+
+/* An image of n zero triangles and so many zero nodes, by version. */
+static Slice zero_image(unsigned version, size_t n, size_t nodes)
 {
+    static uint8_t bytes[32 + 40 * (GAUGE_MAX_TRIANGLES + 1) + 34];
+    size_t entry = version == 1 ? 2 : 4, sizes[4] = {8, 36 * n, entry * n, (26 + 2 * entry) * nodes}, at = 0;
+    memset(bytes, 0, sizeof bytes);
+    for (int k = 0; k < 4; k++) {
+        for (int i = 0; i < 4; i++)
+            bytes[at + (size_t)i] = (uint8_t)(sizes[k] >> 8 * i);
+        bytes[at + 4] = (uint8_t)(k + 1);
+        if (k == 0) {
+            bytes[6] = (uint8_t)version;
+            bytes[8] = bytes[10] = bytes[12] = 1;
+        }
+        at += 6 + sizes[k];
+    }
+    return bytes_of(bytes, at);
+}
+
+static void ask_limits(void)
+{
+    static const size_t counts[] = {0, 4096, 4097, 65537};
+    static float zeros[9 * (GAUGE_MAX_TRIANGLES + 1) + 1];
+    static const size_t lengths[] = {0, 9 * 4096, 9 * 4097, 9 * 65536, 9 * 65537, 9 * 65537 + 1};
     Slice points = bytes_of(touched, 36);
+    for (unsigned version = 1; version <= 2; version++)
+        for (int i = 0; i < 4; i++)
+            for (size_t nodes = 0; nodes < 2; nodes++)
+                ask_image(zero_image(version, counts[i], nodes), points);
+    for (int i = 0; i < 6; i++) {
+        size_t n = lengths[i] / 9;
+        Settings s = {1 + (size_t)i % 2, 1, 40};
+        Drawing d = {zeros, lengths[i], tree_order, 1, tree_links, 3, tree_boxes, 6, 1};
+        ask_build(s, zeros, lengths[i], rooms_for(n, 2 * n));
+        ask_all(usual, d, points, GAUGE_MAX_DISTANCE);
+    }
+}
+
+/* A drawing on either side of 4,096 triangles: its image, and what is not quite its image. */
+static void ask_large(size_t n, Settings s)
+{
+    Slice points = bytes_of(touched, 24);
     make_drawing(n);
-    make_points(4, n);
-    Slice image = make_image(n, 1 + below(2), 1, 40);
-    ask_all(image, points, 4194304);
-    each_cut(image, points);
-    each_header_bit(image, points);
-    each_node(image, points);
-    each_order(image, points);
-    each_length(image, points);
-    each_room(n);
-    each_setting(n);
+    make_points(2, n);
+    Rooms r = rooms_for(n, 2 * n - 1);
+    ask_build(s, drawing, 9 * n, r);
+    r.scratch--;
+    ask_build(s, drawing, 9 * n, r);
+    Drawing d = make_tree(n, s);
+    ask_all(s, d, points, GAUGE_MAX_DISTANCE);
+    ask_write(s, d, exact_size(d) - 1);
+    if (n <= GAUGE_MAX_SMALL)
+        s.leaf_minimum = s.leaf_minimum > 4096 ? 4096 : s.leaf_minimum;
+    Slice image = make_image(s, d);
+    ask_image(image, points);
+    r = rooms_for(n, d.nodes);
+    for (int list = 0; list < 4; list++) {
+        Rooms less = r;
+        less.triangles -= list == 0;
+        less.order -= list == 1;
+        less.links -= list == 2;
+        less.boxes -= list == 3;
+        ask_read(image, less);
+    }
+    ask_image(with_u16(image, 6, image.bytes[6] == 1 ? 2 : 1), points);
+    ask_image(with_u16(image, 10, 0), points);
+    for (int i = 0; i < 12; i++)
+        ask_image(damage_image(image, n), points);
+    for (int i = 0; i < 6; i++)
+        ask_all(s, damage(d), points, GAUGE_MAX_DISTANCE);
+}
+
+static size_t any_leaf_minimum(void)
+{
+    static const size_t some[] = {4096, 4097, 65535, 65536};
+    return below(4) ? 1 + below(4) : some[below(4)];
 }
 
 /* ---- by chance */
 
 static void ask_builds(size_t n)
 {
-    Slice t = bytes_of(drawing, 36 * n);
-    size_t strategy = 1 + below(2), leaf_minimum = 1 + below(4), depth = below(3) ? 64 : below(20);
-    uint64_t size = ask_build(strategy, leaf_minimum, depth, t, GAUGE_IMAGE_MOST(n));
-    ask_build(strategy, leaf_minimum, depth, t, size);
-    ask_build(strategy, leaf_minimum, depth, t, size - 1 - below((unsigned)size));
-    ask_build(below(4), below(3) * 2048 + below(3), below(66), t, GAUGE_IMAGE_MOST(n));
+    Settings s = {1 + below(2), any_leaf_minimum(), below(3) ? 64 : below(20)};
+    Rooms exact = rooms_for(n, 2 * n - 1), more = rooms_for(n + below(3), 2 * n + below(3)), less = exact;
+    ask_build(s, drawing, 9 * n, exact);
+    ask_build(s, drawing, 9 * n, more);
+    size_t *short_one[6] = {&less.order, &less.links, &less.boxes, &less.bounds, &less.centres, &less.scratch};
+    size_t *one = short_one[below(6)];
+    *one -= 1 + below((unsigned)*one);
+    ask_build(s, drawing, 9 * n, less);
+    Settings any = {below(4), below(3) * 32768 + below(3), below(66)};
+    ask_build(any, drawing, 9 * n, exact);
     size_t at = below(9 * (unsigned)n);
     float kept = drawing[at];
     drawing[at] = bad_coordinate();
-    ask_build(strategy, leaf_minimum, depth, t, GAUGE_IMAGE_MOST(n));
+    ask_build(s, drawing, 9 * n, exact);
     drawing[at] = kept;
-    t.length -= below(36);
-    ask_build(strategy, leaf_minimum, depth, t, GAUGE_IMAGE_MOST(n));
+    ask_build(s, drawing, 9 * n - below(9), exact);
 }
 
-static void ask_questions(Slice image, size_t n, int times)
+static void ask_writes(Drawing d)
+{
+    Settings s = {1 + below(2), any_leaf_minimum(), below(65)}, any = {below(4), below(3) * 32768 + below(3), below(66)};
+    ask_write(s, d, exact_size(d) + below(3));
+    ask_write(s, d, below((unsigned)exact_size(d)));
+    ask_write(any, d, exact_size(d));
+}
+
+static void ask_questions(Drawing d, size_t n, int times)
 {
     for (int i = 0; i < times; i++) {
         size_t many = below(9);
@@ -582,7 +957,7 @@ static void ask_questions(Slice image, size_t n, int times)
             touched[below(3 * (unsigned)many)] = bad_coordinate();
         if (many > 0 && below(10) == 0)
             points.length -= below(12);
-        Slice asked = below(3) ? image : damage(image);
+        Drawing asked = below(3) ? d : damage(d);
         float distance = make_distance();
         size_t spare = below(3) ? 0 : below(60);
         ask_points(SURE, asked, points, distance, 24 * many + spare);
@@ -591,16 +966,24 @@ static void ask_questions(Slice image, size_t n, int times)
         ask_check(asked);
         if (many > 0)
             ask_points((int)(SURE + below(3)), asked, points, distance, below(24 * (unsigned)many));
+        if (below(4) == 0)
+            ask_writes(asked);
     }
 }
 
 static void by_chance(void)
 {
-    size_t n = below(300) ? 1 + below(below(4) ? 12 : 64) : 1 + below(below(8) ? 600 : 4096);
+    size_t n = below(300) ? 1 + below(below(4) ? 12 : 64) : below(3) ? 1 + below(600) : 4000 + below(1000);
+    Settings s = {1 + below(2), 1 + below(3), below(4) ? 64 : below(12)};
     make_drawing(n);
     ask_builds(n);
-    Slice image = make_image(n, 1 + below(2), 1 + below(3), below(4) ? 64 : below(12));
-    ask_questions(image, n, n > 600 ? 4 : 12);
+    Drawing d = make_tree(n, s);
+    ask_questions(d, n, n > 600 ? 4 : 12);
+    Slice image = make_image(s, d);
+    for (int i = n > 600 ? 3 : 6; i > 0; i--) {
+        make_points(1, n);
+        ask_image(damage_image(image, n), bytes_of(touched, 12));
+    }
 }
 
 /* How many ends were listed and never met, or met and not listed. */
@@ -625,24 +1008,31 @@ int main(int argc, char **argv)
     }
     uint64_t wanted = strtoull(argv[1], NULL, 10), seed = argc == 3 ? strtoull(argv[2], NULL, 10) : 1;
     state = seed;
-    image_room = make_room(MOST_OUT);
-    points_room = make_room(1000);
-    out_room = make_room(MOST_OUT);
+    for (int list = 0; list < LISTS; list++) {
+        rooms[list] = make_room();
+        copies[list] = make_room();
+    }
     in_turn(1);
     in_turn(3);
     if (wanted >= 100000)
         for (size_t n = 2; n <= 32; n *= 2)
             in_turn(n);
-    each_depth(bytes_of(touched, 36));
-    ask_empty_and_full(bytes_of(touched, 36));
+    each_depth();
+    each_max();
+    ask_limits();
+    for (size_t n = 4096; n <= 4097; n++) {
+        Settings deep = {2, 1, 64}, flat = {1, 65536, 40};
+        ask_large(n, deep);
+        ask_large(n, flat);
+    }
     while (calls < wanted)
         by_chance();
-    printf("%-17s %9s %9s", "call", "calls", "done");
+    printf("%-21s %9s %9s", "call", "calls", "done");
     for (int k = 1; k <= 10; k++)
         printf(" %7s%2d", "refused", k);
     printf("\n");
     for (int call = 0; call < CALLS; call++) {
-        printf("%-17s", names[call]);
+        printf("%-21s", names[call]);
         printf(" %9llu", (unsigned long long)called[call]);
         for (int k = 0; k <= 10; k++)
             printf(" %9llu", (unsigned long long)ended[call][k]);

@@ -1,5 +1,6 @@
 /* include/gauge.h alone, compiled as C99 and as C++, each with every warning an error; what it states
- * of its numbers, and the worked example of two triangles, from C and from C++ alike. */
+ * of its numbers and of a drawing's block, and the worked example of two triangles, from C and from C++
+ * alike. */
 #include "gauge.h"
 #include "gauge.h"
 
@@ -16,36 +17,85 @@ static void expect(int good, const char *what)
     }
 }
 
-static const uint8_t *bytes_of(const float *numbers)
+/* Where a list stands in its block, in bytes. */
+static size_t at(const void *list, const void *block)
 {
-    return (const uint8_t *)numbers;
+    return (size_t)((const char *)list - (const char *)block);
 }
 
-int main(void)
+static void expect_numbers(void)
 {
-    static const float drawing[18] = {0, 0, 0, 1, 0, 0, 0, 1, 0, 10, 0, 0, 11, 0, 0, 10, 1, 0};
-    static const float points[6] = {5.5f, 0, 0, 100, 0, 0};
-    static const struct gauge_answer near = {1, 0, 1, 0, 0, 20.25f}, far = {1, 1, 10, 0, 0, 20.25f}, nothing = {0, 0, 0, 0, 0, 0};
-    struct gauge_answer answers[2];
-    uint8_t image[GAUGE_IMAGE_MOST(2)];
-    float windings[2];
-    uint64_t size;
     const uint64_t point = (uint64_t)1 << 63 | 17, layout = (uint64_t)10 << 56 | 14;
-
+    expect(GAUGE_VERSION_MAJOR == 2, "the header's version");
     expect(sizeof(struct gauge_answer) == GAUGE_ANSWER_BYTES && sizeof(float) == 4, "an answer has 24 bytes");
     expect(!gauge_refused(4096) && gauge_number(4096) == 0, "a count is no refusal");
     expect(gauge_refused(point) && gauge_number(point) == GAUGE_POINT && gauge_place(point) == 17, "a refusal of points");
     expect(gauge_refused(layout) && gauge_number(layout) == GAUGE_LAYOUT && gauge_place(layout) == 14, "a refusal of layout");
-    expect(gauge_image_most(2) == sizeof image && gauge_image_most(4097) == 0, "the most bytes of an image");
+    expect(gauge_image_max(2) == GAUGE_IMAGE_MAX(2) && gauge_image_max(4096) == GAUGE_IMAGE_MAX(4096) &&
+               gauge_image_max(4097) == GAUGE_IMAGE_MAX(4097) && gauge_image_max(65536) == GAUGE_IMAGE_MAX(65536) &&
+               gauge_image_max(0) == 0 && gauge_image_max(65537) == 0,
+           "the most bytes of an image");
+}
 
-    size = gauge_build(GAUGE_MEDIAN, 1, 40, bytes_of(drawing), sizeof drawing, image, sizeof image);
-    expect(size == sizeof image && gauge_check(image, size) == 2, "an image of two triangles and three nodes");
-    expect(gauge_sure(image, size, bytes_of(points), sizeof points, 50, (uint8_t *)answers, sizeof answers) == 2, "two answers");
+/* The lists fill the block from its start to its end, one behind the other. */
+static void expect_block(void)
+{
+    static float block[GAUGE_DRAWING_BYTES(5) / 4];
+    const size_t uncountable = SIZE_MAX / 152 + 1;
+    struct gauge_drawing d = gauge_lay(block, 5), none = gauge_lay(NULL, 5), absurd = gauge_lay(block, uncountable);
+    expect(d.count == 5 && d.nodes == 0 && d.settings[0] == 0 && d.settings[1] == 0 && d.settings[2] == 0, "a drawing without a tree");
+    expect(d.triangles == block && at(d.order, d.triangles) == 5 * 36 && at(d.links, d.order) == 5 * 4 && at(d.boxes, d.links) == 10 * 12 &&
+               at(d.bounds, d.boxes) == 10 * 24 && at(d.centres, d.bounds) == 5 * 24 && at(d.scratch, d.centres) == 5 * 12 &&
+               at(d.scratch + 5, block) == sizeof block,
+           "lists one behind the other");
+    expect(none.count == 0 && none.triangles == NULL && none.scratch == NULL, "a drawing laid nowhere");
+    expect(absurd.count == 0 && absurd.triangles == NULL && absurd.scratch == NULL, "a drawing of more triangles than can be counted");
+    expect(GAUGE_DRAWING_BYTES(uncountable) == SIZE_MAX && GAUGE_DRAWING_BYTES(uncountable - 1) < SIZE_MAX, "bytes that can be counted");
+    expect(gauge_drawing_build(&none, GAUGE_AREA, 1, 40) == (uint64_t)GAUGE_NONE << 56, "nothing to build");
+}
+
+static void expect_example(void)
+{
+    static const float corners[18] = {0, 0, 0, 1, 0, 0, 0, 1, 0, 10, 0, 0, 11, 0, 0, 10, 1, 0};
+    static const float points[6] = {5.5f, 0, 0, 100, 0, 0};
+    static const struct gauge_answer near = {1, 0, 1, 0, 0, 20.25f}, far = {1, 1, 10, 0, 0, 20.25f}, nothing = {0, 0, 0, 0, 0, 0};
+    static float block[GAUGE_DRAWING_BYTES(2) / 4], other[GAUGE_DRAWING_BYTES(3) / 4];
+    struct gauge_drawing d = gauge_lay(block, 2), back = gauge_lay(other, 3);
+    struct gauge_answer answers[2];
+    uint8_t image[GAUGE_IMAGE_MAX(2)];
+    float windings[2];
+
+    memcpy(d.triangles, corners, sizeof corners);
+    expect(gauge_drawing_build(&d, GAUGE_MEDIAN, 0, 40) == (uint64_t)GAUGE_SETTING << 56 && d.nodes == 0 && d.settings[0] == 0,
+           "a refused build leaves no tree");
+    expect(gauge_drawing_build(&d, GAUGE_MEDIAN, 1, 40) == 3 && d.nodes == 3 && d.settings[0] == GAUGE_MEDIAN && d.settings[1] == 1 &&
+               d.settings[2] == 40,
+           "a tree of two triangles and three nodes");
+    expect(gauge_drawing_check(&d) == 2, "it passes the check");
+    expect(gauge_drawing_write(&d, image, sizeof image) == sizeof image && image[6] == GAUGE_IMAGE_VERSION_SMALL, "its image");
+
+    expect(gauge_image_triangles(image, sizeof image) == 2, "the image's triangles");
+    expect(gauge_drawing_read(&back, image, sizeof image - 1) == ((uint64_t)GAUGE_LAYOUT << 56 | 102) && back.count == 3 && back.nodes == 0,
+           "a refused reading leaves the drawing as it was");
+    expect(gauge_drawing_read(&back, image, sizeof image) == 3, "the image read");
+    expect(back.count == 2 && back.nodes == 3 && memcmp(back.settings, d.settings, sizeof d.settings) == 0 &&
+               memcmp(back.triangles, corners, sizeof corners) == 0 && memcmp(back.order, d.order, 8) == 0 &&
+               memcmp(back.links, d.links, 36) == 0 && memcmp(back.boxes, d.boxes, 72) == 0,
+           "what was written reads back equal");
+    expect(gauge_number(gauge_image_triangles(NULL, 0)) == GAUGE_LAYOUT, "nothing at NULL is no image");
+
+    expect(gauge_drawing_sure(&back, points, 2, 50, answers) == 2, "two answers");
     expect(memcmp(&answers[0], &near, 24) == 0 && memcmp(&answers[1], &nothing, 24) == 0, "the sure query's answers");
-    expect(gauge_source(image, size, bytes_of(points), sizeof points, 50, (uint8_t *)answers, sizeof answers) == 2, "two source answers");
+    expect(gauge_drawing_source(&back, points, 2, 50, answers) == 2, "two source answers");
     expect(memcmp(&answers[0], &far, 24) == 0, "the source's first answer");
-    expect(gauge_winding(image, size, bytes_of(points), sizeof points, (uint8_t *)windings, sizeof windings) == 2, "two windings");
+    expect(gauge_drawing_winding(&back, points, 2, windings) == 2, "two windings");
     expect(windings[0] == 0 && windings[1] == 0, "seen from the side a triangle covers no angle");
-    expect(gauge_number(gauge_check(NULL, 0)) == GAUGE_LAYOUT, "nothing at NULL is no image");
+}
+
+int main(void)
+{
+    expect_numbers();
+    expect_block();
+    expect_example();
     return failed;
 }

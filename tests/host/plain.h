@@ -5,27 +5,39 @@
 
 #include "gauge.h"
 
-uint64_t plain_image_most(size_t triangles);
+uint64_t plain_image_max(size_t triangles);
+uint64_t plain_image_triangles(const uint8_t *image, size_t image_length);
+uint64_t plain_read(const uint8_t *image, size_t image_length,
+                    uint32_t *settings, size_t settings_length,
+                    float *triangles, size_t triangles_length, uint32_t *order, size_t order_length,
+                    uint32_t *links, size_t links_length, float *boxes, size_t boxes_length);
 uint64_t plain_build(size_t strategy, size_t leaf_minimum, size_t maximum_depth,
-                     const uint8_t *triangles, size_t triangles_length,
+                     const float *triangles, size_t triangles_length, uint32_t *order, size_t order_length,
+                     uint32_t *links, size_t links_length, float *boxes, size_t boxes_length,
+                     float *bounds, size_t bounds_length, float *centres, size_t centres_length,
+                     uint32_t *scratch, size_t scratch_length);
+uint64_t plain_write(size_t strategy, size_t leaf_minimum, size_t maximum_depth,
+                     const float *triangles, size_t triangles_length, const uint32_t *order, size_t order_length,
+                     const uint32_t *links, size_t links_length, const float *boxes, size_t boxes_length, size_t nodes,
                      uint8_t *image, size_t image_length);
-uint64_t plain_check(const uint8_t *image, size_t image_length);
-uint64_t plain_sure(const uint8_t *image, size_t image_length,
+uint64_t plain_check(const float *triangles, size_t triangles_length, const uint32_t *order, size_t order_length,
+                     const uint32_t *links, size_t links_length, const float *boxes, size_t boxes_length, size_t nodes);
+uint64_t plain_sure(const float *triangles, size_t triangles_length, const uint32_t *order, size_t order_length,
+                    const uint32_t *links, size_t links_length, const float *boxes, size_t boxes_length, size_t nodes,
                     const uint8_t *points, size_t points_length, float distance,
                     uint8_t *answers, size_t answers_length);
-uint64_t plain_source(const uint8_t *image, size_t image_length,
+uint64_t plain_source(const float *triangles, size_t triangles_length, const uint32_t *order, size_t order_length,
+                      const uint32_t *links, size_t links_length, const float *boxes, size_t boxes_length, size_t nodes,
                       const uint8_t *points, size_t points_length, float distance,
                       uint8_t *answers, size_t answers_length);
-uint64_t plain_winding(const uint8_t *image, size_t image_length,
+uint64_t plain_winding(const float *triangles, size_t triangles_length,
                        const uint8_t *points, size_t points_length,
                        uint8_t *windings, size_t windings_length);
 
-/* The image of a tree of so many levels, each branch with one leaf of one triangle, at its right or at
- * its left; the leaf at the bottom has the rest. Returns its length. */
-size_t plain_chain(size_t levels, int leaves_right, const uint8_t *triangles, size_t count, uint8_t *image);
+/* The lists of a tree of so many levels, each branch with one leaf of one triangle, at its right or at
+ * its left; the leaf at the bottom has the rest. Returns its nodes. */
+size_t plain_chain(size_t levels, int leaves_right, const float *triangles, size_t count, uint32_t *order, uint32_t *links, float *boxes);
 
-/* How deep the tree was that plain_build built last. */
-extern unsigned plain_depth;
 /* How many angles plain_winding has made, and how many of them were more than 2^-20 off atan2. */
 extern uint64_t plain_angles, plain_angles_off;
 

@@ -13,15 +13,19 @@
 #include <sys/mman.h>
 #include <unistd.h>
 
-enum { BUILD, CHECK, SURE, SOURCE, WINDING, CALLS };
-enum { N = GAUGE_MOST_TRIANGLES, POINTS = 40, LEVELS = GAUGE_MOST_DEPTH, BELOW = 64 << 20, PAINT = 0xa5 };
-static const char *const names[CALLS] = {"gauge_build", "gauge_check", "gauge_sure", "gauge_source", "gauge_winding"};
-static const size_t stated[CALLS] = {GAUGE_STACK_BUILD, GAUGE_STACK_CHECK, GAUGE_STACK_SURE, GAUGE_STACK_SOURCE, GAUGE_STACK_WINDING};
+enum { READ, BUILD, WRITE, CHECK, SURE, SOURCE, WINDING, CALLS };
+enum { N = GAUGE_MAX_TRIANGLES, POINTS = 8, LEVELS = GAUGE_MAX_DEPTH, BELOW = 64 << 20, PAINT = 0xa5 };
+static const char *const names[CALLS] = {"gauge_read", "gauge_build", "gauge_write", "gauge_check", "gauge_sure", "gauge_source", "gauge_winding"};
+static const size_t stated[CALLS] = {GAUGE_STACK_READ, GAUGE_STACK_BUILD, GAUGE_STACK_WRITE, GAUGE_STACK_CHECK,
+                                     GAUGE_STACK_SURE, GAUGE_STACK_SOURCE, GAUGE_STACK_WINDING};
 
-static float drawing[9 * N], points[3 * POINTS];
-static uint8_t image[GAUGE_IMAGE_MOST(N)], out[GAUGE_IMAGE_MOST(N)];
-static size_t image_length, triangles;
-static size_t strategy = 1;
+/* The drawing that is asked, its image, and another drawing that this is read into. */
+static float block[GAUGE_DRAWING_BYTES(N) / 4], other_block[GAUGE_DRAWING_BYTES(N) / 4];
+static struct gauge_drawing d, other;
+static uint8_t image[GAUGE_IMAGE_MAX(N)];
+static size_t image_length, strategy;
+static float points[3 * POINTS], winding;
+static struct gauge_answer answers[POINTS];
 static int failed;
 
 typedef struct { int call; uint64_t returned; const uint8_t *top; } Job;
@@ -37,31 +41,36 @@ static void too_small(int signal)
 
 static void *run(void *given)
 {
-    static uint8_t other[65536];
-    stack_t alternate = {.ss_sp = other, .ss_size = sizeof other};
+    static uint8_t alternate_stack[65536];
+    stack_t alternate = {.ss_sp = alternate_stack, .ss_size = sizeof alternate_stack};
     Job *job = given;
-    const uint8_t *p = (const uint8_t *)points;
     uint8_t here;
     job->top = &here;
     if (sigaltstack(&alternate, NULL) != 0)
         return NULL;
     switch (job->call) {
-    case BUILD:
-        if (gauge_image_most(triangles) != GAUGE_IMAGE_MOST(triangles))
+    case READ:
+        if (gauge_image_max(d.count) != GAUGE_IMAGE_MAX(d.count) || gauge_image_triangles(image, image_length) != d.count)
             return NULL;
-        job->returned = gauge_build(strategy, 1, LEVELS, (const uint8_t *)drawing, 36 * triangles, out, sizeof out);
+        job->returned = gauge_drawing_read(&other, image, image_length);
+        break;
+    case BUILD:
+        job->returned = gauge_drawing_build(&d, strategy, 1, LEVELS);
+        break;
+    case WRITE:
+        job->returned = gauge_drawing_write(&d, image, sizeof image);
         break;
     case CHECK:
-        job->returned = gauge_check(image, image_length);
+        job->returned = gauge_drawing_check(&d);
         break;
     case SURE:
-        job->returned = gauge_sure(image, image_length, p, sizeof points, GAUGE_MOST_DISTANCE, out, sizeof out);
+        job->returned = gauge_drawing_sure(&d, points, POINTS, GAUGE_MAX_DISTANCE, answers);
         break;
     case SOURCE:
-        job->returned = gauge_source(image, image_length, p, sizeof points, GAUGE_MOST_DISTANCE, out, sizeof out);
+        job->returned = gauge_drawing_source(&d, points, POINTS, GAUGE_MAX_DISTANCE, answers);
         break;
     default:
-        job->returned = gauge_winding(image, image_length, p, sizeof points, out, sizeof out);
+        job->returned = gauge_drawing_winding(&d, points, 1, &winding);
     }
     return NULL;
 }
@@ -74,8 +83,10 @@ static void need(int good, const char *what)
     }
 }
 
-/* How much of its stack the call took, and whether it was done. */
-static size_t taken(int call, uint64_t wanted, const char *input)
+static size_t most[CALLS];
+
+/* What the call returned. How much of its stack it took is noted. */
+static uint64_t called(int call)
 {
     size_t size = stated[call];
     uint8_t *all = mmap(NULL, BELOW + size, PROT_NONE, MAP_PRIVATE | MAP_ANONYMOUS | MAP_NORESERVE, -1, 0);
@@ -85,7 +96,7 @@ static size_t taken(int call, uint64_t wanted, const char *input)
     memset(stack, PAINT, size);
     pthread_attr_t attributes;
     pthread_t thread;
-    Job job = {call, 0, NULL};
+    Job job = {call, UINT64_MAX, NULL};
     need(pthread_attr_init(&attributes) == 0 && pthread_attr_setstack(&attributes, stack, size) == 0, "pthread_attr_setstack");
     need(pthread_create(&thread, &attributes, run, &job) == 0, "pthread_create");
     need(pthread_join(thread, NULL) == 0, "pthread_join");
@@ -93,61 +104,78 @@ static size_t taken(int call, uint64_t wanted, const char *input)
     while (*lowest == PAINT)
         lowest++;
     size_t took = (size_t)(job.top - lowest);
-    if (job.returned != wanted) {
-        printf("stack: %s, %s: returned %llx, wanted %llx\n", names[call], input, (unsigned long long)job.returned, (unsigned long long)wanted);
-        failed = 1;
-    }
-    munmap(all, BELOW + size);
-    return took;
-}
-
-static size_t most[CALLS];
-
-static void note(int call, uint64_t wanted, const char *input)
-{
-    size_t took = taken(call, wanted, input);
     if (took > most[call])
         most[call] = took;
+    munmap(all, BELOW + size);
+    return job.returned;
 }
 
-/* The image of the drawing by plain C, of so many levels at least, and every call about it. */
+static void expect(int call, uint64_t wanted, const char *input)
+{
+    uint64_t returned = called(call);
+    if (returned == wanted)
+        return;
+    printf("stack: %s, %s: returned %llx, wanted %llx\n", names[call], input, (unsigned long long)returned, (unsigned long long)wanted);
+    failed = 1;
+}
+
+/* Every call about the tree but the build. */
+static void ask_tree(const char *input)
+{
+    size_t large = d.count > GAUGE_MAX_SMALL;
+    image_length = 32 + (large ? 40 : 38) * d.count + (large ? 34 : 30) * d.nodes;
+    other = gauge_lay(other_block, d.count);
+    expect(WRITE, image_length, input);
+    expect(READ, d.nodes, input);
+    expect(CHECK, d.count, input);
+    expect(SURE, POINTS, input);
+    expect(SOURCE, POINTS, input);
+    expect(WINDING, 1, input);
+}
+
+/* The levels from a node down, and 65 where there are more. */
+static unsigned levels_of(size_t node, unsigned at_most)
+{
+    const uint32_t *link = d.links + 3 * node;
+    if (link[0] != 2 || at_most == 0)
+        return 1;
+    unsigned left = levels_of(link[1], at_most - 1), right = levels_of(link[2], at_most - 1);
+    return 1 + (left > right ? left : right);
+}
+
+/* Both trees of the drawing, by the area rule of so many levels at least, and every call about them. */
 static void ask_built(const char *input, unsigned levels)
 {
     for (strategy = 1; strategy <= 2; strategy++) {
-        uint64_t size = plain_build(strategy, 1, LEVELS, (const uint8_t *)drawing, 36 * triangles, image, sizeof image);
-        if (gauge_refused(size) || (strategy == 2 && plain_depth < levels)) {
-            printf("stack: %s: built %llx, of %u levels\n", input, (unsigned long long)size, plain_depth);
+        uint64_t nodes = called(BUILD);
+        if (gauge_refused(nodes) || (strategy == 2 && levels_of(d.nodes - 1, LEVELS) < levels)) {
+            printf("stack: %s: gauge_build returned %llx, or there are fewer than %u levels\n", input, (unsigned long long)nodes, levels);
             failed = 1;
             return;
         }
-        image_length = size;
-        note(BUILD, size, input);
-        note(CHECK, triangles, input);
-        note(SURE, POINTS, input);
-        note(SOURCE, POINTS, input);
-        note(WINDING, POINTS, input);
+        ask_tree(input);
     }
 }
 
 static void set(size_t t, float x, float y, float z, float size)
 {
     float corners[9] = {x, y, z, x + size, y, z, x, y + size, z};
-    memcpy(drawing + 9 * t, corners, sizeof corners);
+    memcpy(d.triangles + 9 * t, corners, sizeof corners);
 }
 
-/* A field of 64 by 64 triangles. */
+/* A field of 256 by 256 triangles. */
 static void draw_field(void)
 {
-    triangles = N;
+    d = gauge_lay(block, N);
     for (size_t t = 0; t < N; t++)
-        set(t, (float)(t % 64), (float)(t / 64), sinf((float)t), 0.75f);
+        set(t, (float)(t % 256), (float)(t / 256), sinf((float)t), 0.75f);
 }
 
 /* On each axis a triangle far out, one at a sixteenth of that, and so on; all the others lie in a heap
  * at the corner. The area rule cuts off one at a time, from axis after axis: a tree of 64 levels. */
 static void draw_chain(size_t n)
 {
-    triangles = n;
+    d = gauge_lay(block, n);
     for (size_t t = 0; t < n; t++) {
         float far = t < 69 ? ldexpf(1.0f, 19 - 4 * (int)(t / 3)) : 0;
         set(t, t % 3 == 0 ? far : 0, t % 3 == 1 ? far : 0, t % 3 == 2 ? far : 0, far / 1024);
@@ -156,11 +184,8 @@ static void draw_chain(size_t n)
 
 static void ask_chain(int leaves_right, const char *input)
 {
-    image_length = plain_chain(LEVELS, leaves_right, (const uint8_t *)drawing, triangles, image);
-    note(CHECK, triangles, input);
-    note(SURE, POINTS, input);
-    note(SOURCE, POINTS, input);
-    note(WINDING, POINTS, input);
+    d.nodes = plain_chain(LEVELS, leaves_right, d.triangles, d.count, d.order, d.links, d.boxes);
+    ask_tree(input);
 }
 
 int main(void)
@@ -168,22 +193,22 @@ int main(void)
     struct sigaction action = {.sa_handler = too_small, .sa_flags = SA_ONSTACK};
     need(sigaction(SIGSEGV, &action, NULL) == 0, "sigaction");
     for (size_t i = 0; i < POINTS; i++) {
-        points[3 * i] = (float)(i * 7 % 64);
-        points[3 * i + 1] = (float)(i * 11 % 64);
-        points[3 * i + 2] = (float)i - 20;
+        points[3 * i] = (float)(i * 37 % 256);
+        points[3 * i + 1] = (float)(i * 91 % 256);
+        points[3 * i + 2] = (float)(5 * i) - 20;
     }
-    triangles = 1;
+    draw_chain(1);
     ask_built("one triangle", 1);
     draw_field();
-    ask_built("a field of 4,096", 12);
-    ask_chain(1, "a field of 4,096 as a chain of 64 levels, leaves at the right");
-    ask_chain(0, "a field of 4,096 as a chain of 64 levels, leaves at the left");
+    ask_built("a field of 65,536", 16);
+    ask_chain(1, "a field of 65,536 as a chain of 64 levels, leaves at the right");
+    ask_chain(0, "a field of 65,536 as a chain of 64 levels, leaves at the left");
     draw_chain(100);
     ask_built("a chain of 100", 64);
     draw_chain(N);
-    ask_built("a chain of 4,096", 64);
-    ask_chain(1, "a chain of 4,096, leaves at the right");
-    ask_chain(0, "a chain of 4,096, leaves at the left");
+    ask_built("a chain of 65,536", 64);
+    ask_chain(1, "a chain of 65,536, leaves at the right");
+    ask_chain(0, "a chain of 65,536, leaves at the left");
     for (int call = 0; call < CALLS; call++)
         printf("%-13s took %7zu bytes of stack at most, %7zu are stated\n", names[call], most[call], stated[call]);
     return failed;
