@@ -2,7 +2,10 @@
 //! sure query against a plain scan. Prints counts and the first that differ, and ends with status 1 where any does.
 //! tests/compare builds and runs it.
 //!
-//!     compare [REQUESTS [POINTS]]     200,000 requests, 10,000,000 points
+//!     compare [REQUESTS [POINTS [LARGE [LARGE_POINTS]]]]
+//!
+//! 200,000 requests of up to 4,096 triangles and 10,000,000 points of as large drawings, then 408 requests of 4,096 to 65,536
+//! triangles and 100,000 points of drawings of 4,097 to 65,536.
 //!
 //! This engine is given the numbers as they were made, minus zeros too; the oracle and the scan read each as itself plus zero.
 
@@ -185,15 +188,17 @@ impl Asked {
 struct Requests {
     trees: Tally,
     accepted: Tally,
+    changed: Tally,
     source: Tally,
     sure: Tally,
     solid: Tally,
     winding: Tally,
+    sums: Tally,
     stopped: u64,
     /// The Rust as published, leaves read to right + 1: queries that stop, and that answer otherwise.
     published: [u64; 2],
     past_16: u64,
-    sizes: [u64; 5],
+    sizes: [u64; 7],
     most_solid: f64,
     most_winding: f64,
     most_past_16: f64,
@@ -203,16 +208,18 @@ struct Requests {
 impl Requests {
     fn new() -> Self {
         Requests {
-            trees: Tally::new("trees (nodes, depth, order, links, boxes; nothing written past them)"),
+            trees: Tally::new("trees (nodes, depth, order, links, boxes; nothing written past them; working lists zero)"),
             accepted: Tally::new("trees accepted by the check"),
+            changed: Tally::new("trees with one entry changed, refused by the check"),
             source: Tally::new("source answers"),
             sure: Tally::new("sure answers, against a plain scan"),
             solid: Tally::new("solid angles, within 2 x 2^-20"),
             winding: Tally::new("winding numbers, within n x 2^-20"),
+            sums: Tally::new("winding numbers, against the sum of this engine's solid angles, bit for bit"),
             stopped: 0,
             published: [0; 2],
             past_16: 0,
-            sizes: [0; 5],
+            sizes: [0; 7],
             most_solid: 0.0,
             most_winding: 0.0,
             most_past_16: 0.0,
@@ -220,10 +227,10 @@ impl Requests {
         }
     }
 
-    fn run(&mut self, a: &Asked) {
+    fn run(&mut self, a: &Asked, r: &mut Rng) {
         let s = a.settings;
         let n = a.tris.len();
-        self.sizes[[64, 512, 2048, 4095].iter().filter(|&&most| n > most).count()] += 1;
+        self.sizes[[64, 512, 2048, 4095, 4096, 65535].iter().filter(|&&most| n > most).count()] += 1;
         // Where the Rust stops on a cost that is no number, its tree with that one repair.
         let theirs = caught(|| Any::build(Variant::Repaired, s, &a.tris)).unwrap_or_else(|_| {
             self.stopped += 1;
@@ -239,9 +246,11 @@ impl Requests {
             && ours.order[..n] == seen.order
             && ours.links[..3 * ours.nodes] == links
             && ours.boxes[..6 * ours.nodes].iter().map(|x| x.to_bits()).eq(boxes)
-            && ours.untouched_past(n);
+            && ours.untouched_past(n)
+            && ours.tidy;
         self.trees.note(same, || a.name.clone());
         self.accepted.note(ours.accepted(&a.given), || a.name.clone());
+        self.changed(a, ours.clone(), r);
 
         let (list, d) = (a.list(), a.distance);
         let source: Vec<Answer> = a.points.iter().map(|p| source_of(&theirs, p, d)).collect();
@@ -262,6 +271,23 @@ impl Requests {
         self.angles(a);
     }
 
+    /// One entry of each list changed, and changed back: a tree has one listing, so none of them may pass.
+    fn changed(&mut self, a: &Asked, mut tree: Tree, r: &mut Rng) {
+        let (at, bit) = (r.below(a.tris.len()), 1 << r.below(32));
+        tree.order[at] ^= bit;
+        self.changed.note(!tree.accepted(&a.given), || format!("{}: order {at}, bit {bit}", a.name));
+        tree.order[at] ^= bit;
+        let (at, bit) = (r.below(3 * tree.nodes), 1 << r.below(32));
+        // a kind becomes the other kind
+        let bit = if at % 3 == 0 { 3 } else { bit };
+        tree.links[at] ^= bit;
+        self.changed.note(!tree.accepted(&a.given), || format!("{}: links {at}, bit {bit}", a.name));
+        tree.links[at] ^= bit;
+        let (at, bit) = (r.below(6 * tree.nodes), 1 << r.below(32));
+        tree.boxes[at] = f32::from_bits(tree.boxes[at].to_bits() ^ bit);
+        self.changed.note(!tree.accepted(&a.given), || format!("{}: boxes {at}, bit {bit}", a.name));
+    }
+
     fn answers(tally: &mut Tally, a: &Asked, ours: Option<Vec<[u32; 6]>>, wanted: &[Answer]) {
         for (k, p) in a.points.iter().enumerate() {
             let (got, want) = (ours.as_ref().map(|o| o[k]), words(wanted[k]));
@@ -275,16 +301,19 @@ impl Requests {
         let windings = engine::windings(&a.given, &a.given_points);
         let apart = |x: f32, y: f32| if x.is_nan() && y.is_nan() { 0.0 } else { (x as f64 - y as f64).abs() };
         for (k, p) in a.points.iter().enumerate() {
-            let (mut sum, mut small) = (0f32, true);
+            let (mut sum, mut own, mut small) = (0f32, 0f32, true);
             for (i, t) in triangles.iter().enumerate() {
                 let (theirs, ours) = (solid_angle(t, p), engine::solid(&a.given[9 * i..9 * i + 9], &a.given_points[3 * k..3 * k + 3]));
                 sum += theirs;
+                own += ours;
                 small &= sum.abs() < 16.0;
                 let off = apart(theirs, ours);
                 self.most_solid = self.most_solid.max(off / UNIT);
                 self.solid.note(off <= 2.0 * UNIT, || format!("{}: triangle {i}, point {k} {p:?}: {ours:e}, not {theirs:e}", a.name));
             }
             let (theirs, ours) = (winding_number(triangles.iter(), p), windings.as_ref().map(|w| w[k]));
+            let own = own / (4.0 * std::f32::consts::PI);
+            self.sums.note(ours.is_some_and(|o| o.to_bits() == own.to_bits()), || format!("{}: point {k} {p:?}: {ours:?}, not {own:e}", a.name));
             let off = ours.map_or(f64::INFINITY, |o| apart(theirs, o));
             let most = if small { &mut self.most_winding } else { &mut self.most_past_16 };
             *most = most.max(off / UNIT / n as f64);
@@ -317,18 +346,35 @@ fn request(i: u64, r: &mut Rng) -> Asked {
     Asked::new(kind, 1_000_000 + i, size, &wish)
 }
 
-fn requests(count: u64) -> u64 {
+/// 204 of them are each kind by each strategy at 4,096, 4,097, two counts between, 65,535 and 65,536 triangles.
+fn large_request(i: u64, r: &mut Rng) -> Asked {
+    let pairs = 2 * KINDS.len();
+    let (pair, round) = (i as usize % pairs, i as usize / pairs);
+    let (kind, strategy) = (pair % KINDS.len(), pair / KINDS.len());
+    let size = [4096, 4097, 4098 + r.below(61437), 4098 + r.below(61437), 65535, 65536][(pair + round) % 6];
+    let wish = Wish {
+        points: Some(16),
+        strategy: Some(1 + strategy as u16),
+        leaf: Some([1, 1, 2, 4, 10, 40, 4096, 4097, 65535][r.below(9)]),
+        depth: [None, Some(40), Some(64)][r.below(3)],
+        ..Wish::default()
+    };
+    Asked::new(KINDS[kind], 5_000_000 + i, size, &wish)
+}
+
+fn requests(count: u64, request: fn(u64, &mut Rng) -> Asked) -> u64 {
     let (start, mut all, mut r) = (Instant::now(), Requests::new(), Rng::new(2));
-    (0..count).for_each(|i| all.run(&request(i, &mut r)));
+    (0..count).for_each(|i| all.run(&request(i, &mut r), &mut Rng::new(i)));
+    let n = all.sizes;
     println!("{count} requests over {} kinds of shape, {:.0} s", KINDS.len(), start.elapsed().as_secs_f64());
-    println!("  1 to 64 triangles {}, to 512 {}, to 2,048 {}, to 4,095 {}, 4,096 {}", all.sizes[0], all.sizes[1], all.sizes[2], all.sizes[3], all.sizes[4]);
+    println!("  1 to 64 triangles {}, to 512 {}, to 2,048 {}, to 4,095 {}, 4,096 {}, to 65,535 {}, 65,536 {}", n[0], n[1], n[2], n[3], n[4], n[5], n[6]);
     println!("  the Rust stops on a cost that is no number in {} of them: compared with its variant nan-none there", all.stopped);
     println!("  the Rust as published stops at {} points and answers otherwise at {}", all.published[0], all.published[1]);
     println!("  solid angles at most {:.4} x 2^-20 off, winding numbers {:.4} x 2^-20 a triangle", all.most_solid, all.most_winding);
     println!("  {} points not judged, where a partial sum reaches 16: winding numbers at most {:.4} x 2^-20 a triangle off", all.past_16, all.most_past_16);
     println!("  how source and sure answers differ:");
     all.whys.iter().for_each(|(why, n)| println!("{n:>12} {why}"));
-    [&all.trees, &all.accepted, &all.source, &all.sure, &all.solid, &all.winding].iter().map(|t| t.print()).sum()
+    [&all.trees, &all.accepted, &all.changed, &all.source, &all.sure, &all.solid, &all.winding, &all.sums].iter().map(|t| t.print()).sum()
 }
 
 /// A tree that no builder made: any order, any cuts, leaves of any size.
@@ -368,7 +414,7 @@ impl Growth<'_> {
 fn grown(list: &[[[f32; 3]; 3]], r: &mut Rng) -> Tree {
     let mut order: Vec<u32> = (0..list.len() as u32).collect();
     (1..order.len()).for_each(|i| order.swap(i, r.below(i + 1)));
-    let tree = Tree { nodes: 0, depth: 0, order, links: Vec::new(), boxes: Vec::new() };
+    let tree = Tree { nodes: 0, depth: 0, order, links: Vec::new(), boxes: Vec::new(), tidy: true };
     let mut growth = Growth { list, tree, cuts: r.below(4), leaves: [5, 20, usize::MAX >> 32][r.below(3)] };
     growth.grow(r, 0, list.len(), 1);
     growth.tree
@@ -380,27 +426,36 @@ fn square_root_of(squared: f32) -> Option<f32> {
     [near, near.next_up(), near.next_down()].into_iter().find(|d| d * d == squared && *d <= FAR)
 }
 
-fn scans(count: u64) -> u64 {
+fn small_size(r: &mut Rng) -> usize {
+    match r.below(100) {
+        0..=79 => 1 + r.below(64),
+        80..=95 => 65 + r.below(192),
+        96..=97 => 257 + r.below(1000),
+        98 => 1257 + r.below(2840),
+        _ => 4096,
+    }
+}
+
+fn large_size(r: &mut Rng) -> usize {
+    [4097, 4098 + r.below(61437), 4098 + r.below(61437), 65535, 65536][r.below(5)]
+}
+
+fn scans(count: u64, size: fn(&mut Rng) -> usize) -> u64 {
     const EACH: usize = 100;
     let (start, mut r) = (Instant::now(), Rng::new(3));
     let mut sure = Tally::new("sure answers, against a plain scan");
     let mut accepted = Tally::new("trees accepted by the check");
-    let (mut median, mut area, mut others, mut deepest, mut large) = (0u64, 0u64, 0u64, 0, 0u64);
+    let (mut median, mut area, mut others, mut deepest, mut large, mut largest) = (0u64, 0u64, 0u64, 0, 0u64, 0u64);
     let (mut found, mut looked, mut ties, mut at_limit) = (0u64, 0u64, 0u64, 0u64);
     let mut i = 0;
     while sure.compared < count {
         let kind = KINDS[i as usize % KINDS.len()];
-        let size = match r.below(100) {
-            0..=79 => 1 + r.below(64),
-            80..=95 => 65 + r.below(192),
-            96..=97 => 257 + r.below(1000),
-            98 => 1257 + r.below(2840),
-            _ => 4096,
-        };
+        let size = size(&mut r);
         let wish = Wish { points: Some(EACH), spread: [None, None, Some("near".into()), Some("box".into())][r.below(4)].clone(), leaf: [Some(1), None][r.below(2)], ..Wish::default() };
         let mut a = Asked::new(kind, 9_000_000 + i, size, &wish);
         let n = a.tris.len();
-        large += (n == 4096) as u64;
+        large += (n >= 4096) as u64;
+        largest += (n == 65536) as u64;
         // Triangles told twice or more tie with each other.
         if r.one_in(4) {
             for _ in 0..n / 3 {
@@ -447,16 +502,36 @@ fn scans(count: u64) -> u64 {
         }
         i += 1;
     }
-    println!("{} points, {i} trees ({median} median, {area} area, {others} that no builder made; {large} of 4,096 triangles; depth up to {deepest}), {:.0} s", sure.compared, start.elapsed().as_secs_f64());
+    println!("{} points, {i} trees ({median} median, {area} area, {others} that no builder made; {large} of 4,096 triangles or more, {largest} of 65,536; depth up to {deepest}), {:.0} s", sure.compared, start.elapsed().as_secs_f64());
     println!("  {found} found; among {looked} of these looked at, {ties} have another triangle at the same distance; {at_limit} trees with the limit at a point's nearest");
     accepted.print() + sure.print()
 }
 
+/// One triangle too many is refused by every call, and nothing is written.
+fn too_many() -> u64 {
+    let mut refused = Tally::new("calls with 65,537 triangles, refused");
+    for i in 0..2 {
+        let a = Asked::new("soup", 7_000_000 + i, 65536, &Wish { points: Some(3), ..Wish::default() });
+        let (list, given) = ([a.list(), a.list()[..1].to_vec()].concat(), [&a.given[..], &a.given[..9]].concat());
+        let built = Tree::build(&given, 1 + i as usize, 1, 40);
+        refused.note(built.nodes == 0 && built.depth == 0 && built.tidy && built.untouched_past(0), || "build".into());
+        // But for the number of triangles this tree would pass.
+        let tree = grown(&list, &mut Rng::new(i));
+        refused.note(!tree.accepted(&given) && tree.depth_read(&given) == 0, || "check".into());
+        refused.note(tree.sure(&given, &a.given_points, a.distance).is_none(), || "sure".into());
+        refused.note(tree.source(&given, &a.given_points, a.distance).is_none(), || "source".into());
+        refused.note(engine::windings(&given, &a.given_points).is_none(), || "winding".into());
+    }
+    refused.print()
+}
+
 fn main() {
     let mut args = std::env::args().skip(1).map(|a| a.parse().expect("a number"));
-    let (trees, points) = (args.next().unwrap_or(200_000), args.next().unwrap_or(10_000_000));
+    let mut next = |usual| args.next().unwrap_or(usual);
+    let (trees, points, large, large_points) = (next(200_000), next(10_000_000), next(408), next(100_000));
     faults();
-    let differ = requests(trees) + scans(points);
+    let small = requests(trees, request) + scans(points, small_size);
+    let differ = small + requests(large, large_request) + scans(large_points, large_size) + too_many();
     println!("{differ} differ");
     std::process::exit((differ > 0) as i32);
 }

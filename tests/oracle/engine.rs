@@ -1,8 +1,8 @@
 //! This engine's exported functions (crates/test_exports) over plain slices, for compare.rs and hazard.rs.
 
 extern "C" {
-    fn timing_build(t: *const f32, tn: usize, strategy: usize, leaf: usize, depth: usize, o: *mut u32, on: usize, l: *mut u32, ln: usize, b: *mut f32, bn: usize) -> usize;
-    fn timing_depth(t: *const f32, tn: usize, strategy: usize, leaf: usize, depth: usize, o: *mut u32, on: usize, l: *mut u32, ln: usize, b: *mut f32, bn: usize) -> usize;
+    fn timing_build(t: *const f32, tn: usize, strategy: usize, leaf: usize, depth: usize, o: *mut u32, on: usize, l: *mut u32, ln: usize, b: *mut f32, bn: usize, w: *mut f32, wn: usize, c: *mut f32, cn: usize, s: *mut u32, sn: usize) -> usize;
+    fn timing_depth(t: *const f32, tn: usize, strategy: usize, leaf: usize, depth: usize, o: *mut u32, on: usize, l: *mut u32, ln: usize, b: *mut f32, bn: usize, w: *mut f32, wn: usize, c: *mut f32, cn: usize, s: *mut u32, sn: usize) -> usize;
     fn timing_check(t: *const f32, tn: usize, o: *const u32, on: usize, l: *const u32, ln: usize, b: *const f32, bn: usize, nodes: usize) -> u32;
     fn timing_depth_read(t: *const f32, tn: usize, o: *const u32, on: usize, l: *const u32, ln: usize, b: *const f32, bn: usize, nodes: usize) -> usize;
     fn timing_sure(t: *const f32, tn: usize, o: *const u32, on: usize, l: *const u32, ln: usize, b: *const f32, bn: usize, nodes: usize, p: *const f32, pn: usize, d: f32, a: *mut u32, an: usize) -> u32;
@@ -14,31 +14,50 @@ extern "C" {
 /// Stands in every lent entry before a call.
 pub const UNTOUCHED: u32 = 0x7e57_7e57;
 
+#[derive(Clone)]
 pub struct Tree {
     pub nodes: usize,
     pub depth: usize,
     pub order: Vec<u32>,
     pub links: Vec<u32>,
     pub boxes: Vec<f32>,
+    /// Whether the build left its working lists as it promises: zeros where it worked, and behind them what they held.
+    pub tidy: bool,
 }
+
+type Build = unsafe extern "C" fn(
+    *const f32, usize, usize, usize, usize, *mut u32, usize, *mut u32, usize, *mut f32, usize, *mut f32, usize, *mut f32, usize, *mut u32, usize,
+) -> usize;
 
 impl Tree {
     /// Room for the largest tree of n triangles and one entry more in each list.
     fn room(n: usize) -> Self {
         let most = 2 * n - 1;
         let untouched = f32::from_bits(UNTOUCHED);
-        Tree { nodes: 0, depth: 0, order: vec![UNTOUCHED; n + 1], links: vec![UNTOUCHED; 3 * most + 1], boxes: vec![untouched; 6 * most + 1] }
+        Tree { nodes: 0, depth: 0, order: vec![UNTOUCHED; n + 1], links: vec![UNTOUCHED; 3 * most + 1], boxes: vec![untouched; 6 * most + 1], tidy: true }
     }
 
     pub fn build(t: &[f32], strategy: usize, leaf: usize, depth: usize) -> Self {
         let n = t.len() / 9;
         let (mut tree, mut again) = (Tree::room(n), Tree::room(n));
-        let call = |f: unsafe extern "C" fn(*const f32, usize, usize, usize, usize, *mut u32, usize, *mut u32, usize, *mut f32, usize) -> usize, to: &mut Tree| unsafe {
+        let call = |f: Build, to: &mut Tree| {
+            let untouched = f32::from_bits(UNTOUCHED);
+            let (mut w, mut c, mut s) = (vec![untouched; 6 * n + 1], vec![untouched; 3 * n + 1], vec![UNTOUCHED; n + 1]);
             let (o, l, b) = (&mut to.order, &mut to.links, &mut to.boxes);
-            f(t.as_ptr(), t.len(), strategy, leaf, depth, o.as_mut_ptr(), o.len(), l.as_mut_ptr(), l.len(), b.as_mut_ptr(), b.len())
+            let answered = unsafe {
+                f(
+                    t.as_ptr(), t.len(), strategy, leaf, depth, o.as_mut_ptr(), o.len(), l.as_mut_ptr(), l.len(), b.as_mut_ptr(), b.len(),
+                    w.as_mut_ptr(), w.len(), c.as_mut_ptr(), c.len(), s.as_mut_ptr(), s.len(),
+                )
+            };
+            let all = [w, c].concat().into_iter().map(f32::to_bits).chain(s);
+            let worked = |i: usize| answered > 0 && ![6 * n, 9 * n + 1, 10 * n + 2].contains(&i);
+            to.tidy = all.enumerate().all(|(i, x)| x == if worked(i) { 0 } else { UNTOUCHED });
+            answered
         };
         tree.nodes = call(timing_build, &mut tree);
         tree.depth = call(timing_depth, &mut again);
+        tree.tidy &= again.tidy;
         tree
     }
 
@@ -67,6 +86,7 @@ impl Tree {
         let answered = unsafe {
             call(t.as_ptr(), t.len(), self.order.as_ptr(), n, l.as_ptr(), l.len(), b.as_ptr(), b.len(), self.nodes, p.as_ptr(), p.len(), d, a.as_mut_ptr(), a.len())
         };
+        assert!(answered == 1 || a.iter().all(|&x| x == UNTOUCHED), "a refused query wrote");
         let right = answered == 1 && a[need..].iter().all(|&x| x == UNTOUCHED);
         right.then(|| a[..need].chunks_exact(6).map(|w| w.try_into().unwrap()).collect())
     }
@@ -84,6 +104,7 @@ pub fn windings(t: &[f32], p: &[f32]) -> Option<Vec<f32>> {
     let need = p.len() / 3;
     let mut w = vec![f32::from_bits(UNTOUCHED); need + 1];
     let answered = unsafe { timing_winding(t.as_ptr(), t.len(), p.as_ptr(), p.len(), w.as_mut_ptr(), w.len()) };
+    assert!(answered == 1 || w.iter().all(|x| x.to_bits() == UNTOUCHED), "a refused call wrote");
     let right = answered == 1 && w.pop().unwrap().to_bits() == UNTOUCHED;
     right.then_some(w)
 }

@@ -111,7 +111,7 @@ fn one_leaf(tris: &[[P; 3]]) -> Tree {
     let lo = corners().fold([f32::MAX; 3], |m, c| [m[0].min(c.x), m[1].min(c.y), m[2].min(c.z)]);
     let hi = corners().fold([f32::MIN; 3], |m, c| [m[0].max(c.x), m[1].max(c.y), m[2].max(c.z)]);
     let n = tris.len() as u32;
-    Tree { nodes: 1, depth: 1, order: (0..n).collect(), links: vec![1, 0, n], boxes: [lo, hi].concat() }
+    Tree { nodes: 1, depth: 1, order: (0..n).collect(), links: vec![1, 0, n], boxes: [lo, hi].concat(), tidy: true }
 }
 
 fn look(case: &Case, tell: bool) -> Seen {

@@ -1,8 +1,9 @@
-//! Makes crates/test_build/stdout but for its last four lines: the Rust's trees of up to 4,096 triangles, as counts
-//! and digests.
+//! The Rust's trees of large made-up drawings, as counts and digests. Of up to 4,097 triangles it makes
+//! crates/test_build/stdout but for its last eight lines, of up to 65,536 (word `host`) the file tests/host/large.txt.
 //! Put it into the oracle's src/bin/ and run it there:
 //!
-//!     cargo run --release --offline --bin large | diff - <(head -n -4 crates/test_build/stdout)
+//!     cargo run --release --offline --bin large | diff - <(head -n -8 crates/test_build/stdout)
+//!     cargo run --release --offline --bin large host | diff - tests/host/large.txt
 
 use shark::{
     request::{Settings, P},
@@ -13,19 +14,36 @@ fn digest(words: impl Iterator<Item = u32>) -> u64 {
     words.fold(7, |d, w| (d % 4294967291 * 31 + w as u64) % 4294967291)
 }
 
+/// Triangles, leaf minimum, depth, and how far apart coordinates are drawn.
+const CASES: [(usize, u16, u16, u64); 12] = [
+    (4096, 1, 64, 1000),
+    (4096, 10, 40, 100000),
+    (4097, 1, 64, 1000),
+    (4097, 4097, 40, 1000),
+    (4095, 1, 12, 15),
+    (2048, 2, 64, 0),
+    (1000, 3, 40, 31),
+    (257, 1, 40, 7),
+    (100, 99, 40, 500),
+    (100, 100, 40, 500),
+    (64, 1, 0, 500),
+    (64, 1, 2, 500),
+];
+
+const LARGE: [(usize, u16, u16, u64); 8] = [
+    (4096, 1, 64, 1000),
+    (4097, 1, 64, 1000),
+    (4097, 4097, 64, 1000),
+    (65535, 10, 40, 100000),
+    (65536, 1, 64, 1000),
+    (65536, 4, 40, 100000),
+    (65536, 1, 12, 15),
+    (65536, 65535, 40, 500),
+];
+
 fn main() {
-    for (n, leaf, depth, range) in [
-        (4096usize, 1u16, 64u16, 1000u64),
-        (4096, 10, 40, 100000),
-        (4095, 1, 12, 15),
-        (2048, 2, 64, 0),
-        (1000, 3, 40, 31),
-        (257, 1, 40, 7),
-        (100, 99, 40, 500),
-        (100, 100, 40, 500),
-        (64, 1, 0, 500),
-        (64, 1, 2, 500),
-    ] {
+    let cases: &[(usize, u16, u16, u64)] = if std::env::args().nth(1).as_deref() == Some("host") { &LARGE } else { &CASES };
+    for &(n, leaf, depth, range) in cases {
         let mut state: u64 = 1;
         let numbers: Vec<f32> = (0..9 * n)
             .map(|i| {

@@ -1,7 +1,16 @@
-/* How long each call from C takes: 4,096 separate triangles in a sheet, leaf minimum 10, depth 40; processor time, the least of 15.
+/* How long each call from C takes: separate triangles in a sheet, 256, 4,096 and 65,536 of them, leaf minimum 10, depth 40; processor
+ * time, the least of 15 turns of enough calls to be measured.
  *
  *     make                         (in the engine's folder: target/staticlib/libhost.a)
  *     cc -O2 -Iinclude -o calls tests/peers/calls.c target/staticlib/libhost.a -lm && ./calls
+ *
+ * Beside it, turn about, the library of header version 1, which was handed an image and read it anew at each call: was.a is its
+ * libhost.a under other names. The last number of a line is then the ratio, now / version 1.
+ *
+ *     objcopy --redefine-sym gauge_build=was_build --redefine-sym gauge_check=was_check --redefine-sym gauge_sure=was_sure \
+ *         --redefine-sym gauge_source=was_source --redefine-sym gauge_winding=was_winding --redefine-sym gauge_image_most=was_image_most \
+ *         old/target/staticlib/libhost.a was.a
+ *     cc -O2 -DWAS -Iinclude -o calls tests/peers/calls.c target/staticlib/libhost.a was.a -lm && ./calls
  */
 #define _POSIX_C_SOURCE 199309L
 #include "gauge.h"
@@ -10,11 +19,12 @@
 #include <stdio.h>
 #include <time.h>
 
-enum { N = GAUGE_MOST_TRIANGLES, POINTS = 1000, TURNS = 15 };
-static float triangles[9 * N], points[3 * POINTS];
-static uint8_t image[GAUGE_IMAGE_MOST(N)];
+enum { MOST = GAUGE_MAX_TRIANGLES, SMALL = GAUGE_MAX_SMALL, POINTS = 1000, TURNS = 15 };
+static float block[GAUGE_DRAWING_BYTES(MOST) / 4], other[GAUGE_DRAWING_BYTES(MOST) / 4], points[3 * POINTS], windings[POINTS];
+static uint8_t image[GAUGE_IMAGE_MAX(MOST)];
 static struct gauge_answer answers[POINTS];
-static float windings[POINTS];
+static struct gauge_drawing d, copy;
+static uint64_t size;
 
 static double now(void)
 {
@@ -23,49 +33,106 @@ static double now(void)
     return (double)t.tv_sec + 1e-9 * (double)t.tv_nsec;
 }
 
-static uint64_t size;
-static uint64_t median(void) { return size = gauge_build(GAUGE_MEDIAN, 10, 40, (uint8_t *)triangles, sizeof triangles, image, sizeof image); }
-static uint64_t area(void) { return size = gauge_build(GAUGE_AREA, 10, 40, (uint8_t *)triangles, sizeof triangles, image, sizeof image); }
-static uint64_t check(void) { return gauge_check(image, size); }
-static uint64_t one(void) { return gauge_sure(image, size, (uint8_t *)points, 12, 100, (uint8_t *)answers, sizeof answers); }
-static uint64_t sure(void) { return gauge_sure(image, size, (uint8_t *)points, sizeof points, 100, (uint8_t *)answers, sizeof answers); }
-static uint64_t winding(void) { return gauge_winding(image, size, (uint8_t *)points, 1200, (uint8_t *)windings, sizeof windings); }
+static uint64_t median(void) { return gauge_drawing_build(&d, GAUGE_MEDIAN, 10, 40); }
+static uint64_t area(void) { return gauge_drawing_build(&d, GAUGE_AREA, 10, 40); }
+static uint64_t written(void) { return size = gauge_drawing_write(&d, image, sizeof image); }
+static uint64_t read_back(void) { return gauge_drawing_read(&copy, image, size); }
+static uint64_t check(void) { return gauge_drawing_check(&d); }
+static uint64_t one(void) { return gauge_drawing_sure(&d, points, 1, 100, answers); }
+static uint64_t sure(void) { return gauge_drawing_sure(&d, points, POINTS, 100, answers); }
+static uint64_t winding(void) { return gauge_drawing_winding(&d, points, 100, windings); }
 
-static void least(const char *what, uint64_t (*call)(void))
+#ifdef WAS
+uint64_t was_build(size_t, size_t, size_t, const uint8_t *, size_t, uint8_t *, size_t);
+uint64_t was_check(const uint8_t *, size_t);
+uint64_t was_sure(const uint8_t *, size_t, const uint8_t *, size_t, float, uint8_t *, size_t);
+uint64_t was_winding(const uint8_t *, size_t, const uint8_t *, size_t, uint8_t *, size_t);
+
+static uint64_t built_then(size_t strategy)
 {
-    double best = 1e9;
-    for (int turn = 0; turn < TURNS; turn++) {
-        double start = now();
+    return size = was_build(strategy, 10, 40, (uint8_t *)d.triangles, 36 * d.count, image, sizeof image);
+}
+
+static uint64_t sure_then(size_t count)
+{
+    return was_sure(image, size, (uint8_t *)points, 12 * count, 100, (uint8_t *)answers, sizeof answers);
+}
+
+static uint64_t median_then(void) { return built_then(GAUGE_MEDIAN); }
+static uint64_t area_then(void) { return built_then(GAUGE_AREA); }
+static uint64_t check_then(void) { return was_check(image, size); }
+static uint64_t one_then(void) { return sure_then(1); }
+static uint64_t many_then(void) { return sure_then(POINTS); }
+static uint64_t winding_then(void) { return was_winding(image, size, (uint8_t *)points, 1200, (uint8_t *)windings, sizeof windings); }
+#define THEN(call) (d.count > SMALL ? 0 : call)
+#else
+#define THEN(call) 0
+#endif
+
+typedef uint64_t timed_call(void);
+
+/* The time of so many calls, in microseconds a call, or less than nothing where one is refused. */
+static double turn(const char *what, timed_call *call, int calls)
+{
+    double start = now();
+    for (int k = 0; k < calls; k++) {
         uint64_t told = call();
-        double spent = now() - start;
         if (gauge_refused(told)) {
             printf("%s: refused %u at %llu\n", what, gauge_number(told), (unsigned long long)gauge_place(told));
-            return;
+            return -1;
         }
-        if (spent < best)
-            best = spent;
     }
-    printf("%-36s %9.1f us\n", what, best * 1e6);
+    return (now() - start) * 1e6 / calls;
+}
+
+static void least(const char *what, timed_call *call, timed_call *then)
+{
+    double first = turn(what, call, 1), best = 1e18, before = 1e18;
+    int calls = first < 1000 ? (int)(1000 / fmax(first, 1)) + 1 : 1;
+    if (first < 0)
+        return;
+    for (int k = 0; k < TURNS; k++) {
+        best = fmin(best, turn(what, call, calls));
+        if (then)
+            before = fmin(before, turn(what, then, calls));
+    }
+    printf("%-24s %10.1f us", what, best);
+    if (then)
+        printf(" %10.1f us %6.2f", before, best / before);
+    printf("\n");
+}
+
+/* A sheet of side by side separate triangles, and points about it. */
+static void draw(int side)
+{
+    d = gauge_lay(block, (size_t)(side * side));
+    copy = gauge_lay(other, d.count);
+    for (int t = 0; t < side * side; t++) {
+        float x = (float)(t % side), y = (float)(t / side), z = sinf((float)t);
+        float corners[9] = {x, y, z, x + 0.75f, y, z, x, y + 0.75f, z};
+        for (int i = 0; i < 9; i++)
+            d.triangles[9 * t + i] = corners[i];
+    }
+    for (int k = 0; k < POINTS; k++) {
+        points[3 * k] = (float)(k * 37 % (10 * side)) / 10;
+        points[3 * k + 1] = (float)(k * 91 % (10 * side)) / 10;
+        points[3 * k + 2] = (float)(k % 40 - 20) / 4;
+    }
 }
 
 int main(void)
 {
-    for (int t = 0; t < N; t++) {
-        float x = (float)(t % 64), y = (float)(t / 64), z = sinf((float)t);
-        float corners[9] = {x, y, z, x + 0.75f, y, z, x, y + 0.75f, z};
-        for (int i = 0; i < 9; i++)
-            triangles[9 * t + i] = corners[i];
+    for (int side = 16; side <= 256; side *= 4) {
+        draw(side);
+        printf("%zu triangles\n", d.count);
+        least("build, median", median, THEN(median_then));
+        least("build, area", area, THEN(area_then));
+        least("write", written, 0);
+        least("read", read_back, 0);
+        least("check", check, THEN(check_then));
+        least("sure, one point", one, THEN(one_then));
+        least("sure, 1,000 points", sure, THEN(many_then));
+        least("winding, 100 points", winding, THEN(winding_then));
     }
-    for (int k = 0; k < POINTS; k++) {
-        points[3 * k] = (float)(k * 37 % 640) / 10;
-        points[3 * k + 1] = (float)(k * 91 % 640) / 10;
-        points[3 * k + 2] = (float)(k % 40 - 20) / 4;
-    }
-    least("build, median", median);
-    least("build, area", area);
-    least("check", check);
-    least("sure, one point", one);
-    least("sure, 1,000 points", sure);
-    least("winding, 100 points", winding);
     return 0;
 }

@@ -11,7 +11,8 @@
 
 // A slice is passed as a pointer and a length.
 extern "C" {
-size_t timing_build(const float *, size_t, size_t strategy, size_t leaf, size_t depth, uint32_t *, size_t, uint32_t *, size_t, float *, size_t);
+size_t timing_build(const float *, size_t, size_t strategy, size_t leaf, size_t depth, uint32_t *, size_t, uint32_t *, size_t, float *, size_t,
+                    float *, size_t, float *, size_t, uint32_t *, size_t);
 uint32_t timing_sure(const float *, size_t, const uint32_t *, size_t, const uint32_t *, size_t, const float *, size_t, size_t nodes,
                      const float *, size_t, float distance, uint32_t *, size_t);
 }
@@ -24,7 +25,10 @@ template <int STRATEGY, int LEAF> struct Engine : Contender {
   void build(const float *t, size_t n) override {
     triangles.assign(t, t + 9 * n);
     order.resize(n), links.resize(3 * (2 * n - 1)), boxes.resize(6 * (2 * n - 1));
-    nodes = timing_build(triangles.data(), triangles.size(), STRATEGY, LEAF, 40, order.data(), n, links.data(), links.size(), boxes.data(), boxes.size());
+    std::vector<float> bounds(6 * n), centres(3 * n);
+    std::vector<uint32_t> scratch(n);
+    nodes = timing_build(triangles.data(), triangles.size(), STRATEGY, LEAF, 40, order.data(), n, links.data(), links.size(), boxes.data(), boxes.size(),
+                         bounds.data(), bounds.size(), centres.data(), centres.size(), scratch.data(), n);
     if (nodes == 0) fprintf(stderr, "the build was refused\n"), exit(2);
   }
   void ask(const float *points, size_t n, float limit, Answer *out) override {

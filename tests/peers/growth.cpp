@@ -1,7 +1,9 @@
-// How cost grows with the number of triangles: build, tree check and sure query of 16 to 4,096 triangles over a sphere,
+// How cost grows with the number of triangles: build, tree check and sure query of 16 to 65,536 triangles over a sphere,
 // both strategies, leaf minimum 4, depth 40, processor time, least of many turns. A line for each:
 //
 //     growth STRATEGY TRIANGLES NODES BUILD_US CHECK_US QUERY_NS_A_POINT
+//
+// With the word `sorted` the triangles stand in the order of the leaves from the first, so that a leaf's lie side by side.
 //
 //     rt staticlib test_exports          (in the engine's folder)
 //     g++ -O3 -o growth tests/peers/growth.cpp target/staticlib/libtest_exports.a && ./growth | tests/peers/growth.py docs/growth.svg
@@ -12,11 +14,13 @@
 #include <cstdio>
 #include <cstdlib>
 #include <ctime>
+#include <string>
 #include <vector>
 
 // A slice is passed as a pointer and a length.
 extern "C" {
-size_t timing_build(const float *, size_t, size_t strategy, size_t leaf, size_t depth, uint32_t *, size_t, uint32_t *, size_t, float *, size_t);
+size_t timing_build(const float *, size_t, size_t strategy, size_t leaf, size_t depth, uint32_t *, size_t, uint32_t *, size_t, float *, size_t,
+                    float *, size_t, float *, size_t, uint32_t *, size_t);
 uint32_t timing_sure(const float *, size_t, const uint32_t *, size_t, const uint32_t *, size_t, const float *, size_t, size_t nodes,
                      const float *, size_t, float distance, uint32_t *, size_t);
 uint32_t timing_check(const float *, size_t, const uint32_t *, size_t, const uint32_t *, size_t, const float *, size_t, size_t nodes);
@@ -67,7 +71,8 @@ static std::vector<float> shingles(size_t n) {
   return out;
 }
 
-int main() {
+int main(int argc, char **argv) {
+  bool sorted = argc > 1 && std::string(argv[1]) == "sorted";
   std::vector<float> points;
   for (int k = 0; k < 2000; k++) {
     double z = 2 * unit() - 1, r = std::sqrt(1 - z * z), turn = 6.283185307179586 * unit(), far = 0.98 + 0.04 * unit();
@@ -75,13 +80,20 @@ int main() {
   }
   std::vector<uint32_t> words(2 * points.size());
   for (size_t strategy = 1; strategy <= 2; strategy++)
-    for (size_t n = 16; n <= 4096; n *= 2) {
-      std::vector<float> t = shingles(n), boxes(6 * (2 * n - 1));
-      std::vector<uint32_t> order(n), links(3 * (2 * n - 1));
+    for (size_t n = 16; n <= 65536; n *= 2) {
+      std::vector<float> t = shingles(n), boxes(6 * (2 * n - 1)), bounds(6 * n), centres(3 * n);
+      std::vector<uint32_t> order(n), links(3 * (2 * n - 1)), scratch(n);
       size_t nodes = 0;
-      double build = least([&] {
-        nodes = timing_build(t.data(), t.size(), strategy, 4, 40, order.data(), n, links.data(), links.size(), boxes.data(), boxes.size());
-      });
+      auto made = [&] {
+        nodes = timing_build(t.data(), t.size(), strategy, 4, 40, order.data(), n, links.data(), links.size(), boxes.data(), boxes.size(), bounds.data(),
+                             bounds.size(), centres.data(), centres.size(), scratch.data(), n);
+      };
+      if (sorted) {
+        std::vector<float> drawn = t;
+        made();
+        for (size_t k = 0; k < n; k++) std::copy_n(&drawn[9 * order[k]], 9, &t[9 * k]);
+      }
+      double build = least(made);
       uint32_t good = 1;
       double check = least([&] { good &= timing_check(t.data(), t.size(), order.data(), n, links.data(), links.size(), boxes.data(), boxes.size(), nodes); });
       double query = least([&] {
