@@ -10,6 +10,8 @@ pub const FURTHEST_COORDINATE: f32 = 1048576.0;
 
 pub const LONGEST_DISTANCE: f32 = 4194304.0;
 
+pub const LARGEST_SCALE: f32 = 1000.0;
+
 // The largest maximum depth that a host may set.
 pub const DEEPEST: usize = 64;
 

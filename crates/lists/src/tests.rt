@@ -1,4 +1,4 @@
-// Tests 1 to 4 of a triangle list, 8 of a point list and 9 of a search distance, and how many triangles or points a list has.
+// Tests 1 to 4 of a triangle list, 8 of a point list, 9 of a search distance and 14 of an accuracy scale, and how many triangles or points a list has.
 ghost use mathlib.Core.Path.{_≡_};
 ghost use Rattle.spec_lists.specs.Reading as Reading;
 ghost use Rattle.spec_lists.specs.Refusals as Refusals;
@@ -29,6 +29,13 @@ pub fn distance_refusal(distance: f32) -> Verdict
     ensures { λ r. ⌜ Values.asVerdict r ≡ Refusals.distanceRefusal distance ⌝ }
 {
     refused_if(!is_within(0.0, limits::LONGEST_DISTANCE, distance), 9, 0)
+}
+
+// 14: the accuracy scale is out of range or a NaN.
+pub fn scale_refusal(scale: f32) -> Verdict
+    ensures { λ r. ⌜ Values.asVerdict r ≡ Refusals.scaleRefusal scale ⌝ }
+{
+    refused_if(!is_within(0.0, limits::LARGEST_SCALE, scale), 14, 0)
 }
 
 // The triangles of the list, nine numbers each.

@@ -1,7 +1,7 @@
--- A triangle list, a point list, settings, room and a distance pass their tests exactly where they are good: nothing good is refused.
+-- A triangle list, a point list, settings, room, a distance and a scale pass their tests exactly where they are good: nothing good is refused.
 -- The test of coordinates reports the place of the first bad number.
 use mathlib.Core.Path.{_≡_}
-use mathlib.Core.Bool.{_&&_}
+use mathlib.Core.Bool.{not, _&&_}
 use mathlib.Core.List.{List}
 use Prim.Native.Nat.{ℕ, _/_, _%_, _≤_}
 use native.Mathlib.Omega.{arith}
@@ -13,10 +13,10 @@ use lib.Ieee.Bits.{is-true}
 use lib.Ieee.Fits.{and-l, and-r}
 use Rattle.spec_numbers.specs.Values.{zero}
 use Rattle.spec_numbers.proofs.Tests.{passed}
-use Rattle.spec_lists.specs.Limits.{maxTriangles, longestDistance, deepest, maxLeafMinimum}
+use Rattle.spec_lists.specs.Limits.{maxTriangles, longestDistance, largestScale, deepest, maxLeafMinimum}
 use Rattle.spec_lists.specs.Reading.{triangleCount, pointCount}
-use Rattle.spec_lists.specs.Refusals.{passes, refused, firstBad, raggedRefusal, noneRefusal, tooManyRefusal, coordinateRefusal, trianglesRefusal, Settings, areSettings, settingsRefusal, roomRefusal, pointsRefusal, distanceRefusal, within, isDistance}
-use Rattle.spec_lists.specs.Passed.{AllCoordinates, GoodTriangles, GoodPoints, GoodSettings, GoodDistance, FirstBad}
+use Rattle.spec_lists.specs.Refusals.{passes, refused, firstBad, raggedRefusal, noneRefusal, tooManyRefusal, coordinateRefusal, trianglesRefusal, Settings, areSettings, settingsRefusal, roomRefusal, pointsRefusal, distanceRefusal, scaleRefusal, refusedIf, within, isDistance, isScale}
+use Rattle.spec_lists.specs.Passed.{AllCoordinates, GoodTriangles, GoodPoints, GoodSettings, UpTo, GoodDistance, GoodScale, FirstBad}
 use Rattle.spec_lists.proofs.Verdicts.{all-pass, then-passes, not-refused, so, refused-by}
 use Rattle.spec_lists.proofs.Coordinates.{first-bad, first-bad-unique, none-bad, all-good}
 
@@ -126,7 +126,7 @@ module _ (s : Settings) where
         le-leb (s .maximumDepth) deepest (g .depth),
       )
 
--- ---- room, and the distance
+-- ---- room, the distance and the scale
 -- an output that passed has room for all that is written
 pub room-passed : (given need : ℕ) → roomRefusal given need ≡ passes → need ≤ given
 unfolding roomRefusal
@@ -137,15 +137,31 @@ pub room-passes : (given need : ℕ) → need ≤ given → roomRefusal given ne
 unfolding roomRefusal
 room-passes given need h = rw (le-ltb given need h)
 
-module _ (d : Float) where
-  -- a search distance that passed is in range
-  pub distance-passed : distanceRefusal d ≡ passes → GoodDistance d
-  unfolding distanceRefusal isDistance
-  distance-passed e =
-      let h = passed (so (within zero longestDistance d) 9 0 e) in
-      record { low = and-l (le zero d) (le d longestDistance) h; high = and-r (le zero d) (le d longestDistance) h }
+module _ (most : Float) (number : ℕ) (x : Float) where
+  range-passed : refusedIf (not (within zero most x)) number 0 ≡ passes → UpTo most x
+  range-passed e =
+      let h = passed (so (within zero most x) number 0 e) in
+      record { low = and-l (le zero x) (le x most) h; high = and-r (le zero x) (le x most) h }
 
-  -- a search distance in range passes: refusal 9 comes for no other reason
-  pub distance-passes : GoodDistance d → distanceRefusal d ≡ passes
-  unfolding distanceRefusal isDistance
-  distance-passes g = rw (is-true (le zero d) (g .low), is-true (le d longestDistance) (g .high))
+  range-passes : UpTo most x → refusedIf (not (within zero most x)) number 0 ≡ passes
+  range-passes g = rw (is-true (le zero x) (g .low), is-true (le x most) (g .high))
+
+-- a search distance that passed is in range
+pub distance-passed : (d : Float) → distanceRefusal d ≡ passes → GoodDistance d
+unfolding distanceRefusal isDistance
+distance-passed d e = range-passed longestDistance 9 d e
+
+-- a search distance in range passes: refusal 9 comes for no other reason
+pub distance-passes : (d : Float) → GoodDistance d → distanceRefusal d ≡ passes
+unfolding distanceRefusal isDistance
+distance-passes d g = range-passes longestDistance 9 d g
+
+-- an accuracy scale that passed is in range
+pub scale-passed : (s : Float) → scaleRefusal s ≡ passes → GoodScale s
+unfolding scaleRefusal isScale
+scale-passed s e = range-passed largestScale 14 s e
+
+-- an accuracy scale in range passes, minus zero too: refusal 14 comes for no other reason
+pub scale-passes : (s : Float) → GoodScale s → scaleRefusal s ≡ passes
+unfolding scaleRefusal isScale
+scale-passes s g = range-passes largestScale 14 s g

@@ -16,6 +16,10 @@ furthestCoordinate = fin false 1 (pos 20)
 abbrev pub longestDistance : Float
 longestDistance = fin false 1 (pos 22)
 
+-- 1,000: the max accuracy scale
+abbrev pub largestScale : Float
+largestScale = fin false 125 (pos 3)
+
 -- the max of the setting that limits the depth
 abbrev pub deepest : ℕ
 deepest = 64

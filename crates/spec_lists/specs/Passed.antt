@@ -7,7 +7,7 @@ use lib.Dec.{T}
 use lib.ListN.{length, getD}
 use lib.Ieee.{Float, nan, Format, fits, le}
 use Rattle.spec_numbers.specs.Values.{zero}
-use Rattle.spec_lists.specs.Limits.{maxTriangles, longestDistance, deepest, maxLeafMinimum}
+use Rattle.spec_lists.specs.Limits.{maxTriangles, longestDistance, largestScale, deepest, maxLeafMinimum}
 use Rattle.spec_lists.specs.Reading.{triangleCount, pointCount}
 use Rattle.spec_lists.specs.Refusals.{isCoordinate, Settings}
 
@@ -39,10 +39,18 @@ pub record GoodSettings (s : Settings) : Type 0 where
   pub leafMost : s .leafMinimum ≤ maxLeafMinimum
   pub depth : s .maximumDepth ≤ deepest
 
+-- a number from zero to this one
+pub record UpTo (most x : Float) : Type 0 where
+  pub low : T (le zero x)
+  pub high : T (le x most)
+
 -- a search distance in range
-pub record GoodDistance (d : Float) : Type 0 where
-  pub low : T (le zero d)
-  pub high : T (le d longestDistance)
+abbrev pub GoodDistance : Float → Type 0
+GoodDistance d = UpTo longestDistance d
+
+-- an accuracy scale in range
+abbrev pub GoodScale : Float → Type 0
+GoodScale s = UpTo largestScale s
 
 -- the number at i is the first that is no coordinate: the place that a refusal reports
 pub record FirstBad (xs : List Float) (i : ℕ) : Type 0 where

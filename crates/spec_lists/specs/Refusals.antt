@@ -6,7 +6,7 @@ use lib.Dec.{leb, ltb, eqb}
 use lib.ListN.{length}
 use lib.Ieee.{Float, le, neg}
 use Rattle.spec_numbers.specs.Values.{zero}
-use Rattle.spec_lists.specs.Limits.{maxTriangles, furthestCoordinate, longestDistance, deepest, maxLeafMinimum}
+use Rattle.spec_lists.specs.Limits.{maxTriangles, furthestCoordinate, longestDistance, largestScale, deepest, maxLeafMinimum}
 use Rattle.spec_lists.specs.Reading.{triangleCount}
 
 -- what a test answers: it passes, or refuses with its number and a place
@@ -38,6 +38,10 @@ isCoordinate x = within (neg furthestCoordinate) furthestCoordinate x
 -- minus zero is a distance too
 unfoldable pub isDistance : Float → Bool
 isDistance x = within zero longestDistance x
+
+-- minus zero is a scale too
+unfoldable pub isScale : Float → Bool
+isScale x = within zero largestScale x
 
 -- the index of the first number that is no coordinate, the length where there is none
 unfoldable pub firstBad : List Float → ℕ
@@ -91,6 +95,10 @@ pointsRefusal xs = firstRefusal (refusedIf (not (eqb (length xs % 3) 0)) 8 (leng
 -- 9: the search distance is out of range or no number
 unfoldable pub distanceRefusal : Float → Verdict
 distanceRefusal d = refusedIf (not (isDistance d)) 9 0
+
+-- 14: the accuracy scale is out of range or no number
+unfoldable pub scaleRefusal : Float → Verdict
+scaleRefusal s = refusedIf (not (isScale s)) 14 0
 
 -- a lent list after a call: as written where the tests passed, and on a refusal as it was
 abbrev pub afterVerdict {ℓ} : {A : Type ℓ} → Verdict → (new old : List A) → List A

@@ -5,6 +5,7 @@ use lists::settings::Settings;
 use lists::settings::settings_refusal;
 use lists::tests::distance_refusal;
 use lists::tests::points_refusal;
+use lists::tests::scale_refusal;
 use lists::tests::triangles_refusal;
 use lists::verdict::Verdict;
 use lists::verdict::room_refusal;
@@ -69,6 +70,13 @@ fn put_distance(pattern: u32) {
     io::print_hex(1, pattern as u64, 8);
     io::write_all(1, b" ");
     put_verdict(distance_refusal(floats::from_bits(pattern)));
+}
+
+fn put_scale(pattern: u32) {
+    io::write_all(1, b"scale ");
+    io::print_hex(1, pattern as u64, 8);
+    io::write_all(1, b" ");
+    put_verdict(scale_refusal(floats::from_bits(pattern)));
 }
 
 fn put_settings(strategy: usize, leaf_minimum: usize, maximum_depth: usize) {
@@ -146,6 +154,19 @@ fn put_distances() {
     put_distance(0x7fc0_0000);
 }
 
+// 0, minus zero, the least number and its opposite, 2, 1,000 and the next number, infinity, a NaN.
+fn put_scales() {
+    put_scale(0x0000_0000);
+    put_scale(0x8000_0000);
+    put_scale(0x0000_0001);
+    put_scale(0x8000_0001);
+    put_scale(0x4000_0000);
+    put_scale(0x447a_0000);
+    put_scale(0x447a_0001);
+    put_scale(0x7f80_0000);
+    put_scale(0x7fc0_0000);
+}
+
 fn put_all_settings() {
     put_settings(0, 1, 0);
     put_settings(1, 1, 0);
@@ -167,4 +188,5 @@ fn main() {
     put_room(0, 1);
     put_room(1, 1);
     put_room(2, 1);
+    put_scales();
 }
