@@ -1,0 +1,16 @@
+pub mod Readable
+pub mod Leaves
+pub mod Lent
+pub mod Levels
+pub mod Storing
+pub mod Along
+pub mod NoArea
+pub mod Turned
+pub mod Far
+pub mod Fast
+pub mod Near
+pub mod Windings
+pub mod FastCall
+pub mod ByNodeSums
+pub mod Worked
+pub mod WorkedSums
