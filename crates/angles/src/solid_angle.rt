@@ -11,7 +11,7 @@ use shapes::triangle3::Triangle3;
 use shapes::vec3::Vec3;
 
 // The length of a vector.
-fn norm_of(a: Vec3) -> f32
+pub fn norm_of(a: Vec3) -> f32
     ensures { λ r. ⌜ r ≡ Winding.norm binary32 (Values.asPoint a) ⌝ }
 {
     root_or_nan(a.dot(a))

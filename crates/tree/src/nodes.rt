@@ -63,14 +63,14 @@ pub fn is_right_before(links: &[u32], node: usize, next: usize) -> bool
 }
 
 // The three numbers from index i on, as they are.
-fn point_from(boxes: &[f32], i: usize) -> Vec3
-    requires { ⌜ i + 3 ≤ length (now boxes) ⌝ }
-    ensures { λ r. ⌜ Shapes.asPoint r ≡ Trees.pointFrom (now (boxes .entry)) i ⌝ }
+pub fn point_from(numbers: &[f32], i: usize) -> Vec3
+    requires { ⌜ i + 3 ≤ length (now numbers) ⌝ }
+    ensures { λ r. ⌜ Shapes.asPoint r ≡ Trees.pointFrom (now (numbers .entry)) i ⌝ }
 {
     Vec3 {
-        x: boxes[i],
-        y: boxes[i + 1],
-        z: boxes[i + 2],
+        x: numbers[i],
+        y: numbers[i + 1],
+        z: numbers[i + 2],
     }
 }
 
