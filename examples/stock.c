@@ -86,11 +86,17 @@ static void done(const char *call, uint64_t returned)
     }
 }
 
+/* Inside or outside is asked for by fast winding: its error is far below the half that parts them. */
 static void ask(void)
 {
     done("gauge_build", gauge_drawing_build(&drawing, strategy, leaf_minimum, maximum_depth));
     done("gauge_sure", gauge_drawing_sure(&drawing, touched, points, distance, answers));
-    done("gauge_winding", gauge_drawing_winding(&drawing, touched, points, windings));
+    float *sums = malloc(GAUGE_SUMS(drawing.count) * sizeof *sums);
+    if (sums == NULL)
+        fail("no memory", "");
+    done("gauge_node_sums", gauge_drawing_node_sums(&drawing, sums));
+    done("gauge_fast_winding", gauge_drawing_fast_winding(&drawing, sums, touched, points, 2, windings));
+    free(sums);
     printf("%zu triangles, a tree of %zu nodes, %zu points touched\n", drawing.count, drawing.nodes, points);
 }
 

@@ -16,6 +16,8 @@
  *     boxes       6 floats a node: min x y z, max x y z
  *     bounds, centres, scratch
  *                 what a build works in: 6 floats, 3 floats and 1 entry a triangle
+ *     sums        16 floats a node, which gauge_fast_winding counts with. gauge_node_sums makes them,
+ *                 after a build and after a reading: no image keeps them
  *
  * A tree of n triangles has 2n - 1 nodes at most.
  *
@@ -54,6 +56,8 @@
  *                            above 4,194,304
  *     GAUGE_LAYOUT       10  the image's records are laid out wrong              byte offset of the
  *                                                                                first wrong record
+ *     GAUGE_SCALE        14  the accuracy scale is no number, below 0 or         0
+ *                            above 1,000
  *
  * An index among the numbers counts from 0. In triangles place / 9 is the triangle and place % 9 the
  * number in it; in points place / 3 is the point and place % 3 its x, y or z.
@@ -74,13 +78,14 @@
 
 /* Of this header: the first number changes when a host must change. */
 #define GAUGE_VERSION_MAJOR 2
-#define GAUGE_VERSION_MINOR 0
+#define GAUGE_VERSION_MINOR 1
 
 #define GAUGE_MAX_TRIANGLES 65536
 #define GAUGE_MAX_LEAF_MINIMUM 65536
 #define GAUGE_MAX_DEPTH 64
 #define GAUGE_MAX_COORDINATE 1048576.0f
 #define GAUGE_MAX_DISTANCE 4194304.0f
+#define GAUGE_MAX_SCALE 1000.0f
 
 /* A drawing of so many triangles or fewer is small: its image is of version 1 and keeps no larger leaf
  * minimum. The image of a larger drawing is of version 2. */
@@ -106,6 +111,7 @@
 #define GAUGE_POINT 8
 #define GAUGE_DISTANCE 9
 #define GAUGE_LAYOUT 10
+#define GAUGE_SCALE 14
 
 /* A thread whose whole stack is so many bytes is enough for the call. Measured, not proved: on
  * the largest and the deepest inputs, with the toolchain that the library was made by,
@@ -118,9 +124,16 @@
 #define GAUGE_STACK_SURE (100 * 1024)
 #define GAUGE_STACK_SOURCE (100 * 1024)
 #define GAUGE_STACK_WINDING (16 * 1024)
+#define GAUGE_STACK_NODE_SUMS (100 * 1024)
+#define GAUGE_STACK_FAST_WINDING (106 * 1024)
 
 /* Room for the image of n triangles, whatever tree they have: for an array's length. n is 1 to 65,536. */
 #define GAUGE_IMAGE_MAX(n) ((n) <= GAUGE_MAX_SMALL ? 98 * (size_t)(n) + 2 : 108 * (size_t)(n) - 2)
+
+/* How many floats of sums are enough for n triangles, whatever tree they have: for an array's length too.
+ * More than 65,536 have no tree, so they take no more than these. */
+#define GAUGE_SUMS(n) \
+    ((size_t)(n) == 0 ? 0 : 32 * ((size_t)(n) < GAUGE_MAX_TRIANGLES ? (size_t)(n) : (size_t)GAUGE_MAX_TRIANGLES) - 16)
 
 #ifdef __cplusplus
 extern "C" {
@@ -252,6 +265,34 @@ uint64_t gauge_winding(const float *triangles, size_t triangles_length,
                        const uint8_t *points, size_t points_length,
                        uint8_t *windings, size_t windings_length);
 
+/* Makes the sums of each node of the tree, which gauge_fast_winding counts with, into the front of sums.
+ * They are made once for a tree, after it is built or read. Those of a node whose triangles have no area
+ * hold a NaN, whose bits may be any NaN's.
+ *
+ * Counted: the nodes.
+ * Refused: GAUGE_RAGGED, GAUGE_NONE, GAUGE_TOO_MANY, GAUGE_COORDINATE, GAUGE_ROOM where sums has fewer
+ * than 16 floats a node (GAUGE_SUMS is always enough), GAUGE_TREE. */
+uint64_t gauge_node_sums(const float *triangles, size_t triangles_length, const uint32_t *order, size_t order_length,
+                         const uint32_t *links, size_t links_length, const float *boxes, size_t boxes_length, size_t nodes,
+                         float *sums, size_t sums_length);
+
+/* What gauge_winding tells, nearly, and on large drawings much faster: what lies far from a point counts
+ * as one piece. A piece is far where the point is farther from its middle than scale times its radius:
+ * 2 is usual; a larger scale is nearer the exact number and slower (docs/WINDING.md has a table of
+ * errors). scale is 0 to 1,000; minus zero is 0.
+ *
+ * sums are those that gauge_node_sums made of this tree. Any other numbers are safe: with those of
+ * another tree, or with none that were made, the answers are wrong and nothing else is.
+ *
+ * Counted: the points answered, from the front of windings.
+ * Refused: GAUGE_RAGGED, GAUGE_NONE, GAUGE_TOO_MANY, GAUGE_COORDINATE, GAUGE_ROOM where windings has
+ * room for fewer than points_length / 12 numbers or sums has fewer than 16 floats a node, GAUGE_TREE,
+ * GAUGE_POINT, GAUGE_SCALE. */
+uint64_t gauge_fast_winding(const float *triangles, size_t triangles_length, const uint32_t *order, size_t order_length,
+                            const uint32_t *links, size_t links_length, const float *boxes, size_t boxes_length, size_t nodes,
+                            const float *sums, size_t sums_length, const uint8_t *points, size_t points_length, float scale,
+                            uint8_t *windings, size_t windings_length);
+
 /* ---- a drawing in one block of memory
  *
  *     struct gauge_drawing d = gauge_lay(malloc(GAUGE_DRAWING_BYTES(n)), n);
@@ -367,6 +408,23 @@ static inline uint64_t gauge_drawing_winding(const struct gauge_drawing *d, cons
 {
     return gauge_winding(d->triangles, 9 * d->count, (const uint8_t *)points, GAUGE_POINT_BYTES * count,
                          (uint8_t *)windings, GAUGE_WINDING_BYTES * count);
+}
+
+/* gauge_node_sums, into a list of GAUGE_SUMS(d->count) floats. It is no part of the drawing's block: only
+ * a host that asks for fast winding lends it. */
+static inline uint64_t gauge_drawing_node_sums(const struct gauge_drawing *d, float *sums)
+{
+    return gauge_node_sums(d->triangles, 9 * d->count, d->order, d->count, d->links, 6 * d->count, d->boxes, 12 * d->count, d->nodes,
+                           sums, GAUGE_SUMS(d->count));
+}
+
+/* gauge_fast_winding with these sums, of so many points with as many windings. */
+static inline uint64_t gauge_drawing_fast_winding(const struct gauge_drawing *d, const float *sums, const float *points, size_t count,
+                                                  float scale, float *windings)
+{
+    return gauge_fast_winding(d->triangles, 9 * d->count, d->order, d->count, d->links, 6 * d->count, d->boxes, 12 * d->count, d->nodes,
+                              sums, GAUGE_SUMS(d->count), (const uint8_t *)points, GAUGE_POINT_BYTES * count, scale,
+                              (uint8_t *)windings, GAUGE_WINDING_BYTES * count);
 }
 
 #ifdef __cplusplus

@@ -12,6 +12,7 @@
 #define _DEFAULT_SOURCE
 #include "plain.h"
 
+#include <float.h>
 #include <math.h>
 #include <stdio.h>
 #include <stdlib.h>
@@ -44,7 +45,7 @@ static float between(float lo, float hi)
 /* ---- lists beside pages that cannot be touched */
 
 /* What a call may be handed: slices of bytes, lists of four bytes an entry. */
-enum { IMAGE, SETTINGS, TRIANGLES, ORDER, LINKS, BOXES, BOUNDS, CENTRES, SCRATCH, POINTS, ANSWERS, LISTS };
+enum { IMAGE, SETTINGS, TRIANGLES, ORDER, LINKS, BOXES, BOUNDS, CENTRES, SCRATCH, SUMS, POINTS, ANSWERS, LISTS };
 enum { ROOM = 4 << 20, MARGIN = 64 };
 
 /* One that is lent to a call: where it stands, and a copy for plain.c; both with margins as far as the
@@ -111,23 +112,26 @@ static int as_wanted(void)
 
 /* ---- one call, compared */
 
-enum { MAX_CALL, COUNT, READ, BUILD, WRITE, CHECK, SURE, SOURCE, WINDING, CALLS };
-static const char *const names[CALLS] = {"gauge_image_max", "gauge_image_triangles", "gauge_read", "gauge_build", "gauge_write",
-                                         "gauge_check", "gauge_sure", "gauge_source", "gauge_winding"};
-static uint64_t calls, called[CALLS], ended[CALLS][11], differences, unknown;
+enum { MAX_CALL, COUNT, READ, BUILD, WRITE, CHECK, SURE, SOURCE, WINDING, NODE_SUMS, FAST, CALLS };
+static const char *const names[CALLS] = {"gauge_image_max", "gauge_image_triangles", "gauge_read", "gauge_build", "gauge_write", "gauge_check",
+                                         "gauge_sure", "gauge_source", "gauge_winding", "gauge_node_sums", "gauge_fast_winding"};
 
-/* How a call may end, as gauge.h lists it: 0 is done, the others are refusals. */
-enum { ENOUGH = 20000 };
-static const int listed[CALLS][11] = {
-    {1, 0, 0, 0, 0, 0, 0, 0, 0, 0, 0}, /* gauge_image_max */
-    {1, 0, 0, 0, 0, 0, 0, 0, 0, 0, 1}, /* gauge_image_triangles */
-    {1, 0, 0, 0, 0, 0, 1, 0, 0, 0, 1}, /* gauge_read */
-    {1, 1, 1, 1, 1, 1, 1, 0, 0, 0, 0}, /* gauge_build */
-    {1, 1, 1, 1, 1, 1, 1, 1, 0, 0, 0}, /* gauge_write */
-    {1, 1, 1, 1, 1, 0, 0, 1, 0, 0, 0}, /* gauge_check */
-    {1, 1, 1, 1, 1, 0, 1, 1, 1, 1, 0}, /* gauge_sure */
-    {1, 1, 1, 1, 1, 0, 1, 1, 1, 1, 0}, /* gauge_source */
-    {1, 1, 1, 1, 1, 0, 1, 0, 1, 0, 0}, /* gauge_winding */
+/* How a call may end, as gauge.h lists it: the first is done, the others are refusals. */
+enum { ENDS = 12, ENOUGH = 20000 };
+static const unsigned numbers[ENDS] = {0, 1, 2, 3, 4, 5, 6, 7, 8, 9, 10, 14};
+static uint64_t calls, called[CALLS], ended[CALLS][ENDS], differences, unknown;
+static const int listed[CALLS][ENDS] = {
+    {1, 0, 0, 0, 0, 0, 0, 0, 0, 0, 0, 0}, /* gauge_image_max */
+    {1, 0, 0, 0, 0, 0, 0, 0, 0, 0, 1, 0}, /* gauge_image_triangles */
+    {1, 0, 0, 0, 0, 0, 1, 0, 0, 0, 1, 0}, /* gauge_read */
+    {1, 1, 1, 1, 1, 1, 1, 0, 0, 0, 0, 0}, /* gauge_build */
+    {1, 1, 1, 1, 1, 1, 1, 1, 0, 0, 0, 0}, /* gauge_write */
+    {1, 1, 1, 1, 1, 0, 0, 1, 0, 0, 0, 0}, /* gauge_check */
+    {1, 1, 1, 1, 1, 0, 1, 1, 1, 1, 0, 0}, /* gauge_sure */
+    {1, 1, 1, 1, 1, 0, 1, 1, 1, 1, 0, 0}, /* gauge_source */
+    {1, 1, 1, 1, 1, 0, 1, 0, 1, 0, 0, 0}, /* gauge_winding */
+    {1, 1, 1, 1, 1, 0, 1, 1, 0, 0, 0, 0}, /* gauge_node_sums */
+    {1, 1, 1, 1, 1, 0, 1, 1, 1, 0, 0, 1}, /* gauge_fast_winding */
 };
 
 /* Who is called: the library, with the lists themselves, and plain.c, with their copies. */
@@ -146,8 +150,11 @@ static uint64_t compared(int call, const uint64_t returned[BOTH])
         lent[list].length = lent[list].all = 0;
     calls++;
     called[call]++;
-    if (gauge_number(by_library) <= 10)
-        ended[call][gauge_number(by_library)]++;
+    int end = 0;
+    while (end < ENDS && numbers[end] != gauge_number(by_library))
+        end++;
+    if (end < ENDS)
+        ended[call][end]++;
     else
         unknown++;
     if ((by_library != wanted || !same) && differences++ < 10)
@@ -273,7 +280,47 @@ static void ask_points(int call, Drawing d, Slice points, float distance, size_t
     compared(call, returned);
 }
 
-/* ---- drawings, points, distances by chance */
+/* The same bits for every NaN: which of them a call writes is left open. */
+static void one_nan(uint8_t *list, size_t count)
+{
+    for (size_t i = 0; i < count; i++) {
+        float x;
+        memcpy(&x, list + 4 * i, 4);
+        if (x != x)
+            memset(list + 4 * i, 0x7f, 4);
+    }
+}
+
+static void ask_sums(Drawing d, size_t room)
+{
+    uint64_t returned[BOTH];
+    lend_drawing(d);
+    lend(SUMS, NULL, 4 * room);
+    for (int who = 0; who < BOTH; who++)
+        returned[who] = (who == PLAIN ? plain_node_sums : gauge_node_sums)(TREE, d.nodes, FLOATS(SUMS));
+    if (!gauge_refused(returned[PLAIN])) {
+        one_nan(lent[SUMS].at, 16 * d.nodes);
+        one_nan(lent[SUMS].copy, 16 * d.nodes);
+    }
+    compared(NODE_SUMS, returned);
+}
+
+/* A list of floats. */
+typedef struct { const float *floats; size_t length; } Floats;
+
+static void ask_fast(Drawing d, Floats sums, Slice points, float scale, size_t room)
+{
+    uint64_t returned[BOTH];
+    lend_drawing(d);
+    lend(SUMS, sums.floats, 4 * sums.length);
+    lend(POINTS, points.bytes, points.length);
+    lend(ANSWERS, NULL, room);
+    for (int who = 0; who < BOTH; who++)
+        returned[who] = (who == PLAIN ? plain_fast_winding : gauge_fast_winding)(TREE, d.nodes, FLOATS(SUMS), BYTES(POINTS), scale, BYTES(ANSWERS));
+    compared(FAST, returned);
+}
+
+/* ---- drawings, points, distances, scales by chance */
 
 enum { MOST = 5000, MOST_NODES = 2 * MOST + 2, MOST_IMAGE = 110 * MOST };
 
@@ -367,10 +414,20 @@ static float make_distance(void)
     return kind < 9 ? some[below(sizeof some / sizeof *some)] : ldexpf(between(1, 2), (int)below(60) - 38);
 }
 
-/* ---- a tree over the drawing and its image, by plain C */
+static float make_scale(void)
+{
+    static const float some[] = {0, -0.0f, 1e-40f, 0.25f, 0.5f, 1, 1.5f, 2, 2, 2, 3, 10, 1000};
+    static const float bad[] = {1000.0001f, 1e30f, -1e-45f, -2, INFINITY, -INFINITY, NAN, -NAN};
+    unsigned kind = below(12);
+    if (kind == 0)
+        return bad[below(sizeof bad / sizeof *bad)];
+    return kind < 9 ? some[below(sizeof some / sizeof *some)] : between(0, 4);
+}
+
+/* ---- a tree over the drawing, its sums and its image, by plain C */
 
 static uint32_t tree_order[MOST], tree_links[3 * MOST_NODES];
-static float tree_boxes[6 * MOST_NODES];
+static float tree_boxes[6 * MOST_NODES], tree_sums[16 * MOST_NODES], bad_sums[16 * MOST_NODES];
 static uint8_t image_bytes[MOST_IMAGE];
 
 static Slice bytes_of(const void *bytes, size_t length)
@@ -406,6 +463,48 @@ static uint64_t write_image(Settings s, Drawing d, uint8_t *image, size_t length
 {
     return plain_write(s.strategy, s.leaf_minimum, s.maximum_depth, d.triangles, d.triangles_length, d.order, d.order_length, d.links,
                        d.links_length, d.boxes, d.boxes_length, d.nodes, image, length);
+}
+
+/* How many floats the sums have, as far as there is room for them here. */
+static size_t sums_length(Drawing d)
+{
+    return 16 * (d.nodes < MOST_NODES ? d.nodes : MOST_NODES);
+}
+
+/* The sums of a tree; of lists that are none, those that were made last. */
+static Floats make_sums(Drawing d)
+{
+    Floats sums = {tree_sums, sums_length(d)};
+    plain_node_sums(d.triangles, d.triangles_length, d.order, d.order_length, d.links, d.links_length, d.boxes, d.boxes_length, d.nodes,
+                    tree_sums, sizeof tree_sums / 4);
+    return sums;
+}
+
+/* Sums with something wrong in them, or nothing. Those of another tree are what was made last. */
+static Floats any_sums(Drawing d)
+{
+    static const float some[] = {0, -0.0f, 1, -1, 1e-40f, 1e-20f, 1e20f, 3e38f, INFINITY, -INFINITY, NAN, -NAN};
+    Floats bad = {bad_sums, sums_length(d)};
+    unsigned kind = below(8), length = (unsigned)bad.length;
+    if (kind == 0)
+        memcpy(bad_sums, tree_sums, 4 * bad.length);
+    Floats sums = make_sums(d);
+    if (kind > 4 || length == 0)
+        return sums;
+    if (kind != 0)
+        memcpy(bad_sums, tree_sums, 4 * bad.length);
+    if (kind == 1) /* of other nodes */
+        for (unsigned i = 0; i < length; i++)
+            bad_sums[i] = tree_sums[(i + 16) % length];
+    if (kind == 2) /* a few numbers are others */
+        for (unsigned i = 1 + below(8); i > 0; i--)
+            bad_sums[below(length)] = below(2) ? some[below(sizeof some / sizeof *some)] : any_bits();
+    if (kind == 3) /* any bits */
+        for (unsigned i = 0; i < length; i++)
+            bad_sums[i] = below(4) ? any_bits() : some[below(sizeof some / sizeof *some)];
+    if (kind == 4) /* too short, or longer */
+        bad.length = below(3) ? below(length) : bad.length + below(sizeof bad_sums / 4 - length + 1) % 64;
+    return bad;
 }
 
 static Slice make_image(Settings s, Drawing d)
@@ -451,6 +550,8 @@ static void ask_all(Settings s, Drawing d, Slice points, float distance)
     ask_points(SOURCE, d, points, distance, 24 * n);
     ask_points(WINDING, d, points, distance, 4 * n);
     ask_write(s, d, exact_size(d));
+    ask_sums(d, sums_length(d));
+    ask_fast(d, make_sums(d), points, 2, 4 * n);
 }
 
 /* A copy of a drawing, to be damaged: each list has room for some entries more. */
@@ -750,8 +851,11 @@ static void each_length(Drawing d, Slice points)
     static const size_t some[] = {0, 1, 3, 4, 5, 8, 11, 12, 23, 24, 25, 47, 48, 49, 71, 72, 73, 100};
     for (size_t length = 0; length <= 40; length++)
         for (size_t k = 0; k < sizeof some / sizeof *some; k++)
-            for (int call = SURE; call <= WINDING; call++)
+            for (int call = SURE; call <= WINDING; call++) {
                 ask_points(call, d, bytes_of(points.bytes, length), GAUGE_MAX_DISTANCE, some[k]);
+                if (call == WINDING)
+                    ask_fast(d, make_sums(d), bytes_of(points.bytes, length), 2, some[k]);
+            }
     for (size_t length = 0; length <= 30; length++) {
         Settings s = {1 + length % 2, 1, 40};
         ask_build(s, drawing, length, rooms_for(4, 7));
@@ -778,6 +882,38 @@ static void each_room(Drawing d, Slice image)
             if (list <= 4)
                 ask_read(image, r);
         }
+    }
+}
+
+/* Sums from none to some floats too many, and each scale. */
+static void each_sums(Drawing d, Slice points)
+{
+    static const float scales[] = {0, -0.0f, 1e-45f, 1, 2, 1000, 1000.00006f, 1001, -1e-45f, -2, INFINITY, -INFINITY, NAN, -NAN};
+    Floats sums = make_sums(d);
+    for (size_t length = 0; length <= sums.length + 17; length++) {
+        Floats other = {tree_sums, length};
+        ask_sums(d, length);
+        ask_fast(d, other, points, 2, points.length / 3);
+    }
+    for (size_t k = 0; k < sizeof scales / sizeof *scales; k++) {
+        ask_fast(d, sums, points, scales[k], points.length / 3);
+        ask_fast(d, sums, bytes_of(points.bytes, points.length - 1), scales[k], points.length / 3);
+    }
+}
+
+/* Made-up sums: points exactly as far as radius times scale, and a centre so far off that its distance squared nearly or just overflows. */
+static void each_reach(Drawing d)
+{
+    static const float points[] = {2, 0, 0, 0, 4, 0, 0, 0, -2.5f}, scales[] = {0, 1, 2, 2.5f, 4};
+    Floats made = {bad_sums, sums_length(d)};
+    float far = sqrtf(FLT_MAX / 3);
+    for (int i = 0; i < 4; i++)
+        far = nextafterf(far, 0);
+    for (int centre = 0; centre < 10; centre++, far = nextafterf(far, INFINITY)) {
+        for (size_t i = 0; i < made.length; i++)
+            bad_sums[i] = i % 16 < 12 ? (float)(i % 16) - 4 : i % 16 == 12 ? 1 : centre == 0 ? 0 : far;
+        for (size_t k = 0; k < sizeof scales / sizeof *scales; k++)
+            ask_fast(d, made, bytes_of(points, sizeof points), scales[k], sizeof points / 3);
     }
 }
 
@@ -819,6 +955,8 @@ static void in_turn(size_t n)
     each_count(d, points);
     each_length(d, points);
     each_room(d, image);
+    each_sums(d, points);
+    each_reach(d);
     each_setting(d);
 }
 
@@ -963,9 +1101,13 @@ static void ask_questions(Drawing d, size_t n, int times)
         ask_points(SURE, asked, points, distance, 24 * many + spare);
         ask_points(SOURCE, asked, points, distance, 24 * many + spare);
         ask_points(WINDING, asked, points, distance, 4 * many + spare);
+        ask_fast(asked, any_sums(asked), points, make_scale(), 4 * many + spare);
         ask_check(asked);
-        if (many > 0)
+        ask_sums(asked, below(8) ? sums_length(asked) + spare : below((unsigned)sums_length(asked) + 1));
+        if (many > 0) {
             ask_points((int)(SURE + below(3)), asked, points, distance, below(24 * (unsigned)many));
+            ask_fast(asked, make_sums(asked), points, make_scale(), below(5 * (unsigned)many));
+        }
         if (below(4) == 0)
             ask_writes(asked);
     }
@@ -991,12 +1133,16 @@ static int wrong_ends(void)
 {
     int wrong = 0;
     for (int call = 0; call < CALLS; call++)
-        for (int k = 0; k <= 10; k++)
+        for (int k = 0; k < ENDS; k++)
             if (listed[call][k] ? calls >= ENOUGH && ended[call][k] == 0 : ended[call][k] != 0) {
-                fprintf(stderr, "fuzz: %s: end %d (0 is done, else a refusal) %s\n", names[call], k,
+                fprintf(stderr, "fuzz: %s: end %u (0 is done, else a refusal) %s\n", names[call], numbers[k],
                         listed[call][k] ? "was never met" : "was met and is not listed");
                 wrong++;
             }
+    if (calls >= ENOUGH && (plain_far == 0 || plain_far_not_finite == 0)) {
+        fprintf(stderr, "fuzz: no node was far, or every far term was finite\n");
+        wrong++;
+    }
     return wrong;
 }
 
@@ -1028,18 +1174,18 @@ int main(int argc, char **argv)
     while (calls < wanted)
         by_chance();
     printf("%-21s %9s %9s", "call", "calls", "done");
-    for (int k = 1; k <= 10; k++)
-        printf(" %7s%2d", "refused", k);
+    for (int k = 1; k < ENDS; k++)
+        printf(" %7s%2u", "refused", numbers[k]);
     printf("\n");
     for (int call = 0; call < CALLS; call++) {
         printf("%-21s", names[call]);
         printf(" %9llu", (unsigned long long)called[call]);
-        for (int k = 0; k <= 10; k++)
+        for (int k = 0; k < ENDS; k++)
             printf(" %9llu", (unsigned long long)ended[call][k]);
         printf("\n");
     }
-    printf("seed %llu: %llu calls, %llu differences; %llu angles, %llu of them more than 2^-20 off\n", (unsigned long long)seed,
-           (unsigned long long)calls, (unsigned long long)(differences + unknown), (unsigned long long)plain_angles,
-           (unsigned long long)plain_angles_off);
+    printf("seed %llu: %llu calls, %llu differences; %llu angles, %llu of them more than 2^-20 off; %llu far terms, %llu of them not finite\n",
+           (unsigned long long)seed, (unsigned long long)calls, (unsigned long long)(differences + unknown), (unsigned long long)plain_angles,
+           (unsigned long long)plain_angles_off, (unsigned long long)plain_far, (unsigned long long)plain_far_not_finite);
     return wrong_ends() != 0 || differences + unknown + plain_angles_off != 0;
 }

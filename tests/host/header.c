@@ -26,11 +26,13 @@ static size_t at(const void *list, const void *block)
 static void expect_numbers(void)
 {
     const uint64_t point = (uint64_t)1 << 63 | 17, layout = (uint64_t)10 << 56 | 14;
-    expect(GAUGE_VERSION_MAJOR == 2, "the header's version");
+    const uint64_t scale = (uint64_t)GAUGE_SCALE << 56;
+    expect(GAUGE_VERSION_MAJOR == 2 && GAUGE_VERSION_MINOR == 1, "the header's version");
     expect(sizeof(struct gauge_answer) == GAUGE_ANSWER_BYTES && sizeof(float) == 4, "an answer has 24 bytes");
     expect(!gauge_refused(4096) && gauge_number(4096) == 0, "a count is no refusal");
     expect(gauge_refused(point) && gauge_number(point) == GAUGE_POINT && gauge_place(point) == 17, "a refusal of points");
     expect(gauge_refused(layout) && gauge_number(layout) == GAUGE_LAYOUT && gauge_place(layout) == 14, "a refusal of layout");
+    expect(gauge_refused(scale) && gauge_number(scale) == GAUGE_SCALE && gauge_place(scale) == 0, "a refusal of scale");
     expect(gauge_image_max(2) == GAUGE_IMAGE_MAX(2) && gauge_image_max(4096) == GAUGE_IMAGE_MAX(4096) &&
                gauge_image_max(4097) == GAUGE_IMAGE_MAX(4097) && gauge_image_max(65536) == GAUGE_IMAGE_MAX(65536) &&
                gauge_image_max(0) == 0 && gauge_image_max(65537) == 0,
@@ -52,6 +54,10 @@ static void expect_block(void)
     expect(absurd.count == 0 && absurd.triangles == NULL && absurd.scratch == NULL, "a drawing of more triangles than can be counted");
     expect(GAUGE_DRAWING_BYTES(uncountable) == SIZE_MAX && GAUGE_DRAWING_BYTES(uncountable - 1) < SIZE_MAX, "bytes that can be counted");
     expect(gauge_drawing_build(&none, GAUGE_AREA, 1, 40) == (uint64_t)GAUGE_NONE << 56, "nothing to build");
+    expect(gauge_drawing_node_sums(&none, NULL) == (uint64_t)GAUGE_NONE << 56, "nothing to sum");
+    expect(GAUGE_SUMS(0) == 0 && GAUGE_SUMS(1) == 16 && GAUGE_SUMS(5) == 16 * 9 && GAUGE_SUMS(65536) == 16 * 131071 &&
+               GAUGE_SUMS(SIZE_MAX) == 16 * 131071,
+           "sixteen floats a node");
 }
 
 static void expect_example(void)
@@ -59,7 +65,7 @@ static void expect_example(void)
     static const float corners[18] = {0, 0, 0, 1, 0, 0, 0, 1, 0, 10, 0, 0, 11, 0, 0, 10, 1, 0};
     static const float points[6] = {5.5f, 0, 0, 100, 0, 0};
     static const struct gauge_answer near = {1, 0, 1, 0, 0, 20.25f}, far = {1, 1, 10, 0, 0, 20.25f}, nothing = {0, 0, 0, 0, 0, 0};
-    static float block[GAUGE_DRAWING_BYTES(2) / 4], other[GAUGE_DRAWING_BYTES(3) / 4];
+    static float block[GAUGE_DRAWING_BYTES(2) / 4], other[GAUGE_DRAWING_BYTES(3) / 4], sums[GAUGE_SUMS(2)];
     struct gauge_drawing d = gauge_lay(block, 2), back = gauge_lay(other, 3);
     struct gauge_answer answers[2];
     uint8_t image[GAUGE_IMAGE_MAX(2)];
@@ -90,6 +96,12 @@ static void expect_example(void)
     expect(memcmp(&answers[0], &far, 24) == 0, "the source's first answer");
     expect(gauge_drawing_winding(&back, points, 2, windings) == 2, "two windings");
     expect(windings[0] == 0 && windings[1] == 0, "seen from the side a triangle covers no angle");
+
+    expect(gauge_drawing_node_sums(&back, sums) == 3, "the sums of three nodes");
+    expect(sums[2] == 0.5f && sums[18] == 0.5f && sums[34] == 1 && sums[45] > 5.3f && sums[45] < 5.4f, "areas, and where the middle is");
+    expect(gauge_drawing_fast_winding(&back, sums, points, 2, 2, windings) == 2, "two fast windings");
+    expect(windings[0] == 0 && windings[1] == 0, "seen from the side a dipole covers no angle");
+    expect(gauge_drawing_fast_winding(&back, sums, points, 2, GAUGE_MAX_SCALE * 2, windings) == (uint64_t)GAUGE_SCALE << 56, "a scale too large");
 }
 
 int main(void)

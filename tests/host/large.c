@@ -1,6 +1,6 @@
 /* Large drawings through the calls from C: the trees are those that the Rust builds (the lines of large.txt, which tests/oracle/large.rs
- * makes, as counts and digests). Each tree is then checked, written, read back and asked beside the plain reading. One triangle more than
- * the limit is refused.
+ * makes, as counts and digests). Each tree is then checked, written, read back and asked beside the plain reading, which makes the sums
+ * of its nodes too. One triangle more than the limit is refused.
  *
  *     large tests/host/large.txt
  */
@@ -89,6 +89,25 @@ static void image_of(const struct gauge_drawing *d, const char *line)
     free(image);
 }
 
+/* The sums of the tree, and the winding numbers by them. No sum of these drawings is a NaN, whose bits are open. */
+static void wound(const struct gauge_drawing *d, const float *points, const char *line)
+{
+    static const float scales[] = {0, 1, 2, 1000};
+    float *sums = room(4 * GAUGE_SUMS(d->count)), *plain_sums = room(64 * d->nodes), ours[POINTS], plain[POINTS];
+    expect(gauge_drawing_node_sums(d, sums) == d->nodes, "the count of sums", line);
+    plain_node_sums(d->triangles, 9 * d->count, d->order, d->count, d->links, 3 * d->nodes, d->boxes, 6 * d->nodes, d->nodes, plain_sums, 16 * d->nodes);
+    expect(memcmp(sums, plain_sums, 64 * d->nodes) == 0, "the sums", line);
+    for (size_t i = 0; i < sizeof scales / sizeof *scales; i++) {
+        size_t count = i < 3 ? POINTS : 1; /* the last measures every triangle */
+        expect(gauge_drawing_fast_winding(d, sums, points, count, scales[i], ours) == count, "the count of fast windings", line);
+        plain_fast_winding(d->triangles, 9 * d->count, d->order, d->count, d->links, 3 * d->nodes, d->boxes, 6 * d->nodes, d->nodes, sums,
+                           16 * d->nodes, (const uint8_t *)points, 12 * count, scales[i], (uint8_t *)plain, sizeof plain);
+        expect(memcmp(ours, plain, 4 * count) == 0, "the fast windings", line);
+    }
+    free(sums);
+    free(plain_sums);
+}
+
 static void asked(const struct gauge_drawing *d, const char *line)
 {
     float points[3 * POINTS];
@@ -98,6 +117,7 @@ static void asked(const struct gauge_drawing *d, const char *line)
         state = (state * 1103515245 + 12345) % ((uint64_t)1 << 31);
         points[i] = (float)(state / 256 % 4096) / 16.0f;
     }
+    wound(d, points, line);
     for (int reach = 0; reach < 2; reach++) {
         float distance = reach == 0 ? 2.5f : GAUGE_MAX_DISTANCE;
         expect(gauge_drawing_sure(d, points, POINTS, distance, ours) == POINTS, "the sure query's count", line);
@@ -143,7 +163,7 @@ static void limits(void)
     image_of(&d, "65,536 in one leaf");
     free(image);
 
-    float *more = room(36 * (n + 1)), *many = room(48 * (n + 1));
+    float *more = room(36 * (n + 1)), *many = room(48 * (n + 1)), sums[16];
     uint32_t *lists = room(24 * (n + 1));
     struct gauge_answer answer = {0, 0, 0, 0, 0, 0};
     draw(more, n + 1, 1000);
@@ -154,6 +174,9 @@ static void limits(void)
     expect(gauge_sure(more, 9 * (n + 1), lists, n + 1, lists, 3, many, 6, 1, (uint8_t *)more, 12, 1, (uint8_t *)&answer, sizeof answer) == three,
            "a query is no refusal 3", "65,537");
     expect(gauge_winding(more, 9 * (n + 1), (uint8_t *)more, 12, (uint8_t *)&answer, 4) == three, "winding is no refusal 3", "65,537");
+    expect(gauge_node_sums(more, 9 * (n + 1), lists, n + 1, lists, 3, many, 6, 1, sums, 16) == three, "sums are no refusal 3", "65,537");
+    expect(gauge_fast_winding(more, 9 * (n + 1), lists, n + 1, lists, 3, many, 6, 1, many, 16, (uint8_t *)more, 12, 2, (uint8_t *)&answer, 4) == three,
+           "fast winding is no refusal 3", "65,537");
     expect(gauge_write(2, 1, 40, more, 9 * (n + 1), lists, n + 1, lists, 3, many, 6, 1, (uint8_t *)many, 48 * n) == three, "writing is no refusal 3", "65,537");
     free(d.triangles);
     free(more);

@@ -34,11 +34,22 @@ uint64_t plain_winding(const float *triangles, size_t triangles_length,
                        const uint8_t *points, size_t points_length,
                        uint8_t *windings, size_t windings_length);
 
+uint64_t plain_node_sums(const float *triangles, size_t triangles_length, const uint32_t *order, size_t order_length,
+                         const uint32_t *links, size_t links_length, const float *boxes, size_t boxes_length, size_t nodes,
+                         float *sums, size_t sums_length);
+uint64_t plain_fast_winding(const float *triangles, size_t triangles_length, const uint32_t *order, size_t order_length,
+                            const uint32_t *links, size_t links_length, const float *boxes, size_t boxes_length, size_t nodes,
+                            const float *sums, size_t sums_length, const uint8_t *points, size_t points_length, float scale,
+                            uint8_t *windings, size_t windings_length);
+
 /* The lists of a tree of so many levels, each branch with one leaf of one triangle, at its right or at
  * its left; the leaf at the bottom has the rest. Returns its nodes. */
 size_t plain_chain(size_t levels, int leaves_right, const float *triangles, size_t count, uint32_t *order, uint32_t *links, float *boxes);
 
-/* How many angles plain_winding has made, and how many of them were more than 2^-20 off atan2. */
+/* How many angles the two winding calls have made, and how many of them were more than 2^-20 off atan2. */
 extern uint64_t plain_angles, plain_angles_off;
+
+/* How many nodes were far from a point, and of how many of them the far term was not finite. */
+extern uint64_t plain_far, plain_far_not_finite;
 
 #endif

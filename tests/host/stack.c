@@ -13,18 +13,19 @@
 #include <sys/mman.h>
 #include <unistd.h>
 
-enum { READ, BUILD, WRITE, CHECK, SURE, SOURCE, WINDING, CALLS };
+enum { READ, BUILD, WRITE, CHECK, SURE, SOURCE, WINDING, NODE_SUMS, FAST, CALLS };
 enum { N = GAUGE_MAX_TRIANGLES, POINTS = 8, LEVELS = GAUGE_MAX_DEPTH, BELOW = 64 << 20, PAINT = 0xa5 };
-static const char *const names[CALLS] = {"gauge_read", "gauge_build", "gauge_write", "gauge_check", "gauge_sure", "gauge_source", "gauge_winding"};
-static const size_t stated[CALLS] = {GAUGE_STACK_READ, GAUGE_STACK_BUILD, GAUGE_STACK_WRITE, GAUGE_STACK_CHECK,
-                                     GAUGE_STACK_SURE, GAUGE_STACK_SOURCE, GAUGE_STACK_WINDING};
+static const char *const names[CALLS] = {"gauge_read", "gauge_build", "gauge_write", "gauge_check", "gauge_sure", "gauge_source",
+                                         "gauge_winding", "gauge_node_sums", "gauge_fast_winding"};
+static const size_t stated[CALLS] = {GAUGE_STACK_READ, GAUGE_STACK_BUILD, GAUGE_STACK_WRITE, GAUGE_STACK_CHECK, GAUGE_STACK_SURE,
+                                     GAUGE_STACK_SOURCE, GAUGE_STACK_WINDING, GAUGE_STACK_NODE_SUMS, GAUGE_STACK_FAST_WINDING};
 
 /* The drawing that is asked, its image, and another drawing that this is read into. */
 static float block[GAUGE_DRAWING_BYTES(N) / 4], other_block[GAUGE_DRAWING_BYTES(N) / 4];
 static struct gauge_drawing d, other;
 static uint8_t image[GAUGE_IMAGE_MAX(N)];
 static size_t image_length, strategy;
-static float points[3 * POINTS], winding;
+static float points[3 * POINTS], winding, sums[GAUGE_SUMS(N)], scale;
 static struct gauge_answer answers[POINTS];
 static int failed;
 
@@ -69,8 +70,14 @@ static void *run(void *given)
     case SOURCE:
         job->returned = gauge_drawing_source(&d, points, POINTS, GAUGE_MAX_DISTANCE, answers);
         break;
-    default:
+    case WINDING:
         job->returned = gauge_drawing_winding(&d, points, 1, &winding);
+        break;
+    case NODE_SUMS:
+        job->returned = gauge_drawing_node_sums(&d, sums);
+        break;
+    default:
+        job->returned = gauge_drawing_fast_winding(&d, sums, points, 1, scale, &winding);
     }
     return NULL;
 }
@@ -131,6 +138,9 @@ static void ask_tree(const char *input)
     expect(SURE, POINTS, input);
     expect(SOURCE, POINTS, input);
     expect(WINDING, 1, input);
+    expect(NODE_SUMS, d.nodes, input);
+    for (scale = 0; scale <= GAUGE_MAX_SCALE; scale += GAUGE_MAX_SCALE / 2) /* from the root alone to every leaf */
+        expect(FAST, 1, input);
 }
 
 /* The levels from a node down, and 65 where there are more. */
@@ -210,6 +220,6 @@ int main(void)
     ask_chain(1, "a chain of 65,536, leaves at the right");
     ask_chain(0, "a chain of 65,536, leaves at the left");
     for (int call = 0; call < CALLS; call++)
-        printf("%-13s took %7zu bytes of stack at most, %7zu are stated\n", names[call], most[call], stated[call]);
+        printf("%-18s took %7zu bytes of stack at most, %7zu are stated\n", names[call], most[call], stated[call]);
     return failed;
 }

@@ -7,9 +7,11 @@ ghost use Rattle.image.specs.Values.{imageFrom};
 ghost use Rattle.spec_host.specs.Status.{status};
 ghost use Rattle.spec_host.specs.Build.{BuildPut};
 ghost use Rattle.spec_host.specs.Images.{imageMax, layoutRefusal, imageTriangles, WritePut, ReadPut};
-ghost use Rattle.spec_host.specs.Requests.{QueryIs, WindingIs};
+ghost use Rattle.spec_host.specs.Requests.{QueryIs, WindingIs, SumsIs, FastIs};
 use host_ask::calls::check_lists;
+use host_ask::calls::fast_points;
 use host_ask::calls::source_points;
+use host_ask::calls::sums_lists;
 use host_ask::calls::sure_points;
 use host_ask::calls::winding_points;
 use host_build::calls::build_lists;
@@ -211,4 +213,49 @@ pub extern "C" fn gauge_winding(triangles: &[f32], points: &[u8], windings: &mut
     ensures { λ r. ⌜ WindingIs (now (triangles .entry)) (now (points .entry)) (now (windings .entry)) r (now (windings .exit)) ⌝ }
 {
     winding_points(triangles, points, windings)
+}
+
+// Writes the dipoles of the tree, sixteen numbers a node. The status is the number of nodes.
+#[no_mangle]
+pub extern "C" fn gauge_node_sums(
+    triangles: &[f32],
+    order: &[u32],
+    links: &[u32],
+    boxes: &[f32],
+    nodes: usize,
+    sums: &mut [f32],
+) -> u64
+    ensures { λ r. ⌜ SumsIs (now (triangles .entry)) (now (order .entry)) (now (links .entry)) (now (boxes .entry)) nodes (now (sums .entry)) r
+        (now (sums .exit)) ⌝ }
+{
+    sums_lists(triangles, order, links, boxes, nodes, sums)
+}
+
+// Writes the winding number by dipoles about each point. The status is the number of points.
+#[no_mangle]
+pub extern "C" fn gauge_fast_winding(
+    triangles: &[f32],
+    order: &[u32],
+    links: &[u32],
+    boxes: &[f32],
+    nodes: usize,
+    sums: &[f32],
+    points: &[u8],
+    scale: f32,
+    windings: &mut [u8],
+) -> u64
+    ensures { λ r. ⌜ FastIs (now (triangles .entry)) (now (order .entry)) (now (links .entry)) (now (boxes .entry)) nodes (now (sums .entry))
+        (now (points .entry)) scale (now (windings .entry)) r (now (windings .exit)) ⌝ }
+{
+    fast_points(
+        triangles,
+        order,
+        links,
+        boxes,
+        nodes,
+        sums,
+        points,
+        scale,
+        windings,
+    )
 }

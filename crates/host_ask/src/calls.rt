@@ -5,9 +5,11 @@ ghost use Rattle.spec_tree.specs.Refusals.{checkRefusal};
 ghost use Rattle.spec_search.specs.Answers.{sure, source};
 ghost use Rattle.walks.specs.Values.{asQuery};
 ghost use Rattle.spec_host.specs.Status.{status};
-ghost use Rattle.spec_host.specs.Requests.{QueryIs, WindingIs};
+ghost use Rattle.spec_host.specs.Requests.{QueryIs, WindingIs, SumsIs, FastIs};
+use crate::fast_windings::fast_winding;
 use crate::point_queries::ask;
 use crate::point_windings::winding;
+use dipoles::calls::node_sums;
 use host_bytes::status::encode;
 use lists::tests::triangle_count;
 use tree::calls::check;
@@ -118,5 +120,51 @@ pub fn winding_points(triangles: &[f32], points: &[u8], windings: &mut [u8]) -> 
     ensures { λ r. ⌜ WindingIs (now (triangles .entry)) (now (points .entry)) (now (windings .entry)) r (now (windings .exit)) ⌝ }
 {
     let verdict = winding(triangles, points, windings);
+    encode(verdict, points.len() / 12)
+}
+
+// Writes the dipoles of the tree, sixteen numbers a node: tests 1 to 4, 6 and 7. The status is the number of nodes.
+pub fn sums_lists(
+    triangles: &[f32],
+    order: &[u32],
+    links: &[u32],
+    boxes: &[f32],
+    nodes: usize,
+    sums: &mut [f32],
+) -> u64
+    ensures { λ r. ⌜ SumsIs (now (triangles .entry)) (now (order .entry)) (now (links .entry)) (now (boxes .entry)) nodes (now (sums .entry)) r
+        (now (sums .exit)) ⌝ }
+{
+    let verdict = node_sums(triangles, order, links, boxes, nodes, sums);
+    encode(verdict, nodes)
+}
+
+// Writes the winding number by dipoles about each point, an f32 in four bytes: tests 1 to 4, 6, 7, 8 and 14.
+// The status is the number of points.
+pub fn fast_points(
+    triangles: &[f32],
+    order: &[u32],
+    links: &[u32],
+    boxes: &[f32],
+    nodes: usize,
+    sums: &[f32],
+    points: &[u8],
+    accuracy: f32,
+    windings: &mut [u8],
+) -> u64
+    ensures { λ r. ⌜ FastIs (now (triangles .entry)) (now (order .entry)) (now (links .entry)) (now (boxes .entry)) nodes (now (sums .entry))
+        (now (points .entry)) accuracy (now (windings .entry)) r (now (windings .exit)) ⌝ }
+{
+    let verdict = fast_winding(
+        triangles,
+        order,
+        links,
+        boxes,
+        nodes,
+        sums,
+        points,
+        accuracy,
+        windings,
+    );
     encode(verdict, points.len() / 12)
 }

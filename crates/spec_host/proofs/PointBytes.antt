@@ -1,7 +1,7 @@
 -- What is read of point bytes, what bytes that passed give, and what a loop over the points writes.
 use mathlib.Core.Path.{_≡_, refl, sym, ap, _∙_}
 use mathlib.Core.Bool.{true}
-use mathlib.Core.List.{List, _++_, append-assoc, append-nil}
+use mathlib.Core.List.{List, [], _∷_, _++_, append-assoc, append-nil}
 use Prim.Native.Nat.{ℕ, zero, suc, _+_, _*_, _/_, _%_, _≤_, _<_}
 use native.Mathlib.Nat.{zero-add, add-zero, add-suc}
 use native.Mathlib.Omega.{arith}
@@ -26,8 +26,7 @@ use Rattle.spec_lists.proofs.Verdicts.{all-pass, so, refusal-leaves}
 use Rattle.spec_lists.proofs.Passed.{coordinates-passed}
 use Rattle.spec_search.specs.Answers.{Answer, nothing, found, sixWords}
 use Rattle.spec_search.specs.Calls.{answerWords, afterQuery}
-use Rattle.spec_angles.specs.Windings.{windingAt, written}
-use Rattle.spec_host.specs.PointBytes.{numbersOf, bytesOf, pointBytesRefusal, wordBytes, answerBytes, windings, windingBytes, afterBytes}
+use Rattle.spec_host.specs.PointBytes.{numbersOf, bytesOf, pointBytesRefusal, wordBytes, answerBytes, afterBytes}
 
 -- ---- what is read
 module _ (s : List ℕ) where
@@ -145,38 +144,36 @@ module _ (answer : Point → Answer) (points old : List ℕ) where
       ∙ ap (λ (new : List ℕ). overwrite 0 new old)
       (sym (word-concatMap (λ j. sixWords binary32 (answer (pointAt (numbersOf points) (3 * j)))) (pointCount (numbersOf points))))
 
--- ---- the loop over the points that writes winding numbers
-module _ (triangles : List Float) (points old : List ℕ) where
-  abbrev turn : ℕ → List ℕ
-  turn k = little 4 (toBits binary32 (windingAt binary32 triangles (numbersOf points) k))
+-- ---- the loop over the points that writes a number a point: winding numbers, exact ones and those by dipoles
+module _ (number : ℕ → Float) (points old : List ℕ) where
+  abbrev bytes : ℕ → List ℕ
+  bytes k = little 4 (toBits binary32 (number k))
 
-  -- k of n winding numbers stand at the front of out
-  abbrev pub WindingsPut : (n : ℕ) (out : List ℕ) (k : ℕ) → Type 0
-  WindingsPut n out k = Run turn 0 n old out k
+  -- k of n numbers stand at the front of out
+  abbrev pub NumbersPut : (n : ℕ) (out : List ℕ) (k : ℕ) → Type 0
+  NumbersPut n out k = Run bytes 0 n old out k
 
-  -- before the first turn no winding number is written
-  pub windings-start : (n : ℕ) → WindingsPut n old 0
-  windings-start n = run-start turn 4 0 n old
+  -- before the first turn no number is written
+  pub numbers-start : (n : ℕ) → NumbersPut n old 0
+  numbers-start n = run-start bytes 4 0 n old
 
-  -- a turn of the loop writes the next point's winding number behind the others
-  pub windings-more : (n : ℕ) (out new : List ℕ) (k bits : ℕ) → 4 * n ≤ length old → k < n → WindingsPut n out k
-      → bits ≡ toBits binary32 (windingAt binary32 triangles (numbersOf points) k)
-      → new ≡ overwrite (4 * k) (little 4 bits) out → WindingsPut n new (k + 1)
-  windings-more n out new k bits room l r e h =
-      run-front turn 4 n old out new k (λ j. length-little 4 _) room l r (h ∙ ap (λ (b : ℕ). overwrite (4 * k) (little 4 b) out) e)
+  -- a turn of the loop writes the next point's number behind the others
+  pub numbers-more : (n : ℕ) (out new : List ℕ) (k bits : ℕ) → 4 * n ≤ length old → k < n → NumbersPut n out k
+      → bits ≡ toBits binary32 (number k) → new ≡ overwrite (4 * k) (little 4 bits) out → NumbersPut n new (k + 1)
+  numbers-more n out new k bits room l r e h =
+      run-front bytes 4 n old out new k (λ j. length-little 4 _) room l r (h ∙ ap (λ (b : ℕ). overwrite (4 * k) (little 4 b) out) e)
 
-  -- after the last turn the winding numbers about all points stand at the front
-  pub windings-end : (n : ℕ) (out : List ℕ) (k : ℕ) → n ≡ length points / 12 → n ≤ k → WindingsPut n out k
-      → out ≡ overwrite 0 (windingBytes triangles points) old
-  unfolding windingBytes windings
-  windings-end n out k e l r =
-      run-end turn 0 n old out k l r
-      ∙ ap (λ (m : ℕ). overwrite 0 (concatMap turn m) old) (e ∙ sym (points-count points))
+  -- after the last turn the numbers of all points stand at the front
+  pub numbers-end : (n : ℕ) (out : List ℕ) (k : ℕ) → n ≡ length points / 12 → n ≤ k → NumbersPut n out k
+      → out ≡ overwrite 0 (bytesOf (concatMap (λ j. number j ∷ []) (pointCount (numbersOf points)))) old
+  numbers-end n out k e l r =
+      let count = pointCount (numbersOf points) in
+      run-end bytes 0 n old out k l r
+      ∙ ap (λ (m : ℕ). overwrite 0 (concatMap bytes m) old) (e ∙ sym (points-count points))
       ∙ ap (λ (new : List ℕ). overwrite 0 new old)
-      (concatMap-same turn _ (pointCount (numbersOf points))
-      (λ i h. ap (λ (x : Float). little 4 (toBits binary32 x)) (sym (getD-concatMap nan (windingAt binary32 triangles (numbersOf points))
-      (pointCount (numbersOf points)) (0 + i) (rw zero-add h) ∙ ap (windingAt binary32 triangles (numbersOf points)) (zero-add i))))
-      ∙ ap (floatBytes binary32 (windings triangles (numbersOf points)) 0) (sym (length-singles _ (pointCount (numbersOf points)))))
+      (concatMap-same bytes _ count
+      (λ i h. ap (λ (x : Float). little 4 (toBits binary32 x)) (sym (getD-concatMap nan number count (0 + i) (rw zero-add h) ∙ ap number (zero-add i))))
+      ∙ ap (floatBytes binary32 (concatMap (λ j. number j ∷ []) count) 0) (sym (length-singles number count)))
 
 -- ---- the lent bytes afterwards
 -- a call that refuses keeps its contract by leaving the lent bytes as they were
@@ -208,13 +205,14 @@ answers-after answer points old passes room =
     sym (entries-overwrite (little 4) 0 4 (length-little 4) words old (omega (arith, room refl, points-count points)))
 answers-after answer points old (refused number place) room = refl
 
--- in bytes that hold numbers, winding numbers are left as the numbers that the list call leaves
-pub windings-after : (triangles old : List Float) (points : List ℕ) (v : Verdict) → (v ≡ passes → length points / 12 ≤ length old)
-    → afterBytes v (windingBytes triangles points) (bytesOf old) ≡ bytesOf (afterVerdict v (written binary32 triangles (numbersOf points) old) old)
-unfolding afterBytes windingBytes windings written
-windings-after triangles old points passes room =
-    let turns : List Float = windings triangles (numbersOf points) in
-    let long : length turns ≡ pointCount (numbersOf points) = length-singles _ (pointCount (numbersOf points)) in
-    sym (entries-overwrite (λ x. little 4 (toBits binary32 x)) nan 4 (λ x. length-little 4 (toBits binary32 x)) turns old
+-- in bytes that hold numbers, a number a point is left as the numbers that a list call leaves
+pub numbers-after : (number : ℕ → Float) (points : List ℕ) (old : List Float) (v : Verdict) → (v ≡ passes → length points / 12 ≤ length old)
+    → afterBytes v (bytesOf (concatMap (λ k. number k ∷ []) (pointCount (numbersOf points)))) (bytesOf old)
+    ≡ bytesOf (afterVerdict v (overwrite 0 (concatMap (λ k. number k ∷ []) (pointCount (numbersOf points))) old) old)
+unfolding afterBytes
+numbers-after number points old passes room =
+    let new : List Float = concatMap (λ k. number k ∷ []) (pointCount (numbersOf points)) in
+    let long : length new ≡ pointCount (numbersOf points) = length-singles number (pointCount (numbersOf points)) in
+    sym (entries-overwrite (λ x. little 4 (toBits binary32 x)) nan 4 (λ x. length-little 4 (toBits binary32 x)) new old
     (omega (arith, room refl, points-count points)))
-windings-after triangles old points (refused number place) room = refl
+numbers-after number points old (refused number₂ place) room = refl

@@ -14,10 +14,13 @@ use Rattle.spec_lists.proofs.Verdicts.{all-pass, so}
 use Rattle.spec_lists.proofs.Passed.{triangles-passed, room-passed}
 use Rattle.spec_tree.specs.Refusals.{treeRefusal, checkRefusal}
 use Rattle.spec_search.specs.Calls.{Searchable}
+use Rattle.spec_dipoles.specs.Calls.{sumsRefusal}
+use Rattle.spec_dipoles.specs.Stored.{RootIn}
+use Rattle.spec_dipoles.proofs.Readable.{tree-passed, accepted-root}
 use Rattle.spec_host.specs.Status.{Placed, InPlace}
 use Rattle.spec_host.specs.PointBytes.{numbersOf, pointBytesRefusal}
-use Rattle.spec_host.specs.Requests.{queryBytesRefusal, windingBytesRefusal}
-use Rattle.spec_host.proofs.Status.{no-test, then-test, placed, triangles-encodable, room-encodable, tree-encodable, distance-encodable}
+use Rattle.spec_host.specs.Requests.{queryBytesRefusal, windingBytesRefusal, fastBytesRefusal}
+use Rattle.spec_host.proofs.Status.{no-test, then-test, placed, triangles-encodable, room-encodable, tree-encodable, distance-encodable, scale-encodable}
 use Rattle.spec_host.proofs.PointBytes.{numbers-long, point-bytes-passed}
 
 -- ---- the tests of point bytes
@@ -79,3 +82,36 @@ module _ (triangles : List Float) (points : List ℕ) (room : ℕ) where
       then-test _ _ (triangles-encodable triangles)
       (λ _. then-test _ _ (room-encodable (room / 4) (length points / 12))
       (λ _. then-test _ _ (point-bytes-encodable points fits) (λ _. no-test)))
+
+-- ---- the dipoles, and the winding numbers by them
+module _ (triangles : List Float) (order links : List ℕ) (boxes : List Float) (nodes : ℕ) where
+  -- every verdict of the call that makes the dipoles can be encoded in the status
+  pub sums-encodable : (room : ℕ) → InPlace (sumsRefusal triangles order links boxes nodes room)
+  unfolding sumsRefusal
+  sums-encodable room =
+      then-test _ _ (triangles-encodable triangles)
+      (λ _. then-test _ _ (room-encodable (room / 16) nodes)
+      (λ _. then-test _ _ (tree-encodable triangles order links boxes nodes) (λ _. no-test)))
+
+  module _ (sums : List Float) (points : List ℕ) (accuracy : Float) (room : ℕ) where
+    -- lists that pass the tests of the call by dipoles have what the walk needs, and there is room for a number a point
+    pub fast-passed : fastBytesRefusal triangles order links boxes nodes sums points accuracy room ≡ passes
+        → RootIn triangles order links sums nodes × (4 * (length points / 12) ≤ room)
+    unfolding fastBytesRefusal treeRefusal
+    fast-passed e =
+        let all = all-pass _ e in
+        let enough : length points / 12 ≤ room / 4 = room-passed _ _ (all .1 .0) in
+        let numbers : nodes ≤ length sums / 16 = room-passed _ _ (all .1 .1 .0) in
+        let yes = tree-passed triangles order links boxes nodes (all .1 .1 .1 .0) in
+        (accepted-root triangles order links boxes nodes yes sums numbers, omega arith)
+
+    -- every verdict of the call by dipoles can be encoded in the status
+    pub fast-encodable : length points < 2 ^ 63 → InPlace (fastBytesRefusal triangles order links boxes nodes sums points accuracy room)
+    unfolding fastBytesRefusal
+    fast-encodable fits =
+        then-test _ _ (triangles-encodable triangles)
+        (λ _. then-test _ _ (room-encodable (room / 4) (length points / 12))
+        (λ _. then-test _ _ (room-encodable (length sums / 16) nodes)
+        (λ _. then-test _ _ (tree-encodable triangles order links boxes nodes)
+        (λ _. then-test _ _ (point-bytes-encodable points fits)
+        (λ _. then-test _ _ (scale-encodable accuracy) (λ _. no-test))))))

@@ -11,7 +11,7 @@ use lib.ListN.{length}
 use borrow.Author.Tests.{eqb-true, ltb-true, ltb-false, le-leb, lt-leb}
 use Rattle.spec_lists.specs.Limits.{maxTriangles}
 use Rattle.spec_lists.specs.Reading.{triangleCount}
-use Rattle.spec_lists.specs.Refusals.{Verdict, passes, refused, firstRefusal, refusedIf, raggedRefusal, noneRefusal, tooManyRefusal, coordinateRefusal, trianglesRefusal, Settings, settingsRefusal, roomRefusal, distanceRefusal, firstBad, areSettings, isDistance}
+use Rattle.spec_lists.specs.Refusals.{Verdict, passes, refused, firstRefusal, refusedIf, raggedRefusal, noneRefusal, tooManyRefusal, coordinateRefusal, trianglesRefusal, Settings, settingsRefusal, roomRefusal, distanceRefusal, scaleRefusal, firstBad, areSettings, isDistance, isScale}
 use Rattle.spec_lists.proofs.Verdicts.{not-refused}
 use Rattle.spec_tree.specs.Accepted.{accepted}
 use Rattle.spec_tree.specs.Refusals.{treeRefusal}
@@ -24,7 +24,7 @@ decoded-8 place h =
     let top = le-leb (2 ^ 63) (2 ^ 63 + place) (omega arith) in
     (rw top, rw top (omega arith))
 
-decoded-other : (number place : ℕ) → number ≤ 10 → place < 2 ^ 56
+decoded-other : (number place : ℕ) → number ≤ 127 → place < 2 ^ 56
     → (statusNumber (number * 2 ^ 56 + place) ≡ number) × (statusPlace (number * 2 ^ 56 + place) ≡ place)
 unfolding statusNumber statusPlace
 decoded-other number place m h =
@@ -64,7 +64,7 @@ decoded (refused number place) count ok few = refusal-decoded number place ok
 
 -- ---- verdicts that can be encoded
 -- a refusal at place 0 can be encoded
-pub at-zero : (b : Bool) (number : ℕ) → 1 ≤ number → number ≤ 10 → InPlace (refusedIf b number 0)
+pub at-zero : (b : Bool) (number : ℕ) → 1 ≤ number → number ≤ 127 → InPlace (refusedIf b number 0)
 at-zero true number s m = record { some = s; most = m; near = go (eqb number 8) }
   where
     go : (b : Bool) → 0 < cond b (2 ^ 63) (2 ^ 56)
@@ -122,6 +122,11 @@ room-encodable given need = at-zero (ltb given need) 6 (omega arith) (omega arit
 pub distance-encodable : (d : Float) → InPlace (distanceRefusal d)
 unfolding distanceRefusal
 distance-encodable d = at-zero (not (isDistance d)) 9 (omega arith) (omega arith)
+
+-- the test of the accuracy scale can be encoded
+pub scale-encodable : (s : Float) → InPlace (scaleRefusal s)
+unfolding scaleRefusal
+scale-encodable s = at-zero (not (isScale s)) 14 (omega arith) (omega arith)
 
 -- the test of the tree can be encoded
 pub tree-encodable : (triangles : List Float) (order links : List ℕ) (boxes : List Float) (nodes : ℕ) → InPlace (treeRefusal triangles order links boxes nodes)

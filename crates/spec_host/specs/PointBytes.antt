@@ -13,6 +13,7 @@ use Rattle.spec_lists.specs.Refusals.{Verdict, refusedIf, firstRefusal, coordin
 use Rattle.spec_search.specs.Answers.{Answer}
 use Rattle.spec_search.specs.Calls.{answerWords}
 use Rattle.spec_angles.specs.Windings.{windingAt}
+use Rattle.spec_dipoles.specs.Calls.{fastWindings}
 
 -- the numbers that bytes hold, four bytes each
 abbrev pub numbersOf : List ℕ → List Float
@@ -41,6 +42,11 @@ windings triangles points = concatMap (λ k. windingAt binary32 triangles points
 -- the winding numbers as bytes, four each
 unfoldable pub windingBytes : (triangles : List Float) (points : List ℕ) → List ℕ
 windingBytes triangles points = bytesOf (windings triangles (numbersOf points))
+
+-- the winding numbers by dipoles about all points, likewise
+unfoldable pub fastBytes : (triangles : List Float) (order links : List ℕ) (nodes : ℕ) (sums : List Float) (accuracy : Float) (points : List ℕ) → List ℕ
+fastBytes triangles order links nodes sums accuracy points =
+    bytesOf (fastWindings binary32 triangles order links nodes sums accuracy (numbersOf points))
 
 -- the lent bytes afterwards: with what is written at the front, and on a refusal as they were
 unfoldable pub afterBytes : Verdict → (new old : List ℕ) → List ℕ

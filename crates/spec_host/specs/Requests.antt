@@ -5,12 +5,13 @@ use mathlib.Core.Path.{_≡_}
 use mathlib.Core.List.{List, [], _∷_}
 use lib.ListN.{length}
 use lib.Ieee.{Float, binary32}
-use Rattle.spec_lists.specs.Refusals.{Verdict, firstRefusal, trianglesRefusal, roomRefusal, distanceRefusal}
+use Rattle.spec_lists.specs.Refusals.{Verdict, firstRefusal, trianglesRefusal, roomRefusal, distanceRefusal, scaleRefusal}
 use Rattle.spec_tree.specs.Refusals.{treeRefusal}
+use Rattle.spec_dipoles.specs.Calls.{sumsRefusal, afterSums}
 use Rattle.spec_search.specs.Answers.{Query}
 use Rattle.spec_search.specs.Calls.{answerBy}
 use Rattle.spec_host.specs.Status.{status}
-use Rattle.spec_host.specs.PointBytes.{pointBytesRefusal, answerBytes, windingBytes, afterBytes}
+use Rattle.spec_host.specs.PointBytes.{pointBytesRefusal, answerBytes, windingBytes, fastBytes, afterBytes}
 
 -- 1 to 4, 6 to 9
 unfoldable pub queryBytesRefusal : (triangles : List Float) (order links : List ℕ) (boxes : List Float) (nodes : ℕ) (points : List ℕ) (distance : Float)
@@ -28,6 +29,17 @@ windingBytesRefusal triangles points room =
     firstRefusal
     (trianglesRefusal triangles ∷ roomRefusal (room / 4) (length points / 12) ∷ pointBytesRefusal points ∷ [])
 
+-- 1 to 4, 6, 7, 8, 14
+unfoldable pub fastBytesRefusal : (triangles : List Float) (order links : List ℕ) (boxes : List Float) (nodes : ℕ) (sums : List Float) (points : List ℕ)
+    (accuracy : Float) (room : ℕ) → Verdict
+fastBytesRefusal triangles order links boxes nodes sums points accuracy room =
+    firstRefusal
+    (trianglesRefusal triangles
+    ∷ roomRefusal (room / 4) (length points / 12)
+    ∷ roomRefusal (length sums / 16) nodes
+    ∷ treeRefusal triangles order links boxes nodes
+    ∷ pointBytesRefusal points ∷ scaleRefusal accuracy ∷ [])
+
 -- ---- the contracts: the status counts points, and the lent bytes hold an answer a point from the front, on a refusal what they held
 -- a query answers r and leaves `new`
 pub record QueryIs (query : Query) (triangles : List Float) (order links : List ℕ) (boxes : List Float) (nodes : ℕ) (points : List ℕ) (distance : Float)
@@ -40,3 +52,15 @@ pub record QueryIs (query : Query) (triangles : List Float) (order links : List 
 pub record WindingIs (triangles : List Float) (points old : List ℕ) (r : ℕ) (new : List ℕ) : Type 0 where
   pub status-is : r ≡ status (windingBytesRefusal triangles points (length old)) (length points / 12)
   pub windings-are : new ≡ afterBytes (windingBytesRefusal triangles points (length old)) (windingBytes triangles points) old
+
+-- the call that makes the dipoles answers r and leaves `new`, as the list call leaves it; the status counts nodes
+pub record SumsIs (triangles : List Float) (order links : List ℕ) (boxes : List Float) (nodes : ℕ) (old : List Float) (r : ℕ) (new : List Float) : Type 0 where
+  pub status-is : r ≡ status (sumsRefusal triangles order links boxes nodes (length old)) nodes
+  pub sums-are : new ≡ afterSums binary32 triangles order links boxes nodes old
+
+-- the call of winding numbers by dipoles answers r and leaves `new`
+pub record FastIs (triangles : List Float) (order links : List ℕ) (boxes : List Float) (nodes : ℕ) (sums : List Float) (points : List ℕ) (accuracy : Float)
+    (old : List ℕ) (r : ℕ) (new : List ℕ) : Type 0 where
+  pub status-is : r ≡ status (fastBytesRefusal triangles order links boxes nodes sums points accuracy (length old)) (length points / 12)
+  pub windings-are : new ≡ afterBytes (fastBytesRefusal triangles order links boxes nodes sums points accuracy (length old))
+      (fastBytes triangles order links nodes sums accuracy points) old

@@ -34,7 +34,7 @@ placesOf number = cond (eqb number 8) (2 ^ 63) (2 ^ 56)
 
 pub record Placed (number place : ℕ) : Type 0 where
   pub some : 1 ≤ number
-  pub most : number ≤ 10
+  pub most : number ≤ 127
   pub near : place < placesOf number
 
 abbrev pub InPlace : Verdict → Type 0
