@@ -10,59 +10,23 @@
 //! This engine is given the numbers as they were made, minus zeros too; the oracle and the scan read each as itself plus zero.
 
 use shark::{
-    cases::{make, Rng, Wish, FAR, KINDS},
-    request::{Request, Settings, P},
+    cases::{Rng, Wish, FAR, KINDS},
+    request::{Settings, P},
     run::{caught, triangle, Any, Variant},
     spatial_partitioning::aabb_tree::winding_numbers::{solid_angle, winding_number},
 };
 use std::{collections::BTreeMap, time::Instant};
 
+#[path = "beside/asked.rs"]
+mod asked;
 #[path = "beside/engine.rs"]
 mod engine;
 #[path = "beside/scan.rs"]
 mod scan;
+use asked::{v, Asked, Tally};
 use engine::Tree;
 
 const UNIT: f64 = 1.0 / 1048576.0;
-const SHOWN: usize = 10;
-
-/// What was compared under one name, how often it differed, and the first that did.
-struct Tally {
-    name: &'static str,
-    compared: u64,
-    differ: u64,
-    first: Vec<String>,
-}
-
-impl Tally {
-    fn new(name: &'static str) -> Self {
-        Tally { name, compared: 0, differ: 0, first: Vec::new() }
-    }
-
-    fn note(&mut self, same: bool, tell: impl FnOnce() -> String) {
-        self.compared += 1;
-        if !same {
-            self.differ += 1;
-            if self.first.len() < SHOWN {
-                self.first.push(tell());
-            }
-        }
-    }
-
-    fn print(&self) -> u64 {
-        println!("{:>12} {}: {} differ", self.compared, self.name, self.differ);
-        self.first.iter().for_each(|line| println!("             {line}"));
-        self.differ
-    }
-}
-
-fn v(p: &P) -> [f32; 3] {
-    [p.x, p.y, p.z]
-}
-
-fn numbers<'a>(points: impl Iterator<Item = &'a P>) -> Vec<f32> {
-    points.flat_map(v).collect()
-}
 
 /// Triangle, point, squared distance.
 type Answer = Option<(u32, [f32; 3], f32)>;
@@ -142,46 +106,6 @@ fn why(source: Answer, sure: Answer, limit: f32, list: &[[[f32; 3]; 3]], p: [f32
         (Some(a), Some(_)) if a.2 >= limit => "source beyond the limit, sure another within",
         (Some(a), Some(b)) if b.2 < a.2 => "sure nearer, otherwise",
         _ => "source nearer by a point outside its box",
-    }
-}
-
-/// A request as this engine is given it, and as it is read. Its name is what the oracle's `gen` makes it from.
-struct Asked {
-    name: String,
-    settings: Settings,
-    given: Vec<f32>,
-    given_points: Vec<f32>,
-    tris: Vec<[P; 3]>,
-    points: Vec<P>,
-    distance: f32,
-}
-
-impl Asked {
-    fn new(kind: &str, seed: u64, size: usize, wish: &Wish) -> Self {
-        let made = make(kind, seed, size, wish);
-        let read = Request::read(&made.write()).unwrap();
-        let settings = read.settings.unwrap();
-        let one = |key: &str, value: Option<String>| value.map_or(String::new(), |v| format!(" {key}={v}"));
-        let number = |key: &str, value: Option<u16>| one(key, value.map(|v| v.to_string()));
-        let name = format!("{kind} {seed} {size}")
-            + &one("points", wish.points.map(|p| p.to_string()))
-            + &one("spread", wish.spread.clone())
-            + &number("strategy", wish.strategy)
-            + &number("leaf", wish.leaf)
-            + &number("depth", wish.depth);
-        Asked {
-            name,
-            settings,
-            given: numbers(made.triangles.unwrap().iter().flatten()),
-            given_points: numbers(made.points.unwrap().iter()),
-            tris: read.triangles.unwrap(),
-            points: read.points.unwrap(),
-            distance: read.distance.unwrap(),
-        }
-    }
-
-    fn list(&self) -> Vec<[[f32; 3]; 3]> {
-        self.tris.iter().map(|t| [v(&t[0]), v(&t[1]), v(&t[2])]).collect()
     }
 }
 
@@ -521,6 +445,8 @@ fn too_many() -> u64 {
         refused.note(tree.sure(&given, &a.given_points, a.distance).is_none(), || "sure".into());
         refused.note(tree.source(&given, &a.given_points, a.distance).is_none(), || "source".into());
         refused.note(engine::windings(&given, &a.given_points).is_none(), || "winding".into());
+        refused.note(tree.sums(&given).is_none(), || "node sums".into());
+        refused.note(tree.fast(&given, &vec![[0.0; 16]; tree.nodes], &a.given_points, 2.0).is_none(), || "winding by dipoles".into());
     }
     refused.print()
 }

@@ -1,4 +1,4 @@
-//! This engine's exported functions (crates/test_exports) over plain slices, for compare.rs and hazard.rs.
+//! This engine's exported functions (crates/test_exports) over plain slices, for compare.rs, dipoles_compare.rs and hazard.rs.
 
 extern "C" {
     fn timing_build(t: *const f32, tn: usize, strategy: usize, leaf: usize, depth: usize, o: *mut u32, on: usize, l: *mut u32, ln: usize, b: *mut f32, bn: usize, w: *mut f32, wn: usize, c: *mut f32, cn: usize, s: *mut u32, sn: usize) -> usize;
@@ -8,6 +8,8 @@ extern "C" {
     fn timing_sure(t: *const f32, tn: usize, o: *const u32, on: usize, l: *const u32, ln: usize, b: *const f32, bn: usize, nodes: usize, p: *const f32, pn: usize, d: f32, a: *mut u32, an: usize) -> u32;
     fn timing_source(t: *const f32, tn: usize, o: *const u32, on: usize, l: *const u32, ln: usize, b: *const f32, bn: usize, nodes: usize, p: *const f32, pn: usize, d: f32, a: *mut u32, an: usize) -> u32;
     fn timing_winding(t: *const f32, tn: usize, p: *const f32, pn: usize, w: *mut f32, wn: usize) -> u32;
+    fn timing_node_sums(t: *const f32, tn: usize, o: *const u32, on: usize, l: *const u32, ln: usize, b: *const f32, bn: usize, nodes: usize, s: *mut f32, sn: usize) -> u32;
+    fn timing_fast(t: *const f32, tn: usize, o: *const u32, on: usize, l: *const u32, ln: usize, b: *const f32, bn: usize, nodes: usize, s: *const f32, sn: usize, p: *const f32, pn: usize, accuracy: f32, w: *mut f32, wn: usize) -> u32;
     fn timing_solid(t: *const f32, tn: usize, p: *const f32, pn: usize) -> f32;
 }
 
@@ -89,6 +91,31 @@ impl Tree {
         assert!(answered == 1 || a.iter().all(|&x| x == UNTOUCHED), "a refused query wrote");
         let right = answered == 1 && a[need..].iter().all(|&x| x == UNTOUCHED);
         right.then(|| a[..need].chunks_exact(6).map(|w| w.try_into().unwrap()).collect())
+    }
+
+    /// Sixteen numbers a node, or nothing where the call refuses or writes past them.
+    pub fn sums(&self, t: &[f32]) -> Option<Vec<[f32; 16]>> {
+        let (n, l, b, need) = (t.len() / 9, &self.links, &self.boxes, 16 * self.nodes);
+        let mut s = vec![f32::from_bits(UNTOUCHED); need + 1];
+        let answered = unsafe { timing_node_sums(t.as_ptr(), t.len(), self.order.as_ptr(), n, l.as_ptr(), l.len(), b.as_ptr(), b.len(), self.nodes, s.as_mut_ptr(), s.len()) };
+        assert!(answered == 1 || s.iter().all(|x| x.to_bits() == UNTOUCHED), "a refused call wrote");
+        let right = answered == 1 && s[need].to_bits() == UNTOUCHED;
+        right.then(|| s[..need].chunks_exact(16).map(|d| d.try_into().unwrap()).collect())
+    }
+
+    /// A winding number a point by the numbers of the nodes, or nothing where the call refuses or writes past them.
+    pub fn fast(&self, t: &[f32], sums: &[[f32; 16]], p: &[f32], accuracy: f32) -> Option<Vec<f32>> {
+        let (n, l, b, s, need) = (t.len() / 9, &self.links, &self.boxes, sums.concat(), p.len() / 3);
+        let mut w = vec![f32::from_bits(UNTOUCHED); need + 1];
+        let answered = unsafe {
+            timing_fast(
+                t.as_ptr(), t.len(), self.order.as_ptr(), n, l.as_ptr(), l.len(), b.as_ptr(), b.len(), self.nodes, s.as_ptr(), s.len(), p.as_ptr(), p.len(),
+                accuracy, w.as_mut_ptr(), w.len(),
+            )
+        };
+        assert!(answered == 1 || w.iter().all(|x| x.to_bits() == UNTOUCHED), "a refused call wrote");
+        let right = answered == 1 && w.pop().unwrap().to_bits() == UNTOUCHED;
+        right.then_some(w)
     }
 
     pub fn sure(&self, t: &[f32], p: &[f32], d: f32) -> Option<Vec<[u32; 6]>> {

@@ -20,7 +20,7 @@
 #include <time.h>
 
 enum { MOST = GAUGE_MAX_TRIANGLES, SMALL = GAUGE_MAX_SMALL, POINTS = 1000, TURNS = 15 };
-static float block[GAUGE_DRAWING_BYTES(MOST) / 4], other[GAUGE_DRAWING_BYTES(MOST) / 4], points[3 * POINTS], windings[POINTS];
+static float block[GAUGE_DRAWING_BYTES(MOST) / 4], other[GAUGE_DRAWING_BYTES(MOST) / 4], points[3 * POINTS], windings[POINTS], sums[GAUGE_SUMS(MOST)];
 static uint8_t image[GAUGE_IMAGE_MAX(MOST)];
 static struct gauge_answer answers[POINTS];
 static struct gauge_drawing d, copy;
@@ -41,6 +41,9 @@ static uint64_t check(void) { return gauge_drawing_check(&d); }
 static uint64_t one(void) { return gauge_drawing_sure(&d, points, 1, 100, answers); }
 static uint64_t sure(void) { return gauge_drawing_sure(&d, points, POINTS, 100, answers); }
 static uint64_t winding(void) { return gauge_drawing_winding(&d, points, 100, windings); }
+static uint64_t dipoles(void) { return gauge_drawing_node_sums(&d, sums); }
+static uint64_t fast(void) { return gauge_drawing_fast_winding(&d, sums, points, 100, 2, windings); }
+static uint64_t fast_many(void) { return gauge_drawing_fast_winding(&d, sums, points, POINTS, 2, windings); }
 
 #ifdef WAS
 uint64_t was_build(size_t, size_t, size_t, const uint8_t *, size_t, uint8_t *, size_t);
@@ -133,6 +136,9 @@ int main(void)
         least("sure, one point", one, THEN(one_then));
         least("sure, 1,000 points", sure, THEN(many_then));
         least("winding, 100 points", winding, THEN(winding_then));
+        least("dipoles", dipoles, 0);
+        least("by dipoles, 100 points", fast, 0);
+        least("by dipoles, 1,000 points", fast_many, 0);
     }
     return 0;
 }

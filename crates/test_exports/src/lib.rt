@@ -11,6 +11,7 @@ ghost use Rattle.tree.specs.Values as Found;
 ghost use Rattle.spec_angles.specs.Windings as Windings;
 ghost use Rattle.spec_search.specs.Sure as Sure;
 ghost use Rattle.spec_search.specs.Calls as Calls;
+ghost use Rattle.spec_dipoles.specs.Calls as Dipoles;
 ghost use Rattle.test_exports.specs.Answered as Answered;
 use build::calls::Built;
 use lists::reading::point_at;
@@ -330,4 +331,56 @@ pub extern "C" fn timing_solid(triangle: &[f32], point: &[f32]) -> f32
     let t = triangle_at(triangle, 0);
     let p = point_at(point, 0);
     angles::solid_angle::solid_angle(t, p)
+}
+
+// Writes the dipoles of all nodes. 1 where they were written, else 0.
+#[no_mangle]
+pub extern "C" fn timing_node_sums(
+    triangles: &[f32],
+    order: &[u32],
+    links: &[u32],
+    boxes: &[f32],
+    nodes: usize,
+    sums: &mut [f32],
+) -> u32
+    ensures passed { λ r. ⌜ r ≡ Answered.onePassed (Dipoles.sumsRefusal (now (triangles .entry)) (now (order .entry)) (now (links .entry))
+        (now (boxes .entry)) nodes (length (now (sums .entry)))) ⌝ }
+    ensures sums { λ _. ⌜ now (sums .exit)
+        ≡ Dipoles.afterSums binary32 (now (triangles .entry)) (now (order .entry)) (now (links .entry)) (now (boxes .entry)) nodes (now (sums .entry)) ⌝ }
+{
+    let verdict = dipoles::calls::node_sums(triangles, order, links, boxes, nodes, sums);
+    one_passed(verdict)
+}
+
+// Writes the winding numbers by dipoles. 1 where they were written, else 0.
+#[no_mangle]
+pub extern "C" fn timing_fast(
+    triangles: &[f32],
+    order: &[u32],
+    links: &[u32],
+    boxes: &[f32],
+    nodes: usize,
+    sums: &[f32],
+    points: &[f32],
+    accuracy: f32,
+    windings: &mut [f32],
+) -> u32
+    ensures passed { λ r. ⌜ r ≡ Answered.onePassed (Dipoles.fastRefusal (now (triangles .entry)) (now (order .entry)) (now (links .entry))
+        (now (boxes .entry)) nodes (now (sums .entry)) (now (points .entry)) accuracy (length (now (windings .entry)))) ⌝ }
+    ensures windings { λ _. ⌜ now (windings .exit)
+        ≡ Dipoles.afterFast binary32 (now (triangles .entry)) (now (order .entry)) (now (links .entry)) (now (boxes .entry)) nodes (now (sums .entry)) accuracy
+        (now (points .entry)) (now (windings .entry)) ⌝ }
+{
+    let verdict = dipoles::calls::fast_winding(
+        triangles,
+        order,
+        links,
+        boxes,
+        nodes,
+        sums,
+        points,
+        accuracy,
+        windings,
+    );
+    one_passed(verdict)
 }
