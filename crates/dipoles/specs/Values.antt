@@ -4,6 +4,7 @@ use lib.ListN.{getD}
 use lib.Ieee.{Float, nan}
 use Rattle.shapes.specs.Values.{asPoint}
 use Rattle.spec_shapes.specs.Points.{Point}
+use Rattle.spec_tree.specs.Trees.{pointFrom}
 use Rattle.spec_dipoles.specs.Matrices as Matrices
 use Rattle.spec_dipoles.specs.Sums as Sums
 use Rattle.dipoles.specs.declared.matrix3.Matrix3.{Matrix3}
@@ -22,7 +23,7 @@ asDipole d = record { first = asPoint (d .first); second = asMatrix (d .second);
 -- ---- the probe: four numbers that are lent, a point and the accuracy scale
 -- the point in the first three
 abbrev pub pointOf : List Float → Point
-pointOf four = record { x = getD four 0 nan; y = getD four 1 nan; z = getD four 2 nan }
+pointOf four = pointFrom four 0
 
 abbrev pub fourthOf : List Float → Float
 fourthOf four = getD four 3 nan

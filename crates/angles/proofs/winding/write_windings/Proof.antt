@@ -5,18 +5,19 @@ use native.Mathlib.Omega.{arith}
 use lib.Ieee.{binary32}
 use borrow.Author.Needs.{needs}
 use Rattle.spec_lists.proofs.Reading.{point-inside}
-use Rattle.spec_angles.proofs.Windings.{WindingsPut, fill-start, fill-more, fill-end}
+use Rattle.spec_angles.specs.Windings.{windingAbout}
+use Rattle.spec_angles.proofs.Windings.{AboutPut, about-start, about-more, windings-end}
 use Rattle.angles.proofs.winding.write_windings.Statement.{statement}
 use Rattle.angles.proofs.winding.write_windings.Tie as tie
 
 abbrev Inv-loop : tie.InvT-loop
-Inv-loop triangles points out₀ count table k₀ out k = WindingsPut binary32 triangles points out₀ count out k
+Inv-loop triangles points out₀ count table k₀ out k = AboutPut (windingAbout binary32 triangles) points out₀ count out k
 
 abbrev μ-loop : tie.MeasureT-loop
 μ-loop triangles points out₀ count table k₀ out k = count - k
 
 loop-holds : tie.Need-loop-holds Inv-loop μ-loop
-loop-holds c = fill-start _ _ _ _ _
+loop-holds c = about-start _ _ _ _
 
 mul-point-at : tie.Need-mul-point-at Inv-loop μ-loop
 mul-point-at c =
@@ -43,14 +44,14 @@ loop-again : tie.Need-loop-again Inv-loop μ-loop
 loop-again c =
     let turn = c .before .before .before in
     let counted = turn .before .before .before in
-    fill-more _ _ _ _ _ _ _ _ _ (omega (arith, counted .before .before .before .before .pre, counted .point-count .ensures))
+    about-more _ _ _ _ _ _ _ _ (omega (arith, counted .before .before .before .before .pre, counted .point-count .ensures))
     (turn .loop-test .taken) (turn .before .loop .inv) (c .before .point-at .ensures) (c .winding-number-by .ensures)
 
 same-length : tie.Need-same-length Inv-loop μ-loop
 same-length c = c .before .loop .inv .run .long
 
 returns : tie.Need-returns Inv-loop μ-loop
-returns c = fill-end _ _ _ _ _ _ _ (c .before .before .before .point-count .ensures) (c .loop-test .left) (c .before .loop .inv)
+returns c = windings-end _ _ _ _ _ _ _ (c .before .before .before .point-count .ensures) (c .loop-test .left) (c .before .loop .inv)
 
 pub write-windings-spec : {M : Type 1} → statement M
 write-windings-spec =

@@ -5,19 +5,21 @@ use native.Mathlib.Omega.{arith}
 use lib.Ieee.{binary32}
 use borrow.Author.Needs.{needs}
 use Rattle.spec_lists.proofs.Reading.{point-inside}
-use Rattle.spec_dipoles.proofs.Windings.{FastPut, fast-start, fast-more, fast-end}
+use Rattle.spec_angles.proofs.Windings.{AboutPut, about-start, about-more}
+use Rattle.spec_dipoles.specs.Calls.{fastAbout}
+use Rattle.spec_dipoles.proofs.Windings.{fast-end}
 use Rattle.dipoles.proofs.calls.write_windings.Statement.{statement}
 use Rattle.dipoles.proofs.calls.write_windings.Tie as tie
 
 abbrev Inv-loop : tie.InvT-loop
 Inv-loop triangles order links nodes sums points accuracy out₀ count table k₀ out k =
-    FastPut binary32 triangles order links nodes sums accuracy points out₀ out k
+    AboutPut (fastAbout binary32 triangles order links nodes sums accuracy) points out₀ count out k
 
 abbrev μ-loop : tie.MeasureT-loop
 μ-loop triangles order links nodes sums points accuracy out₀ count table k₀ out k = count - k
 
 loop-holds : tie.Need-loop-holds Inv-loop μ-loop
-loop-holds c = fast-start _ _ _ _ _ _ _ _ _
+loop-holds c = about-start _ _ _ _
 
 mul-point-at : tie.Need-mul-point-at Inv-loop μ-loop
 mul-point-at c =
@@ -54,7 +56,7 @@ loop-again c =
     let counted = turn .before .before .before in
     let entered = counted .before .before .before .before in
     let start = entered .before .before .before in
-    fast-more _ _ _ _ _ _ _ _ _ _ _ _ _ (start .pre .1) (rw (counted .point-count .ensures) at (turn .loop-test .taken)) (turn .before .loop .inv)
+    about-more _ _ _ _ _ _ _ _ (omega (arith, start .pre .1, counted .point-count .ensures)) (turn .loop-test .taken) (turn .before .loop .inv)
     (c .before .point-at .ensures) (c .fast-winding-by .ensures)
 
 same-length : tie.Need-same-length Inv-loop μ-loop
@@ -62,8 +64,7 @@ same-length c = c .before .loop .inv .run .long
 
 returns : tie.Need-returns Inv-loop μ-loop
 returns c =
-    let counted = c .before .before .before in
-    fast-end _ _ _ _ _ _ _ _ _ _ _ (rw (counted .point-count .ensures) at (c .loop-test .left)) (c .before .loop .inv)
+    fast-end _ _ _ _ _ _ _ _ _ _ _ _ (c .before .before .before .point-count .ensures) (c .loop-test .left) (c .before .loop .inv)
 
 pub write-windings-spec : {M : Type 1} → statement M
 write-windings-spec =

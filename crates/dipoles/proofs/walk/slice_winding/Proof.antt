@@ -3,24 +3,25 @@
 use mathlib.Core.Path.{ap, _∙_}
 use Prim.Native.Nat.{_-_}
 use native.Mathlib.Omega.{arith}
-use lib.ListN.{length}
+use lib.ListN.{length, getD}
 use lib.Ieee.{binary32, ofBits}
 use borrow.Author.Needs.{needs}
 use Rattle.shapes.specs.Values.{asPoint}
 use Rattle.spec_lists.specs.Reading.{triangleAt, triangleCount}
-use Rattle.spec_dipoles.proofs.Windings.{SliceSummed, slice-start, slice-more, slice-end}
+use Rattle.spec_angles.proofs.Windings.{Summed, sum-start, sum-more}
+use Rattle.spec_dipoles.proofs.Windings.{slice-end}
 use Rattle.dipoles.proofs.walk.slice_winding.Statement.{statement}
 use Rattle.dipoles.proofs.walk.slice_winding.Tie as tie
 
 abbrev Inv-loop : tie.InvT-loop
-Inv-loop table triangles slice q sum₀ i₀ sum i = SliceSummed binary32 triangles slice (asPoint q) sum i
+Inv-loop table triangles slice q sum₀ i₀ sum i = Summed binary32 (λ j. triangleAt triangles (getD slice j 0)) (asPoint q) (length slice) sum i
 
 abbrev μ-loop : tie.MeasureT-loop
 μ-loop table triangles slice q sum₀ i₀ sum i = length slice - i
 
 loop-holds : tie.Need-loop-holds Inv-loop μ-loop
 unfolding ofBits
-loop-holds c = slice-start _ _ _ _
+loop-holds c = sum-start _ _ _ _
 
 triangle-at-requires : tie.Need-triangle-at-requires Inv-loop μ-loop
 unfolding triangleCount
@@ -39,7 +40,7 @@ loop-again : tie.Need-loop-again Inv-loop μ-loop
 loop-again c =
     let read = c .before .before in
     let turn = read .before .before in
-    slice-more _ _ _ _ _ _ _ _ (turn .loop-test .taken) (turn .before .loop .inv)
+    sum-more _ _ _ _ _ _ _ _ (turn .loop-test .taken) (turn .before .loop .inv)
     (c .before .triangle-at .ensures ∙ ap (triangleAt _) (read .wide .ensures)) (c .solid-angle-by .ensures)
 
 returns : tie.Need-returns Inv-loop μ-loop
