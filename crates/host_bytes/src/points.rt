@@ -5,15 +5,13 @@ ghost use lib.ListN.{length, getD};
 ghost use lib.Ieee.{nan};
 ghost use Rattle.shapes.specs.Values.{asPoint};
 ghost use Rattle.spec_lists.specs.Reading.{pointAt};
-ghost use Rattle.spec_lists.specs.Refusals.{firstBad};
 ghost use Rattle.lists.specs.Values.{asVerdict};
 ghost use Rattle.spec_host.specs.PointBytes.{numbersOf, pointBytesRefusal};
-use floats::from_bits;
 use floats::plus_zero;
-use lists::coordinates::is_coordinate;
 use lists::verdict::Verdict;
 use lists::verdict::refused_if;
-use records::numbers::u32_at;
+use records::coordinates::first_bad_in;
+use records::entries::f32_at;
 use shapes::vec3::Vec3;
 
 // Number i of the bytes.
@@ -21,22 +19,7 @@ fn number_in(bytes: &[u8], i: usize) -> f32
     requires { ⌜ 4 * i + 4 ≤ length (now bytes) ⌝ }
     ensures { λ r. ⌜ r ≡ getD (numbersOf (now (bytes .entry))) i nan ⌝ }
 {
-    from_bits(u32_at(bytes, 4 * i))
-}
-
-// The index of the first number that is no coordinate, or how many numbers there are.
-fn first_bad_in(bytes: &[u8]) -> usize
-    ensures { λ r. ⌜ r ≡ firstBad (numbersOf (now (bytes .entry))) ⌝ }
-{
-    let count = bytes.len() / 4;
-    let mut i = 0;
-    while i < count {
-        if !is_coordinate(number_in(bytes, i)) {
-            return i;
-        }
-        i += 1;
-    }
-    i
+    f32_at(bytes, 4 * i)
 }
 
 // 8: the bytes are no whole points, or a number is no coordinate.
@@ -44,8 +27,9 @@ pub fn point_bytes_refusal(bytes: &[u8]) -> Verdict
     ensures { λ r. ⌜ asVerdict r ≡ pointBytesRefusal (now (bytes .entry)) ⌝ }
 {
     let ragged = refused_if(bytes.len() % 12 != 0, 8, bytes.len());
-    let at = first_bad_in(bytes);
-    ragged.or(refused_if(at < bytes.len() / 4, 8, at))
+    let count = bytes.len() / 4;
+    let at = first_bad_in(bytes, 0, count);
+    ragged.or(refused_if(at < count, 8, at))
 }
 
 // Point k of the bytes.

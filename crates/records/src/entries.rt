@@ -2,8 +2,9 @@
 ghost use mathlib.Core.Path.{_≡_};
 ghost use Prim.Native.Nat.{_+_, _*_, _≤_};
 ghost use lib.ListN.{length};
-ghost use lib.Ieee.{binary32};
+ghost use lib.Ieee.{binary32, ofBits};
 ghost use Rattle.spec_tables.specs.Tables.{overwrite, Put};
+ghost use Rattle.spec_records.specs.Little.{littleAt};
 ghost use Rattle.spec_records.specs.Entries.{numberBytes, floatBytes, numbersIn, floatsIn};
 ghost use Rattle.spec_records.specs.Layouts.{shapeBy};
 use crate::numbers::put_u16;
@@ -127,14 +128,22 @@ pub fn read_entries(
     read_u16s(bytes, start, count, out, at);
 }
 
-// Leaves the numbers, four bytes each, in `out` from index `at` on. Every pattern of a NaN is read as the one NaN.
+// The number that the four bytes from `at` on stand for. Every pattern of a NaN is read as the one NaN.
+pub fn f32_at(bytes: &[u8], at: usize) -> f32
+    requires { ⌜ at + 4 ≤ length (now bytes) ⌝ }
+    ensures { λ r. ⌜ r ≡ ofBits binary32 (littleAt 4 (now (bytes .entry)) at) ⌝ }
+{
+    from_bits(u32_at(bytes, at))
+}
+
+// Leaves the numbers, four bytes each, in `out` from index `at` on.
 pub fn read_f32s(bytes: &[u8], start: usize, count: usize, out: &mut [f32], at: usize)
     requires { ⌜ (start + 4 * count ≤ length (now bytes)) × (at + count ≤ length (now out)) ⌝ }
     ensures { λ _. ⌜ now (out .exit) ≡ overwrite at (floatsIn binary32 (now (bytes .entry)) start count) (now (out .entry)) ⌝ }
 {
     let mut i = 0;
     while i < count {
-        out[at + i] = from_bits(u32_at(bytes, start + 4 * i));
+        out[at + i] = f32_at(bytes, start + 4 * i);
         i += 1;
     }
 }

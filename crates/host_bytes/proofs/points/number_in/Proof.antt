@@ -1,7 +1,7 @@
 -- `host_bytes::points::number_in` meets its contract: the number that the four bytes stand for.
-use mathlib.Core.Path.{sym, ap, _∙_}
+use mathlib.Core.Path.{sym, _∙_}
 use native.Mathlib.Omega.{arith}
-use lib.Ieee.{binary32, ofBits}
+use denote.Ref.{now}
 use Rattle.spec_host.proofs.PointBytes.{number-is}
 use borrow.Author.Needs.{needs}
 use Rattle.host_bytes.proofs.points.number_in.Statement.{statement}
@@ -9,9 +9,9 @@ use Rattle.host_bytes.proofs.points.number_in.Tie as tie
 
 returns : tie.Need-returns
 returns c =
-    let start = c .before .before .before in
-    c .from-bits .ensures ∙ ap (ofBits binary32) (c .before .u32-at .ensures) ∙ sym (number-is (start .args .bytes .now) (start .args .i) (omega arith))
+    let a = c .before .before .args in
+    c .f32-at .ensures ∙ sym (number-is (now (a .bytes)) (a .i) (omega arith))
 
 pub number-in-spec : {M : Type 1} → statement M
 number-in-spec = tie.close
-    (tie.spec (λ c. search needs) (λ c κs. search needs) (λ c κs. search needs) returns)
+    (tie.spec (λ c. search needs) (λ c κs. search needs) returns)

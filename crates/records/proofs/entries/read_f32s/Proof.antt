@@ -1,5 +1,4 @@
 -- `records::entries::read_f32s` meets its contract: a turn stores one entry more (`Run`).
-use mathlib.Core.Path.{ap, _∙_}
 use mathlib.Core.List.{[], _∷_}
 use Prim.Native.Nat.{_+_, _-_, _*_}
 use lib.Ieee.{ofBits, binary32}
@@ -20,11 +19,10 @@ loop-holds c = run-start _ 1 _ _ _
 
 loop-again : tie.Need-loop-again Inv-loop μ-loop
 loop-again c =
-    let tested = c .before .before in
+    let tested = c .before in
     let turn = tested .before in
     let start = turn .before .before .before in
-    run-store _ _ _ _ _ _ _ (start .pre .1) (tested .«loop-test» .taken) (turn .loop .inv)
-    (c .«from-bits» .ensures ∙ ap (ofBits binary32) (c .before .«u32-at» .ensures))
+    run-store _ _ _ _ _ _ _ (start .pre .1) (tested .«loop-test» .taken) (turn .loop .inv) (c .«f32-at» .ensures)
 
 same-length : tie.Need-same-length Inv-loop μ-loop
 same-length c = c .before .loop .inv .long
@@ -35,5 +33,5 @@ returns c = run-end _ _ _ _ _ _ (c .«loop-test» .left) (c .before .loop .inv)
 pub read-f32s-spec : {M : Type 1} → statement M
 read-f32s-spec =
     tie.close
-    (tie.spec Inv-loop μ-loop loop-holds (λ c. search needs) (λ c. search needs) (λ c κs. search needs) (λ c κs. search needs) (λ c. search needs)
+    (tie.spec Inv-loop μ-loop loop-holds (λ c. search needs) (λ c. search needs) (λ c κs. search needs) (λ c. search needs)
     (λ c. search needs) (λ c. search needs) (λ c. search needs) (λ c. search needs) loop-again same-length returns)
