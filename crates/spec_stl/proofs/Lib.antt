@@ -1,0 +1,4 @@
+pub mod Facets
+pub mod Refused
+pub mod Kept
+pub mod Worked

@@ -1,0 +1,2 @@
+pub mod Stl
+pub mod Calls
