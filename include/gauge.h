@@ -2,10 +2,11 @@
  *
  * A drawing lives in lists that the host owns: its triangles, and a tree of boxes over them. It is built
  * once, or read from an image once, and then asked where it lies, as often as is wanted: no call copies
- * it. An image is bytes that keep a drawing and its tree in a file. The struct at the end of this header
- * has all lists of a drawing in one block of memory, with a function for each call; the calls themselves
- * take lists from anywhere. Each call looks over what it is handed, so no numbers and no bytes, from
- * wherever they come, make it read or write outside its lists and slices.
+ * it. An image is bytes that keep a drawing and its tree in a file; triangles alone come and go as STL,
+ * the files of every pattern shop. The struct at the end of this header has all lists of a drawing in
+ * one block of memory, with a function for each call; the calls themselves take lists from anywhere.
+ * Each call looks over what it is handed, so no numbers and no bytes, from wherever they come, make it
+ * read or write outside its lists and slices.
  *
  * A list is a pointer and a count of entries: a C array of float or of uint32_t, aligned as C aligns it.
  *
@@ -30,6 +31,10 @@
  *     windings    4 bytes each: an f32
  *     image       settings, triangles, order and nodes: version 1 of up to 4,096 triangles, version 2
  *                 of more. Both are written and read; one drawing with one tree has one image
+ *     stl         a binary STL: 80 bytes of header, how many triangles as a u32, then 50 bytes each: a
+ *                 normal of 3 f32, the corners a, b, c, and a u16. Header, normals and u16 are not looked
+ *                 at, and written as zeros. An STL in text, which begins with "solid", is none of these:
+ *                 it is GAUGE_STL
  *
  * On x86-64 Linux, for which the library is, an array of float or of struct gauge_answer has these
  * bytes: hand it over by a cast. A count or a length of 0 may go with any pointer, NULL too. What a call
@@ -56,14 +61,15 @@
  *                            above 4,194,304
  *     GAUGE_LAYOUT       10  the image's records are laid out wrong              byte offset of the
  *                                                                                first wrong record
+ *     GAUGE_STL          11  the STL's length is not 84 + 50 times its count     its length
  *     GAUGE_SCALE        14  the accuracy scale is no number, below 0 or         0
  *                            above 1,000
  *
  * An index among the numbers counts from 0. In triangles place / 9 is the triangle and place % 9 the
  * number in it; in points place / 3 is the point and place % 3 its x, y or z.
  *
- * Where several hold, GAUGE_LAYOUT is told first, then the lowest number. On success entries and bytes
- * past those that a call writes stay as they were.
+ * Where several hold, GAUGE_LAYOUT or GAUGE_STL is told first, then the lowest number. On success
+ * entries and bytes past those that a call writes stay as they were.
  *
  * No call allocates, keeps anything between calls, or writes to a file or a screen; any number of
  * threads may call at once, as long as none writes a list or a slice that another uses. The calls count
@@ -78,7 +84,7 @@
 
 /* Of this header: the first number changes when a host must change. */
 #define GAUGE_VERSION_MAJOR 2
-#define GAUGE_VERSION_MINOR 1
+#define GAUGE_VERSION_MINOR 2
 
 #define GAUGE_MAX_TRIANGLES 65536
 #define GAUGE_MAX_LEAF_MINIMUM 65536
@@ -111,6 +117,7 @@
 #define GAUGE_POINT 8
 #define GAUGE_DISTANCE 9
 #define GAUGE_LAYOUT 10
+#define GAUGE_STL 11
 #define GAUGE_SCALE 14
 
 /* A thread whose whole stack is so many bytes is enough for the call. Measured, not proved: on
@@ -126,6 +133,8 @@
 #define GAUGE_STACK_WINDING (16 * 1024)
 #define GAUGE_STACK_NODE_SUMS (100 * 1024)
 #define GAUGE_STACK_FAST_WINDING (106 * 1024)
+#define GAUGE_STACK_READ_STL (16 * 1024)
+#define GAUGE_STACK_WRITE_STL (16 * 1024)
 
 /* Room for the image of n triangles, whatever tree they have: for an array's length. n is 1 to 65,536. */
 #define GAUGE_IMAGE_MAX(n) ((n) <= GAUGE_MAX_SMALL ? 98 * (size_t)(n) + 2 : 108 * (size_t)(n) - 2)
@@ -134,6 +143,11 @@
  * More than 65,536 have no tree, so they take no more than these. */
 #define GAUGE_SUMS(n) \
     ((size_t)(n) == 0 ? 0 : 32 * ((size_t)(n) < GAUGE_MAX_TRIANGLES ? (size_t)(n) : (size_t)GAUGE_MAX_TRIANGLES) - 16)
+
+/* The bytes of an STL of n triangles, and how many triangles an STL of so many bytes has: for an array's
+ * length too. n is 0 to 65,536; of bytes that are no STL's it counts the whole 50 behind the first 84. */
+#define GAUGE_STL_BYTES(n) (84 + 50 * (size_t)(n))
+#define GAUGE_STL_TRIANGLES(bytes) ((size_t)(bytes) < 84 ? 0 : ((size_t)(bytes) - 84) / 50)
 
 #ifdef __cplusplus
 extern "C" {
@@ -159,7 +173,8 @@ static inline unsigned gauge_number(uint64_t returned)
     return returned >> 63 != 0 ? GAUGE_POINT : (unsigned)(returned >> 56);
 }
 
-/* Where. The place of GAUGE_POINT may be as long as a slice, so it has 63 bits, the others 56. */
+/* Where. The place of GAUGE_POINT may be as long as a slice, so it has 63 bits, the others 56. GAUGE_STL
+ * of a slice of 2^56 bytes or more, which no machine can address, has the place 2^56 - 1. */
 static inline uint64_t gauge_place(uint64_t returned)
 {
     return returned >> 63 != 0 ? returned & 0x7fffffffffffffffu : returned & 0x00ffffffffffffffu;
@@ -190,6 +205,20 @@ uint64_t gauge_read(const uint8_t *image, size_t image_length,
                     uint32_t *settings, size_t settings_length,
                     float *triangles, size_t triangles_length, uint32_t *order, size_t order_length,
                     uint32_t *links, size_t links_length, float *boxes, size_t boxes_length);
+
+/* Reads the triangles of an STL to the front of triangles: nine floats each, which must be as many as
+ * GAUGE_STL_TRIANGLES(stl_length) makes. What is accepted here passes the tests of triangles everywhere.
+ *
+ * Counted: the triangles.
+ * Refused: GAUGE_STL, GAUGE_NONE, GAUGE_TOO_MANY, GAUGE_COORDINATE, whose place is the index among the
+ * corners' numbers, nine a triangle, GAUGE_ROOM. */
+uint64_t gauge_read_stl(const uint8_t *stl, size_t stl_length, float *triangles, size_t triangles_length);
+
+/* Writes the triangles as an STL. Reading it gives them back bit for bit.
+ *
+ * Counted: the bytes written, from the front of stl: GAUGE_STL_BYTES of the triangles.
+ * Refused: GAUGE_RAGGED, GAUGE_NONE, GAUGE_TOO_MANY, GAUGE_COORDINATE, GAUGE_ROOM. */
+uint64_t gauge_write_stl(const float *triangles, size_t triangles_length, uint8_t *stl, size_t stl_length);
 
 /* Builds a tree of boxes over n triangles, into the front of order, links and boxes.
  *
@@ -372,6 +401,24 @@ static inline uint64_t gauge_drawing_read(struct gauge_drawing *d, const uint8_t
         d->nodes = (size_t)nodes;
     }
     return nodes;
+}
+
+/* gauge_read_stl, into a drawing that is laid for GAUGE_STL_TRIANGLES(stl_length) or for more. Where it
+ * is done count is the STL's, and there is no tree yet; else the drawing is as it was. */
+static inline uint64_t gauge_drawing_read_stl(struct gauge_drawing *d, const uint8_t *stl, size_t stl_length)
+{
+    uint64_t count = gauge_read_stl(stl, stl_length, d->triangles, 9 * d->count);
+    if (!gauge_refused(count)) {
+        d->count = (size_t)count;
+        d->nodes = 0;
+    }
+    return count;
+}
+
+/* gauge_write_stl. It needs no tree. */
+static inline uint64_t gauge_drawing_write_stl(const struct gauge_drawing *d, uint8_t *stl, size_t stl_length)
+{
+    return gauge_write_stl(d->triangles, 9 * d->count, stl, stl_length);
 }
 
 /* gauge_write. */

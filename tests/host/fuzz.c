@@ -3,7 +3,7 @@
  *
  *     fuzz CALLS [SEED]
  *
- * First each bad image, each bad tree and each small length in turn, then drawings, damages and
+ * First each bad image, each bad STL, each bad tree and each small length in turn, then drawings, damages and
  * questions by chance, until so many calls are made. Each list and slice stands flush with a page that
  * cannot be touched, before it or behind it, and has other bytes beside it: a byte read or written
  * outside ends the program or is counted as a difference, and so is a byte that a refused call writes.
@@ -45,7 +45,7 @@ static float between(float lo, float hi)
 /* ---- lists beside pages that cannot be touched */
 
 /* What a call may be handed: slices of bytes, lists of four bytes an entry. */
-enum { IMAGE, SETTINGS, TRIANGLES, ORDER, LINKS, BOXES, BOUNDS, CENTRES, SCRATCH, SUMS, POINTS, ANSWERS, LISTS };
+enum { IMAGE, STL, SETTINGS, TRIANGLES, ORDER, LINKS, BOXES, BOUNDS, CENTRES, SCRATCH, SUMS, POINTS, ANSWERS, LISTS };
 enum { ROOM = 4 << 20, MARGIN = 64 };
 
 /* One that is lent to a call: where it stands, and a copy for plain.c; both with margins as far as the
@@ -112,26 +112,29 @@ static int as_wanted(void)
 
 /* ---- one call, compared */
 
-enum { MAX_CALL, COUNT, READ, BUILD, WRITE, CHECK, SURE, SOURCE, WINDING, NODE_SUMS, FAST, CALLS };
-static const char *const names[CALLS] = {"gauge_image_max", "gauge_image_triangles", "gauge_read", "gauge_build", "gauge_write", "gauge_check",
-                                         "gauge_sure", "gauge_source", "gauge_winding", "gauge_node_sums", "gauge_fast_winding"};
+enum { MAX_CALL, COUNT, READ, READ_STL, WRITE_STL, BUILD, WRITE, CHECK, SURE, SOURCE, WINDING, NODE_SUMS, FAST, CALLS };
+static const char *const names[CALLS] = {"gauge_image_max", "gauge_image_triangles", "gauge_read", "gauge_read_stl", "gauge_write_stl",
+                                         "gauge_build", "gauge_write", "gauge_check", "gauge_sure", "gauge_source", "gauge_winding",
+                                         "gauge_node_sums", "gauge_fast_winding"};
 
 /* How a call may end, as gauge.h lists it: the first is done, the others are refusals. */
-enum { ENDS = 12, ENOUGH = 20000 };
-static const unsigned numbers[ENDS] = {0, 1, 2, 3, 4, 5, 6, 7, 8, 9, 10, 14};
+enum { ENDS = 13, ENOUGH = 30000 };
+static const unsigned numbers[ENDS] = {0, 1, 2, 3, 4, 5, 6, 7, 8, 9, 10, 11, 14};
 static uint64_t calls, called[CALLS], ended[CALLS][ENDS], differences, unknown;
 static const int listed[CALLS][ENDS] = {
-    {1, 0, 0, 0, 0, 0, 0, 0, 0, 0, 0, 0}, /* gauge_image_max */
-    {1, 0, 0, 0, 0, 0, 0, 0, 0, 0, 1, 0}, /* gauge_image_triangles */
-    {1, 0, 0, 0, 0, 0, 1, 0, 0, 0, 1, 0}, /* gauge_read */
-    {1, 1, 1, 1, 1, 1, 1, 0, 0, 0, 0, 0}, /* gauge_build */
-    {1, 1, 1, 1, 1, 1, 1, 1, 0, 0, 0, 0}, /* gauge_write */
-    {1, 1, 1, 1, 1, 0, 0, 1, 0, 0, 0, 0}, /* gauge_check */
-    {1, 1, 1, 1, 1, 0, 1, 1, 1, 1, 0, 0}, /* gauge_sure */
-    {1, 1, 1, 1, 1, 0, 1, 1, 1, 1, 0, 0}, /* gauge_source */
-    {1, 1, 1, 1, 1, 0, 1, 0, 1, 0, 0, 0}, /* gauge_winding */
-    {1, 1, 1, 1, 1, 0, 1, 1, 0, 0, 0, 0}, /* gauge_node_sums */
-    {1, 1, 1, 1, 1, 0, 1, 1, 1, 0, 0, 1}, /* gauge_fast_winding */
+    {1, 0, 0, 0, 0, 0, 0, 0, 0, 0, 0, 0, 0}, /* gauge_image_max */
+    {1, 0, 0, 0, 0, 0, 0, 0, 0, 0, 1, 0, 0}, /* gauge_image_triangles */
+    {1, 0, 0, 0, 0, 0, 1, 0, 0, 0, 1, 0, 0}, /* gauge_read */
+    {1, 0, 1, 1, 1, 0, 1, 0, 0, 0, 0, 1, 0}, /* gauge_read_stl */
+    {1, 1, 1, 1, 1, 0, 1, 0, 0, 0, 0, 0, 0}, /* gauge_write_stl */
+    {1, 1, 1, 1, 1, 1, 1, 0, 0, 0, 0, 0, 0}, /* gauge_build */
+    {1, 1, 1, 1, 1, 1, 1, 1, 0, 0, 0, 0, 0}, /* gauge_write */
+    {1, 1, 1, 1, 1, 0, 0, 1, 0, 0, 0, 0, 0}, /* gauge_check */
+    {1, 1, 1, 1, 1, 0, 1, 1, 1, 1, 0, 0, 0}, /* gauge_sure */
+    {1, 1, 1, 1, 1, 0, 1, 1, 1, 1, 0, 0, 0}, /* gauge_source */
+    {1, 1, 1, 1, 1, 0, 1, 0, 1, 0, 0, 0, 0}, /* gauge_winding */
+    {1, 1, 1, 1, 1, 0, 1, 1, 0, 0, 0, 0, 0}, /* gauge_node_sums */
+    {1, 1, 1, 1, 1, 0, 1, 1, 1, 0, 0, 0, 1}, /* gauge_fast_winding */
 };
 
 /* Who is called: the library, with the lists themselves, and plain.c, with their copies. */
@@ -227,6 +230,26 @@ static uint64_t ask_read(Slice image, Rooms r)
     for (int who = 0; who < BOTH; who++)
         returned[who] = (who == PLAIN ? plain_read : gauge_read)(BYTES(IMAGE), WORDS(SETTINGS), TREE);
     return compared(READ, returned);
+}
+
+static uint64_t ask_read_stl(Slice stl, size_t room)
+{
+    uint64_t returned[BOTH];
+    lend(STL, stl.bytes, stl.length);
+    lend(TRIANGLES, NULL, 4 * room);
+    for (int who = 0; who < BOTH; who++)
+        returned[who] = (who == PLAIN ? plain_read_stl : gauge_read_stl)(BYTES(STL), FLOATS(TRIANGLES));
+    return compared(READ_STL, returned);
+}
+
+static uint64_t ask_write_stl(const float *triangles, size_t length, size_t room)
+{
+    uint64_t returned[BOTH];
+    lend(TRIANGLES, triangles, 4 * length);
+    lend(STL, NULL, room);
+    for (int who = 0; who < BOTH; who++)
+        returned[who] = (who == PLAIN ? plain_write_stl : gauge_write_stl)(FLOATS(TRIANGLES), BYTES(STL));
+    return compared(WRITE_STL, returned);
 }
 
 static uint64_t ask_build(Settings s, const float *triangles, size_t length, Rooms r)
@@ -774,6 +797,116 @@ static Slice damage_image(Slice image, size_t n)
     }
 }
 
+/* ---- STLs */
+
+enum { MOST_STL = GAUGE_STL_BYTES(GAUGE_MAX_TRIANGLES + 1), CORNERS = 96, FACET = 50 };
+static uint8_t stl_bytes[MOST_STL + FACET];
+
+/* Bits of coordinates: the last that are accepted, the first that are not, zeros, subnormals, infinities, and NaNs
+ * that signal and that do not. */
+static const uint32_t edges[] = {0x49800000, 0xc9800000, 0x49800001, 0xc9800001, 0x497fffff, 0x00000000, 0x80000000, 0x00000001, 0x807fffff,
+                                 0x00800000, 0x7f7fffff, 0x7f800000, 0xff800000, 0x7f800001, 0xffbfffff, 0x7fc00000, 0xffffffff};
+enum { EDGES = sizeof edges / sizeof *edges };
+
+static void put_bits(void *at, uint32_t bits)
+{
+    memcpy(at, &bits, 4);
+}
+
+/* Where a number of the triangles stands. */
+static uint8_t *corner_at(size_t number)
+{
+    return stl_bytes + CORNERS + FACET * (number / 9) + 4 * (number % 9);
+}
+
+/* The drawing's STL as another program may write it: with anything beside count and corners, maybe NaNs throughout,
+ * and maybe it begins as one in text does. */
+static Slice make_stl(size_t n)
+{
+    static const char text[] = "solid part\nfacet normal 0 0 1\n";
+    size_t length = GAUGE_STL_BYTES(n);
+    if (below(4))
+        paint(stl_bytes, length + FACET);
+    else
+        memset(stl_bytes, below(2) ? 0xff : 0, length + FACET);
+    if (below(2))
+        memcpy(stl_bytes, text, sizeof text - 1);
+    put_bits(stl_bytes + 80, (uint32_t)n);
+    for (size_t i = 0; i < n; i++)
+        memcpy(corner_at(9 * i), drawing + 9 * i, 36);
+    return bytes_of(stl_bytes, length);
+}
+
+static void differs(const char *what)
+{
+    if (differences++ < 10)
+        fprintf(stderr, "fuzz: call %llu: %s\n", (unsigned long long)calls, what);
+}
+
+/* Where the STL is read, what was read is written: the same count and corners, and zeros beside them. Read again it is
+ * the same triangles. */
+static void ask_stl(Slice stl)
+{
+    static float once[9 * MOST], twice[9 * MOST];
+    static uint8_t written[GAUGE_STL_BYTES(MOST)];
+    size_t n = GAUGE_STL_TRIANGLES(stl.length), length = stl.length;
+    if (gauge_refused(ask_read_stl(stl, 9 * n)) || n > MOST)
+        return;
+    if (gauge_read_stl(stl.bytes, length, once, 9 * n) != n || gauge_write_stl(once, 9 * n, written, length) != length ||
+        gauge_read_stl(written, length, twice, 9 * n) != n || memcmp(once, twice, 36 * n) != 0)
+        differs("an STL that was written is read as another");
+    for (size_t i = 0; i < length; i++) {
+        size_t in_facet = i < 84 ? 0 : (i - 84) % FACET;
+        int kept = i < 84 ? i >= 80 : in_facet >= 12 && in_facet < 48;
+        if (written[i] != (kept ? stl.bytes[i] : 0)) {
+            differs("an STL that was read is written as another");
+            break;
+        }
+    }
+    ask_write_stl(once, 9 * n, length);
+}
+
+/* The STL of n triangles with something wrong in it, or nothing. */
+static Slice damage_stl(size_t n)
+{
+    Slice stl = make_stl(n);
+    unsigned length = (unsigned)stl.length;
+    switch (below(8)) {
+    case 0: /* cut */
+        stl.length = below(length);
+        break;
+    case 1: /* longer */
+        stl.length += 1 + below(FACET);
+        break;
+    case 2: /* a bit of the count, or another count */
+        if (below(2))
+            stl_bytes[80 + below(4)] ^= (uint8_t)(1u << below(8));
+        else
+            put_bits(stl_bytes + 80, below(2) ? (uint32_t)n + below(5) - 2 : (uint32_t)chance());
+        break;
+    case 3: /* facets left out, and counted so, or one twice */
+        n = below(2) ? below((unsigned)n) : n + 1;
+        put_bits(stl_bytes + 80, (uint32_t)n);
+        stl.length = GAUGE_STL_BYTES(n);
+        memmove(stl_bytes + stl.length - FACET, stl_bytes + 84, n == 0 ? 0 : FACET);
+        break;
+    case 4: /* some corners are others */
+        for (unsigned k = 1 + below(3); k > 0; k--)
+            put_bits(corner_at(below(9 * (unsigned)n)), edges[below(EDGES)]);
+        break;
+    case 5: /* some are anything */
+        for (unsigned k = 1 + below(3); k > 0; k--)
+            put_bits(corner_at(below(9 * (unsigned)n)), (uint32_t)chance());
+        break;
+    case 6: /* any bit */
+        stl_bytes[below(length)] ^= (uint8_t)(1u << below(8));
+        break;
+    default:
+        break;
+    }
+    return stl;
+}
+
 /* ---- each in turn */
 
 static const Settings usual = {1, 1, 40};
@@ -939,6 +1072,47 @@ static void each_max(void)
         ask_max(i);
 }
 
+/* Each length and count of an STL, and each room for it. */
+static void each_stl_size(size_t n)
+{
+    uint32_t counts[] = {0, (uint32_t)n + 1, (uint32_t)n - 1, 65536, 65537, 85899344, 85899345, 0x80000000 + (uint32_t)n, 0xffffffff};
+    Slice stl = make_stl(n);
+    ask_stl(stl);
+    for (size_t length = 0; length <= stl.length + FACET; length++)
+        ask_read_stl(bytes_of(stl_bytes, length), 9 * n);
+    for (size_t room = 0; room <= 9 * n + 3; room++)
+        ask_read_stl(stl, room);
+    for (size_t k = 0; k < 32 + sizeof counts / sizeof *counts; k++) {
+        put_bits(stl_bytes + 80, k < 32 ? (uint32_t)n ^ (uint32_t)1 << k : counts[k - 32]);
+        ask_read_stl(stl, 9 * n);
+    }
+    for (size_t length = 0; length <= 9 * n + 9; length++)
+        ask_write_stl(drawing, length, stl.length);
+    for (size_t room = 0; room <= stl.length + 3; room++)
+        ask_write_stl(drawing, 9 * n, room);
+}
+
+/* Each number of the corners with bits of every kind: alone, before another that is bad, and without room. */
+static void each_corner(size_t n)
+{
+    size_t last = 9 * n - 1;
+    for (size_t k = 0; k < 9 * n * EDGES; k++) {
+        size_t number = k / EDGES;
+        float kept = drawing[number], kept_last = drawing[last];
+        put_bits(drawing + number, edges[k % EDGES]);
+        ask_stl(make_stl(n));
+        ask_read_stl(bytes_of(stl_bytes, GAUGE_STL_BYTES(n)), 9 * n - 1);
+        ask_write_stl(drawing, 9 * n, GAUGE_STL_BYTES(n));
+        if (number < last) {
+            put_bits(drawing + last, 0x7fc00000);
+            ask_read_stl(make_stl(n), 9 * n);
+            ask_write_stl(drawing, 9 * n, GAUGE_STL_BYTES(n) - 1);
+        }
+        drawing[last] = kept_last;
+        drawing[number] = kept;
+    }
+}
+
 static void in_turn(size_t n)
 {
     Slice points = bytes_of(touched, 36);
@@ -958,6 +1132,8 @@ static void in_turn(size_t n)
     each_sums(d, points);
     each_reach(d);
     each_setting(d);
+    each_stl_size(n);
+    each_corner(n);
 }
 
 /* 64 levels are accepted, 65 are not. */
@@ -1012,6 +1188,36 @@ static void ask_limits(void)
         Drawing d = {zeros, lengths[i], tree_order, 1, tree_links, 3, tree_boxes, 6, 1};
         ask_build(s, zeros, lengths[i], rooms_for(n, 2 * n));
         ask_all(usual, d, points, GAUGE_MAX_DISTANCE);
+    }
+}
+
+/* STLs on either side of 65,536 triangles, and of none: a list that is too long for the tests of what it holds, a
+ * number that is bad in the last facet, and room that is one short. */
+static void ask_stl_limits(void)
+{
+    static float triangles[9 * (GAUGE_MAX_TRIANGLES + 1) + 1];
+    for (size_t i = 0; i < sizeof triangles / 4; i++)
+        triangles[i] = good_bits();
+    each_stl_size(0);
+    for (size_t n = GAUGE_MAX_TRIANGLES; n <= GAUGE_MAX_TRIANGLES + 1; n++) {
+        size_t length = GAUGE_STL_BYTES(n), last = 9 * n - 1;
+        Slice stl = bytes_of(stl_bytes, length);
+        paint(stl_bytes, length);
+        put_bits(stl_bytes + 80, (uint32_t)n);
+        for (size_t i = 0; i < n; i++)
+            memcpy(corner_at(9 * i), triangles + 9 * i, 36);
+        ask_read_stl(stl, 9 * n);
+        ask_read_stl(stl, 9 * n - 1);
+        ask_read_stl(bytes_of(stl_bytes, length - 1), 9 * n);
+        put_bits(corner_at(last), 0x49800001);
+        ask_read_stl(stl, 0);
+        ask_write_stl(triangles, 9 * n, length);
+        ask_write_stl(triangles, 9 * n, length - 1);
+        ask_write_stl(triangles, 9 * n + 1, length);
+        float kept = triangles[last];
+        triangles[last] = NAN;
+        ask_write_stl(triangles, 9 * n, 0);
+        triangles[last] = kept;
     }
 }
 
@@ -1077,6 +1283,23 @@ static void ask_builds(size_t n)
     ask_build(s, drawing, 9 * n - below(9), exact);
 }
 
+static void ask_stls(size_t n)
+{
+    size_t length = GAUGE_STL_BYTES(n), at = below(9 * (unsigned)n);
+    float kept = drawing[at];
+    ask_write_stl(drawing, 9 * n, length + below(3));
+    ask_write_stl(drawing, 9 * n, below((unsigned)length));
+    ask_write_stl(drawing, 9 * n - below(9), length);
+    drawing[at] = bad_coordinate();
+    ask_write_stl(drawing, 9 * n, length);
+    drawing[at] = kept;
+    ask_stl(make_stl(n));
+    ask_read_stl(make_stl(n), 9 * n + below(20));
+    ask_read_stl(make_stl(n), below(9 * (unsigned)n));
+    for (int i = 0; i < 4; i++)
+        ask_stl(damage_stl(n));
+}
+
 static void ask_writes(Drawing d)
 {
     Settings s = {1 + below(2), any_leaf_minimum(), below(65)}, any = {below(4), below(3) * 32768 + below(3), below(66)};
@@ -1119,6 +1342,7 @@ static void by_chance(void)
     Settings s = {1 + below(2), 1 + below(3), below(4) ? 64 : below(12)};
     make_drawing(n);
     ask_builds(n);
+    ask_stls(n);
     Drawing d = make_tree(n, s);
     ask_questions(d, n, n > 600 ? 4 : 12);
     Slice image = make_image(s, d);
@@ -1166,6 +1390,7 @@ int main(int argc, char **argv)
     each_depth();
     each_max();
     ask_limits();
+    ask_stl_limits();
     for (size_t n = 4096; n <= 4097; n++) {
         Settings deep = {2, 1, 64}, flat = {1, 65536, 40};
         ask_large(n, deep);

@@ -1,6 +1,6 @@
 /* include/gauge.h alone, compiled as C99 and as C++, each with every warning an error; what it states
- * of its numbers and of a drawing's block, and the worked example of two triangles, from C and from C++
- * alike. */
+ * of its numbers and of a drawing's block, and the worked example of two triangles, also as an STL, from
+ * C and from C++ alike. */
 #include "gauge.h"
 #include "gauge.h"
 
@@ -26,13 +26,18 @@ static size_t at(const void *list, const void *block)
 static void expect_numbers(void)
 {
     const uint64_t point = (uint64_t)1 << 63 | 17, layout = (uint64_t)10 << 56 | 14;
-    const uint64_t scale = (uint64_t)GAUGE_SCALE << 56;
-    expect(GAUGE_VERSION_MAJOR == 2 && GAUGE_VERSION_MINOR == 1, "the header's version");
+    const uint64_t scale = (uint64_t)GAUGE_SCALE << 56, stl = (uint64_t)GAUGE_STL << 56 | 134;
+    expect(GAUGE_VERSION_MAJOR == 2 && GAUGE_VERSION_MINOR == 2, "the header's version");
     expect(sizeof(struct gauge_answer) == GAUGE_ANSWER_BYTES && sizeof(float) == 4, "an answer has 24 bytes");
     expect(!gauge_refused(4096) && gauge_number(4096) == 0, "a count is no refusal");
     expect(gauge_refused(point) && gauge_number(point) == GAUGE_POINT && gauge_place(point) == 17, "a refusal of points");
     expect(gauge_refused(layout) && gauge_number(layout) == GAUGE_LAYOUT && gauge_place(layout) == 14, "a refusal of layout");
     expect(gauge_refused(scale) && gauge_number(scale) == GAUGE_SCALE && gauge_place(scale) == 0, "a refusal of scale");
+    expect(GAUGE_STL == 11 && gauge_refused(stl) && gauge_number(stl) == GAUGE_STL && gauge_place(stl) == 134, "a refusal of an STL's length");
+    expect(GAUGE_STL_BYTES(0) == 84 && GAUGE_STL_BYTES(1) == 134 && GAUGE_STL_BYTES(65536) == 3276884, "the bytes of an STL");
+    expect(GAUGE_STL_TRIANGLES(0) == 0 && GAUGE_STL_TRIANGLES(83) == 0 && GAUGE_STL_TRIANGLES(84) == 0 && GAUGE_STL_TRIANGLES(133) == 0 &&
+               GAUGE_STL_TRIANGLES(134) == 1 && GAUGE_STL_TRIANGLES(GAUGE_STL_BYTES(65536)) == 65536,
+           "the triangles of an STL");
     expect(gauge_image_max(2) == GAUGE_IMAGE_MAX(2) && gauge_image_max(4096) == GAUGE_IMAGE_MAX(4096) &&
                gauge_image_max(4097) == GAUGE_IMAGE_MAX(4097) && gauge_image_max(65536) == GAUGE_IMAGE_MAX(65536) &&
                gauge_image_max(0) == 0 && gauge_image_max(65537) == 0,
@@ -104,10 +109,41 @@ static void expect_example(void)
     expect(gauge_drawing_fast_winding(&back, sums, points, 2, GAUGE_MAX_SCALE * 2, windings) == (uint64_t)GAUGE_SCALE << 56, "a scale too large");
 }
 
+/* Two triangles as a binary STL: 84 bytes, then for each 12 that are not looked at, 36 of corners, 2 that are not looked at. */
+static void expect_stl(void)
+{
+    static const float corners[18] = {0, 0, 0, 1, 0, 0, 0, 1, 0, 10, 0, 0, 11, 0, 0, 10, 1, -0.0f};
+    static float block[GAUGE_DRAWING_BYTES(2) / 4], other[GAUGE_DRAWING_BYTES(3) / 4];
+    static uint8_t stl[GAUGE_STL_BYTES(2)], wanted[GAUGE_STL_BYTES(2)];
+    struct gauge_drawing d = gauge_lay(block, 2), back = gauge_lay(other, 3), none = gauge_lay(NULL, 0);
+
+    memcpy(d.triangles, corners, sizeof corners);
+    wanted[80] = 2;
+    memcpy(wanted + 96, corners, 36);
+    memcpy(wanted + 146, corners + 9, 36);
+    memset(stl, 0xff, sizeof stl);
+    expect(gauge_drawing_write_stl(&d, stl, sizeof stl - 1) == (uint64_t)GAUGE_ROOM << 56 && stl[0] == 0xff, "no room for an STL");
+    expect(gauge_drawing_write_stl(&d, stl, sizeof stl) == sizeof stl && memcmp(stl, wanted, sizeof stl) == 0, "an STL, byte for byte");
+    expect(gauge_drawing_write_stl(&none, stl, sizeof stl) == (uint64_t)GAUGE_NONE << 56, "nothing to write as an STL");
+
+    memcpy(stl, "solid", 5);
+    memset(stl + 84, 0xff, 12);
+    memset(stl + 132, 0xff, 2);
+    back.nodes = 5;
+    expect(gauge_drawing_read_stl(&back, stl, sizeof stl - 1) == ((uint64_t)GAUGE_STL << 56 | 183) && back.count == 3 && back.nodes == 5,
+           "a refused STL leaves the drawing as it was");
+    expect(gauge_drawing_read_stl(&none, stl, sizeof stl) == (uint64_t)GAUGE_ROOM << 56 && none.count == 0, "no room for its triangles");
+    expect(gauge_drawing_read_stl(&back, stl, sizeof stl) == 2 && back.count == 2 && back.nodes == 0, "two triangles read, without a tree");
+    expect(memcmp(back.triangles, corners, sizeof corners) == 0, "their corners, bit for bit");
+    expect(gauge_drawing_build(&back, GAUGE_MEDIAN, 1, 40) == 3 && gauge_drawing_check(&back) == 2, "a tree over them");
+    expect(gauge_read_stl(NULL, 0, NULL, 0) == (uint64_t)GAUGE_STL << 56, "nothing at NULL is no STL");
+}
+
 int main(void)
 {
     expect_numbers();
     expect_block();
     expect_example();
+    expect_stl();
     return failed;
 }

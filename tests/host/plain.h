@@ -11,6 +11,8 @@ uint64_t plain_read(const uint8_t *image, size_t image_length,
                     uint32_t *settings, size_t settings_length,
                     float *triangles, size_t triangles_length, uint32_t *order, size_t order_length,
                     uint32_t *links, size_t links_length, float *boxes, size_t boxes_length);
+uint64_t plain_read_stl(const uint8_t *stl, size_t stl_length, float *triangles, size_t triangles_length);
+uint64_t plain_write_stl(const float *triangles, size_t triangles_length, uint8_t *stl, size_t stl_length);
 uint64_t plain_build(size_t strategy, size_t leaf_minimum, size_t maximum_depth,
                      const float *triangles, size_t triangles_length, uint32_t *order, size_t order_length,
                      uint32_t *links, size_t links_length, float *boxes, size_t boxes_length,

@@ -13,17 +13,18 @@
 #include <sys/mman.h>
 #include <unistd.h>
 
-enum { READ, BUILD, WRITE, CHECK, SURE, SOURCE, WINDING, NODE_SUMS, FAST, CALLS };
+enum { READ, READ_STL, WRITE_STL, BUILD, WRITE, CHECK, SURE, SOURCE, WINDING, NODE_SUMS, FAST, CALLS };
 enum { N = GAUGE_MAX_TRIANGLES, POINTS = 8, LEVELS = GAUGE_MAX_DEPTH, BELOW = 64 << 20, PAINT = 0xa5 };
-static const char *const names[CALLS] = {"gauge_read", "gauge_build", "gauge_write", "gauge_check", "gauge_sure", "gauge_source",
-                                         "gauge_winding", "gauge_node_sums", "gauge_fast_winding"};
-static const size_t stated[CALLS] = {GAUGE_STACK_READ, GAUGE_STACK_BUILD, GAUGE_STACK_WRITE, GAUGE_STACK_CHECK, GAUGE_STACK_SURE,
-                                     GAUGE_STACK_SOURCE, GAUGE_STACK_WINDING, GAUGE_STACK_NODE_SUMS, GAUGE_STACK_FAST_WINDING};
+static const char *const names[CALLS] = {"gauge_read", "gauge_read_stl", "gauge_write_stl", "gauge_build", "gauge_write", "gauge_check",
+                                         "gauge_sure", "gauge_source", "gauge_winding", "gauge_node_sums", "gauge_fast_winding"};
+static const size_t stated[CALLS] = {GAUGE_STACK_READ, GAUGE_STACK_READ_STL, GAUGE_STACK_WRITE_STL, GAUGE_STACK_BUILD, GAUGE_STACK_WRITE,
+                                     GAUGE_STACK_CHECK, GAUGE_STACK_SURE, GAUGE_STACK_SOURCE, GAUGE_STACK_WINDING, GAUGE_STACK_NODE_SUMS,
+                                     GAUGE_STACK_FAST_WINDING};
 
-/* The drawing that is asked, its image, and another drawing that this is read into. */
+/* The drawing that is asked, its image and its STL, and another drawing that these are read into. */
 static float block[GAUGE_DRAWING_BYTES(N) / 4], other_block[GAUGE_DRAWING_BYTES(N) / 4];
 static struct gauge_drawing d, other;
-static uint8_t image[GAUGE_IMAGE_MAX(N)];
+static uint8_t image[GAUGE_IMAGE_MAX(N)], stl[GAUGE_STL_BYTES(N)];
 static size_t image_length, strategy;
 static float points[3 * POINTS], winding, sums[GAUGE_SUMS(N)], scale;
 static struct gauge_answer answers[POINTS];
@@ -54,6 +55,12 @@ static void *run(void *given)
         if (gauge_image_max(d.count) != GAUGE_IMAGE_MAX(d.count) || gauge_image_triangles(image, image_length) != d.count)
             return NULL;
         job->returned = gauge_drawing_read(&other, image, image_length);
+        break;
+    case READ_STL:
+        job->returned = gauge_drawing_read_stl(&other, stl, GAUGE_STL_BYTES(d.count));
+        break;
+    case WRITE_STL:
+        job->returned = gauge_drawing_write_stl(&d, stl, sizeof stl);
         break;
     case BUILD:
         job->returned = gauge_drawing_build(&d, strategy, 1, LEVELS);
@@ -134,6 +141,8 @@ static void ask_tree(const char *input)
     other = gauge_lay(other_block, d.count);
     expect(WRITE, image_length, input);
     expect(READ, d.nodes, input);
+    expect(WRITE_STL, GAUGE_STL_BYTES(d.count), input);
+    expect(READ_STL, d.count, input);
     expect(CHECK, d.count, input);
     expect(SURE, POINTS, input);
     expect(SOURCE, POINTS, input);

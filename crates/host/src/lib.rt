@@ -7,6 +7,7 @@ ghost use Rattle.image.specs.Values.{imageFrom};
 ghost use Rattle.spec_host.specs.Status.{status};
 ghost use Rattle.spec_host.specs.Build.{BuildPut};
 ghost use Rattle.spec_host.specs.Images.{imageMax, layoutRefusal, imageTriangles, WritePut, ReadPut};
+ghost use Rattle.spec_host.specs.Stls.{ReadStlPut, WriteStlPut};
 ghost use Rattle.spec_host.specs.Requests.{QueryIs, WindingIs, SumsIs, FastIs};
 use host_ask::calls::check_lists;
 use host_ask::calls::fast_points;
@@ -19,6 +20,8 @@ use host_image::calls::image_max;
 use host_image::calls::image_triangles;
 use host_image::calls::read_lists;
 use host_image::calls::write_lists;
+use host_stl::calls::read_triangles;
+use host_stl::calls::write_triangles;
 
 // The maximum size of an image of that many triangles, or 0 where no such list passes.
 #[no_mangle]
@@ -61,6 +64,22 @@ pub extern "C" fn gauge_read(
     }) ⌝ }
 {
     read_lists(image, settings, triangles, order, links, boxes)
+}
+
+// Reads an STL into a triangle list. The status is the number of triangles.
+#[no_mangle]
+pub extern "C" fn gauge_read_stl(stl: &[u8], triangles: &mut [f32]) -> u64
+    ensures { λ r. ⌜ ReadStlPut (now (stl .entry)) (now (triangles .entry)) r (now (triangles .exit)) ⌝ }
+{
+    read_triangles(stl, triangles)
+}
+
+// Writes the STL of a triangle list to the front of `stl`. The status is the number of bytes.
+#[no_mangle]
+pub extern "C" fn gauge_write_stl(triangles: &[f32], stl: &mut [u8]) -> u64
+    ensures { λ r. ⌜ WriteStlPut (now (triangles .entry)) (now (stl .entry)) r (now (stl .exit)) ⌝ }
+{
+    write_triangles(triangles, stl)
 }
 
 // Builds the tree over the triangles in the lent lists. The status is the number of nodes.

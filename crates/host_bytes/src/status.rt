@@ -8,6 +8,18 @@ const TOP_BIT: u64 = 9223372036854775808;
 
 const TOP_BYTE: u64 = 72057594037927936;
 
+const LAST_PLACE: usize = 72057594037927935;
+
+// The place as 56 bits tell it: the length of a longer slice, which no machine can address, as the largest place that they hold.
+pub fn told_place(place: usize) -> usize
+    ensures { λ r. ⌜ r ≡ Status.toldPlace place ⌝ }
+{
+    if place > LAST_PLACE {
+        return LAST_PLACE;
+    }
+    place
+}
+
 // The status of a refusal. An 8 sets the top bit, since its place may be large; any other number stands in the top byte.
 pub fn encode_refusal(number: usize, place: usize) -> u64
     requires { ⌜ Status.Placed number place ⌝ }

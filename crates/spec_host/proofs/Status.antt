@@ -2,20 +2,20 @@
 use mathlib.Core.Path.{_≡_, refl, sym, ap, _∙_}
 use mathlib.Core.Bool.{Bool, true, false, cond, not}
 use mathlib.Core.List.{List, [], _∷_}
-use Prim.Native.Nat.{ℕ, _+_, _*_, _/_, _%_, _^_, _≤_, _<_}
+use Prim.Native.Nat.{ℕ, _+_, _*_, _-_, _/_, _%_, _^_, _≤_, _<_}
 use native.Mathlib.Omega.{arith}
 use native.Mathlib.Nat.{mod-eq-of-lt, div-eq-of-lt, mul-add-div-right, mul-add-mod-self-right}
 use lib.Dec.{eqb, ltb}
 use lib.Ieee.{Float}
 use lib.ListN.{length}
-use borrow.Author.Tests.{eqb-true, ltb-true, ltb-false, le-leb, lt-leb}
+use borrow.Author.Tests.{eqb-true, ltb-true, ltb-false, lt-ltb, le-leb, lt-leb}
 use Rattle.spec_lists.specs.Limits.{maxTriangles}
 use Rattle.spec_lists.specs.Reading.{triangleCount}
 use Rattle.spec_lists.specs.Refusals.{Verdict, passes, refused, firstRefusal, refusedIf, raggedRefusal, noneRefusal, tooManyRefusal, coordinateRefusal, trianglesRefusal, Settings, settingsRefusal, roomRefusal, distanceRefusal, scaleRefusal, firstBad, areSettings, isDistance, isScale}
 use Rattle.spec_lists.proofs.Verdicts.{not-refused}
 use Rattle.spec_tree.specs.Accepted.{accepted}
 use Rattle.spec_tree.specs.Refusals.{treeRefusal}
-use Rattle.spec_host.specs.Status.{status, refusalStatus, statusNumber, statusPlace, statusCount, Placed, InPlace, Encodable, Decoded}
+use Rattle.spec_host.specs.Status.{status, refusalStatus, saturated, statusNumber, statusPlace, statusCount, Placed, InPlace, Encodable, Decoded}
 
 -- ---- decoding
 decoded-8 : (place : ℕ) → place < 2 ^ 63 → (statusNumber (2 ^ 63 + place) ≡ 8) × (statusPlace (2 ^ 63 + place) ≡ place)
@@ -62,61 +62,128 @@ pub decoded : (v : Verdict) (count : ℕ) → InPlace v → (v ≡ passes → co
 decoded passes count place few = status-decoded passes count (record { verdict = tt; counted = few refl })
 decoded (refused number place) count ok few = refusal-decoded number place ok
 
--- ---- verdicts that can be encoded
--- a refusal at place 0 can be encoded
-pub at-zero : (b : Bool) (number : ℕ) → 1 ≤ number → number ≤ 127 → InPlace (refusedIf b number 0)
-at-zero true number s m = record { some = s; most = m; near = go (eqb number 8) }
+-- a status below 2^56 says that the call is done: all that a host compares
+pub done-below : (v : Verdict) (count : ℕ) → InPlace v → status v count < 2 ^ 56 → v ≡ passes
+unfolding refusalStatus
+done-below passes count ok low = refl
+done-below (refused number place) count ok low = absurd (go (eqb number 8) refl)
   where
-    go : (b : Bool) → 0 < cond b (2 ^ 63) (2 ^ 56)
-    go true = omega arith
-    go false = omega arith
-at-zero false number s m = tt
+    go : (b : Bool) → eqb number 8 ≡ b → ⊥
+    go true e = let h : 2 ^ 63 + place < 2 ^ 56 = rw e at low in omega arith
+    go false e = let h : number * 2 ^ 56 + place < 2 ^ 56 = rw e at low in omega (arith, ok .some)
+
+-- ---- verdicts that can be encoded
+-- what holds of a verdict that passes, and of each test of a row that refuses, holds of the row
+module _ (P : Verdict → Type 0) (ok : P passes) where
+  test-has : (b : Bool) (number place : ℕ) → (b ≡ true → P (refused number place)) → P (refusedIf b number place)
+  test-has true number place h = h refl
+  test-has false number place h = ok
+
+  row-ends : P (firstRefusal [])
+  unfolding firstRefusal
+  row-ends = ok
+
+  row-has : (test : Verdict) (tests : List Verdict) → P test → (test ≡ passes → P (firstRefusal tests)) → P (firstRefusal (test ∷ tests))
+  unfolding firstRefusal
+  row-has passes tests h k = k refl
+  row-has (refused number place) tests h k = h
+
+-- a test can be encoded where its place is in range whenever it refuses
+pub placed : (b : Bool) (number place : ℕ) → (b ≡ true → Placed number place) → InPlace (refusedIf b number place)
+placed = test-has InPlace tt
 
 -- a row of no tests passes, which can be encoded
 pub no-test : InPlace (firstRefusal [])
-unfolding firstRefusal
-no-test = tt
+no-test = row-ends InPlace tt
 
 -- a row of tests can be encoded where its first can, and the rest can once that passed
 pub then-test : (test : Verdict) (tests : List Verdict) → InPlace test → (test ≡ passes → InPlace (firstRefusal tests)) → InPlace (firstRefusal (test ∷ tests))
-unfolding firstRefusal
-then-test passes tests h k = k refl
-then-test (refused number place) tests h k = h
+then-test = row-has InPlace tt
 
--- a test can be encoded where its place is in range whenever it refuses
-abbrev pub placed : (b : Bool) (number place : ℕ) → (b ≡ true → Placed number place) → InPlace (refusedIf b number place)
-placed true number place h = h refl
-placed false number place h = tt
+-- ---- verdicts whose place 56 bits hold, whatever the number
+pub record ToldAt (number place : ℕ) : Type 0 where
+  pub some : 1 ≤ number
+  pub most : number ≤ 127
+  pub low : place < 2 ^ 56
 
--- the tests of a triangle list can be encoded: a bad coordinate is looked for only in a list that is short enough
-pub triangles-encodable : (xs : List Float) → InPlace (trianglesRefusal xs)
-unfolding trianglesRefusal raggedRefusal noneRefusal tooManyRefusal coordinateRefusal triangleCount
-triangles-encodable xs =
-    then-test (raggedRefusal xs) _ (at-zero (not (eqb (length xs % 9) 0)) 1 (omega arith) (omega arith))
-    (λ _. then-test (noneRefusal xs) _ (at-zero (eqb (triangleCount xs) 0) 2 (omega arith) (omega arith))
-    (λ _. then-test (tooManyRefusal xs) _ (at-zero (ltb maxTriangles (triangleCount xs)) 3 (omega arith) (omega arith))
-    (λ few. then-test (coordinateRefusal 4 xs) [] (placed (ltb (firstBad xs) (length xs)) 4 (firstBad xs) (bad few)) (λ _. no-test))))
+-- what a verdict needs so that nothing of it is cut
+abbrev pub Told : Verdict → Type 0
+Told passes = Unit {0}
+Told (refused number place) = ToldAt number place
+
+-- such a test, from what is known where it refuses
+pub told-if : (b : Bool) (number place : ℕ) → 1 ≤ number → number ≤ 127 → (b ≡ true → place < 2 ^ 56) → Told (refusedIf b number place)
+told-if b number place s m h = test-has Told tt b number place (λ e. record { some = s; most = m; low = h e })
+
+-- a row of no tests
+pub no-told : Told (firstRefusal [])
+no-told = row-ends Told tt
+
+-- a row of tests
+pub then-told : (test : Verdict) (tests : List Verdict) → Told test → (test ≡ passes → Told (firstRefusal tests)) → Told (firstRefusal (test ∷ tests))
+then-told = row-has Told tt
+
+-- such a verdict can be encoded
+pub told-encodable : (v : Verdict) → Told v → InPlace v
+told-encodable passes h = tt
+told-encodable (refused number place) h = record { some = h .some; most = h .most; near = go (eqb number 8) }
   where
-    bad : tooManyRefusal xs ≡ passes → ltb (firstBad xs) (length xs) ≡ true → Placed 4 (firstBad xs)
-    bad few e = record {
-      some = omega arith;
-      most = omega arith;
-      near = omega (
-        arith,
-        ltb-true (firstBad xs) (length xs) e,
-        ltb-false maxTriangles (length xs / 9) (not-refused (ltb maxTriangles (triangleCount xs)) 3 0 few),
-      );
-    }
+    go : (b : Bool) → place < cond b (2 ^ 63) (2 ^ 56)
+    go true = omega (arith, h .low)
+    go false = h .low
+
+-- and nothing of it is cut
+pub told-whole : (v : Verdict) → Told v → saturated v ≡ v
+told-whole passes h = refl
+told-whole (refused number place) h = rw (lt-ltb place (2 ^ 56) (h .low))
+
+-- what is cut can be encoded, so only the number matters
+pub cut-told : (number place : ℕ) → 1 ≤ number → number ≤ 127 → Told (saturated (refused number place))
+cut-told number place s m = record { some = s; most = m; low = go (ltb place (2 ^ 56)) refl }
+  where
+    go : (b : Bool) → ltb place (2 ^ 56) ≡ b → cond b place (2 ^ 56 - 1) < 2 ^ 56
+    go true e = ltb-true place (2 ^ 56) e
+    go false e = omega arith
+
+-- ---- the tests of the lists
+-- a refusal at place 0 can be encoded
+pub at-zero : (b : Bool) (number : ℕ) → 1 ≤ number → number ≤ 127 → InPlace (refusedIf b number 0)
+at-zero b number s m = told-encodable (refusedIf b number 0) (told-if b number 0 s m (λ _. omega arith))
+
+-- the places of a triangle list's tests are low: a bad coordinate is looked for only in a list that is short enough
+pub triangles-told : (xs : List Float) → Told (trianglesRefusal xs)
+unfolding trianglesRefusal raggedRefusal noneRefusal tooManyRefusal coordinateRefusal triangleCount
+triangles-told xs =
+    then-told (raggedRefusal xs) _ (told-if (not (eqb (length xs % 9) 0)) 1 0 (omega arith) (omega arith) (λ _. omega arith))
+    (λ _. then-told (noneRefusal xs) _ (told-if (eqb (triangleCount xs) 0) 2 0 (omega arith) (omega arith) (λ _. omega arith))
+    (λ _. then-told (tooManyRefusal xs) _ (told-if (ltb maxTriangles (triangleCount xs)) 3 0 (omega arith) (omega arith) (λ _. omega arith))
+    (λ few. then-told (coordinateRefusal 4 xs) []
+    (told-if (ltb (firstBad xs) (length xs)) 4 (firstBad xs) (omega arith) (omega arith) (bad few)) (λ _. no-told))))
+  where
+    bad : tooManyRefusal xs ≡ passes → ltb (firstBad xs) (length xs) ≡ true → firstBad xs < 2 ^ 56
+    bad few e = omega (
+      arith,
+      ltb-true (firstBad xs) (length xs) e,
+      ltb-false maxTriangles (length xs / 9) (not-refused (ltb maxTriangles (triangleCount xs)) 3 0 few),
+    )
+
+-- so they can be encoded
+pub triangles-encodable : (xs : List Float) → InPlace (trianglesRefusal xs)
+triangles-encodable xs = told-encodable (trianglesRefusal xs) (triangles-told xs)
 
 -- the test of the settings can be encoded
 pub settings-encodable : (s : Settings) → InPlace (settingsRefusal s)
 unfolding settingsRefusal
 settings-encodable s = at-zero (not (areSettings s)) 5 (omega arith) (omega arith)
 
--- the test of the room can be encoded
-pub room-encodable : (given need : ℕ) → InPlace (roomRefusal given need)
+-- the place of the room's test is low
+pub room-told : (given need : ℕ) → Told (roomRefusal given need)
 unfolding roomRefusal
-room-encodable given need = at-zero (ltb given need) 6 (omega arith) (omega arith)
+room-told given need = told-if (ltb given need) 6 0 (omega arith) (omega arith) (λ _. omega arith)
+
+-- so it can be encoded
+pub room-encodable : (given need : ℕ) → InPlace (roomRefusal given need)
+room-encodable given need = told-encodable (roomRefusal given need) (room-told given need)
 
 -- the test of the distance can be encoded
 pub distance-encodable : (d : Float) → InPlace (distanceRefusal d)

@@ -3,3 +3,4 @@ pub mod PointBytes
 pub mod Requests
 pub mod Build
 pub mod Images
+pub mod Stls

@@ -2,7 +2,7 @@
 use Prim.Native.Nat.{ℕ, _+_, _*_, _-_, _/_, _%_, _^_, _≤_, _<_}
 use mathlib.Core.Path.{_≡_}
 use mathlib.Core.Bool.{cond}
-use lib.Dec.{eqb, leb}
+use lib.Dec.{eqb, leb, ltb}
 use Rattle.spec_lists.specs.Refusals.{Verdict, passes, refused}
 
 -- the place of an 8 may be the length of a list, so it has all bits but the top one; any other stands below its number, in the top byte
@@ -13,6 +13,16 @@ refusalStatus number place = cond (eqb number 8) (2 ^ 63 + place) (number * 2 ^ 
 abbrev pub status : Verdict → (count : ℕ) → ℕ
 status passes count = count
 status (refused number place) count = refusalStatus number place
+
+-- the place of an 11 may be the length of a slice too, and has 56 bits: a longer slice, which no machine can address, is told as the largest place
+-- that they hold
+abbrev pub toldPlace : (place : ℕ) → ℕ
+toldPlace place = cond (ltb place (2 ^ 56)) place (2 ^ 56 - 1)
+
+-- the verdict of a call that tells such a place, and no 8
+abbrev pub saturated : Verdict → Verdict
+saturated passes = passes
+saturated (refused number place) = refused number (toldPlace place)
 
 -- ---- how a host decodes it
 -- the refusal's number; 0 where the call is done
