@@ -23,7 +23,7 @@ target/host/stock: examples/stock.c include/gauge.h $(LIBRARY)
 	tools/link $@ -O2 examples/stock.c
 
 picture: target/host/stock
-	tools/run target/host/stock examples/flange.txt target/host/stock.svg
+	tools/run target/host/stock examples/flange.stl examples/flange_points.txt target/host/stock.svg
 
 test:
 	tests/host/run

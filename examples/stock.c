@@ -1,19 +1,24 @@
 /* How much stock a rough casting has over its drawing: the numbers, and the picture on the screen over
  * the bay.
  *
+ *     stock DRAWING.stl POINTS [PICTURE [LEAST MOST [DISTANCE]]]
  *     stock DRAWING [PICTURE [LEAST MOST]]
  *
- * DRAWING is plain text as tools/make_input.py reads it: settings, the drawing's triangles, the points
- * that were touched, and how far to search. Stock is how far a touched point lies outside the drawing,
- * or, with a minus, inside.
- * It is wanted from LEAST to MOST (1 and 4 where none are given). PICTURE is written as SVG, which any
- * browser shows: the drawing from two sides, each place in the colour of the touched point nearest to
- * it.
+ * DRAWING.stl is the drawing as a pattern shop sends it, binary or in text. POINTS are the points that
+ * were touched: x y z on a line; blank lines, and all behind a #, are passed over. They are searched for
+ * within DISTANCE (50 where none is given). A DRAWING under any other name is plain text as
+ * tools/make_input.py reads it: settings, triangles, points and distance in one.
  *
- * The engine's part is ask(): a tree is built over the drawing, and the points are asked for their
- * nearest place on it and for inside or outside. */
+ * Stock is how far a touched point lies outside the drawing, or, with a minus, inside. It is wanted from
+ * LEAST to MOST (1 and 4 where none are given). PICTURE is written as SVG, which any browser shows: the
+ * drawing from two sides, each place in the colour of the touched point nearest to it. Under a name that
+ * ends in .stl it is not a picture but the drawing, as a binary STL.
+ *
+ * The engine's part is read_stl(), ask() and write_stl(): an STL becomes a drawing, a tree is built over
+ * it, and the points are asked for their nearest place on it and for inside or outside. */
 #include "gauge.h"
 
+#include <ctype.h>
 #include <math.h>
 #include <stdio.h>
 #include <stdlib.h>
@@ -28,7 +33,7 @@ static float touched[3 * MOST_POINTS], windings[MOST_POINTS];
 static struct gauge_answer answers[MOST_POINTS];
 static size_t points;
 static unsigned strategy, leaf_minimum, maximum_depth;
-static float distance;
+static float distance = 50;
 static double least = 1, most = 4;
 
 static void fail(const char *what, const char *more)
@@ -37,9 +42,183 @@ static void fail(const char *what, const char *more)
     exit(1);
 }
 
+static void fail_at(const char *path, size_t line, const char *what)
+{
+    fprintf(stderr, "stock: %s, line %zu: %s\n", path, line, what);
+    exit(1);
+}
+
+/* Ends the program where a call was refused, and says why. */
+static void done(const char *call, uint64_t returned)
+{
+    unsigned long long place = gauge_place(returned);
+    if (!gauge_refused(returned))
+        return;
+    fprintf(stderr, "stock: ");
+    switch (gauge_number(returned)) {
+    case GAUGE_STL:
+        fprintf(stderr, "the STL has %llu bytes, which does not fit its count of triangles: it is cut off or damaged, or it is no STL\n", place);
+        break;
+    case GAUGE_NONE:
+        fprintf(stderr, "the drawing has no triangles\n");
+        break;
+    case GAUGE_TOO_MANY:
+        fprintf(stderr, "the drawing has more than %d triangles\n", GAUGE_MAX_TRIANGLES);
+        break;
+    case GAUGE_COORDINATE:
+        fprintf(stderr, "triangle %llu (the first is 0): %c of corner %c is no number, or beyond %.0f\n", place / 9, "xyz"[place % 3],
+                "abc"[place % 9 / 3], (double)GAUGE_MAX_COORDINATE);
+        break;
+    case GAUGE_POINT:
+        fprintf(stderr, "point %llu (the first is 0): its %c is no number, or beyond %.0f\n", place / 3, "xyz"[place % 3],
+                (double)GAUGE_MAX_COORDINATE);
+        break;
+    case GAUGE_DISTANCE:
+        fprintf(stderr, "the distance is no number, or not 0 to %.0f\n", (double)GAUGE_MAX_DISTANCE);
+        break;
+    default:
+        fprintf(stderr, "%s refused: %u at %llu (include/gauge.h says what that is)\n", call, gauge_number(returned), place);
+    }
+    exit(1);
+}
+
+/* ---- files */
+
+static int is_named_stl(const char *path)
+{
+    const char *end = strrchr(path, '.');
+    return end != NULL && (strcmp(end, ".stl") == 0 || strcmp(end, ".STL") == 0);
+}
+
+/* All of a file, and a zero behind it. */
+static char *read_file(const char *path, size_t *length)
+{
+    FILE *file = fopen(path, "rb");
+    size_t room = 65536, more;
+    char *bytes = malloc(room);
+    if (file == NULL)
+        fail("cannot read ", path);
+    *length = 0;
+    while (bytes != NULL && (more = fread(bytes + *length, 1, room - 1 - *length, file)) != 0) {
+        *length += more;
+        if (*length == room - 1)
+            bytes = realloc(bytes, room *= 2);
+    }
+    if (bytes == NULL)
+        fail("no memory", "");
+    if (ferror(file))
+        fail("cannot read ", path);
+    fclose(file);
+    bytes[*length] = 0;
+    return bytes;
+}
+
+/* The next line of a text, NULL behind the last. */
+static char *next_line(char **rest)
+{
+    char *line = *rest;
+    size_t length = strcspn(line, "\n");
+    if (*line == 0)
+        return NULL;
+    *rest = line + length + (line[length] == '\n');
+    line[length] = 0;
+    return line;
+}
+
+/* Whether there are three numbers, and nothing else. */
+static int are_three(const char *words, float *numbers)
+{
+    for (int i = 0; i < 3; i++) {
+        char *end;
+        numbers[i] = strtof(words, &end);
+        if (end == words || (*end != 0 && !isspace((unsigned char)*end)))
+            return 0;
+        words = end;
+    }
+    return words[strspn(words, " \t\r")] == 0;
+}
+
 /* ---- the drawing */
 
-/* Laid for as many triangles as may come, then for those that there are. */
+/* Laid for as many triangles as may come. */
+static void lay(void)
+{
+    drawing = gauge_lay(malloc(GAUGE_DRAWING_BYTES(GAUGE_MAX_TRIANGLES)), GAUGE_MAX_TRIANGLES);
+    if (drawing.triangles == NULL)
+        fail("no memory", "");
+}
+
+/* An STL in text: between solid and endsolid, facets of seven lines each. */
+static void read_text_stl(const char *path, char *text)
+{
+    static const char *const facet[] = {"facet", "outer", "vertex", "vertex", "vertex", "endloop", "endfacet"};
+    size_t at = 0, lines = 0, triangles = 0;
+    int open = 0, end;
+    for (char *line; (line = next_line(&text)) != NULL;) {
+        char word[16];
+        lines++;
+        if (sscanf(line, "%15s%n", word, &end) != 1)
+            continue;
+        for (char *c = word; *c != 0; c++)
+            *c = (char)tolower((unsigned char)*c);
+        if (at == 0 && strcmp(word, open ? "endsolid" : "solid") == 0) {
+            open = !open;
+            continue;
+        }
+        if (!open || strcmp(word, facet[at]) != 0)
+            fail_at(path, lines, "no binary STL, and as one in text it breaks here");
+        if (triangles == GAUGE_MAX_TRIANGLES)
+            fail_at(path, lines, "here it has too many triangles");
+        if (word[0] == 'v' && !are_three(line + end, drawing.triangles + 9 * triangles + 3 * (at - 2)))
+            fail_at(path, lines, "a vertex is three numbers");
+        at = (at + 1) % (sizeof facet / sizeof *facet);
+        triangles += at == 0;
+    }
+    if (open)
+        fail_at(path, lines, "it is cut off here: its endsolid is missing");
+    drawing = gauge_lay(drawing.triangles, triangles);
+}
+
+/* The bytes of a binary STL go to the engine as they are. Those that it refuses for their size are taken for a text where
+ * no byte of them is zero: in a binary STL the last of the count is. That a file begins with "solid" tells nothing: every
+ * text does, and many a binary STL. */
+static void read_stl(const char *path)
+{
+    size_t length;
+    char *bytes = read_file(path, &length);
+    lay();
+    uint64_t read = gauge_drawing_read_stl(&drawing, (const uint8_t *)bytes, length);
+    if (gauge_number(read) == GAUGE_STL && length != 0 && strlen(bytes) == length)
+        read_text_stl(path, bytes);
+    else
+        done("gauge_read_stl", read);
+    free(bytes);
+    strategy = GAUGE_AREA;
+    leaf_minimum = 1;
+    maximum_depth = 40;
+}
+
+static void read_points(const char *path)
+{
+    size_t length, lines = 0;
+    char *text = read_file(path, &length), *rest = text;
+    if (strlen(text) != length)
+        fail("no text: ", path);
+    for (char *line; (line = next_line(&rest)) != NULL;) {
+        lines++;
+        line[strcspn(line, "#")] = 0;
+        if (line[strspn(line, " \t\r")] == 0)
+            continue;
+        if (points == MOST_POINTS)
+            fail_at(path, lines, "here it has too many points");
+        if (!are_three(line, touched + 3 * points))
+            fail_at(path, lines, "a point is three numbers, x y z");
+        points++;
+    }
+    free(text);
+}
+
+/* In text. The block is laid again for the triangles that there are. */
 static void read_drawing(const char *path)
 {
     char line[512], word[16], name[16], extra[2]; /* where a line reads an extra, it has one word too many */
@@ -48,9 +227,7 @@ static void read_drawing(const char *path)
     FILE *file = fopen(path, "r");
     if (file == NULL)
         fail("cannot read ", path);
-    drawing = gauge_lay(malloc(GAUGE_DRAWING_BYTES(GAUGE_MAX_TRIANGLES)), GAUGE_MAX_TRIANGLES);
-    if (drawing.triangles == NULL)
-        fail("no memory", "");
+    lay();
     while (fgets(line, sizeof line, file) != NULL) {
         float *t = drawing.triangles + 9 * triangles, *p = touched + 3 * points;
         line[strcspn(line, "#\n")] = 0;
@@ -76,15 +253,6 @@ static void read_drawing(const char *path)
 }
 
 /* ---- the engine's part */
-
-static void done(const char *call, uint64_t returned)
-{
-    if (gauge_refused(returned)) {
-        fprintf(stderr, "stock: %s refused: %u at %llu (include/gauge.h says what that is)\n", call, gauge_number(returned),
-                (unsigned long long)gauge_place(returned));
-        exit(1);
-    }
-}
 
 /* Inside or outside is asked for by fast winding: its error is far below the half that parts them. */
 static void ask(void)
@@ -515,6 +683,26 @@ static void draw(const char *path)
     printf("the picture is %s\n", path);
 }
 
+/* ---- the drawing as a binary STL */
+
+/* Nobody's drawing is written over. */
+static void write_stl(const char *path)
+{
+    size_t length = GAUGE_STL_BYTES(drawing.count);
+    uint8_t *stl = malloc(length);
+    FILE *f = fopen(path, "rb");
+    if (f != NULL)
+        fail("there is a drawing already: ", path);
+    if (stl == NULL)
+        fail("no memory", "");
+    done("gauge_write_stl", gauge_drawing_write_stl(&drawing, stl, length));
+    f = fopen(path, "wb");
+    if (f == NULL || fwrite(stl, 1, length, f) != length || fclose(f) != 0)
+        fail("cannot write ", path);
+    free(stl);
+    printf("the drawing is %s\n", path);
+}
+
 static double number(const char *word)
 {
     char *end;
@@ -526,19 +714,30 @@ static double number(const char *word)
 
 int main(int argc, char **argv)
 {
-    if (argc != 2 && argc != 3 && argc != 5)
-        fail("usage: stock DRAWING [PICTURE [LEAST MOST]]", "");
-    if (argc == 5) {
-        least = number(argv[3]);
-        most = number(argv[4]);
+    int stl = argc > 1 && is_named_stl(argv[1]), first = stl ? 3 : 2, given = argc - first;
+    if (given != 0 && given != 1 && given != 3 && !(stl && given == 4))
+        fail("usage: stock DRAWING.stl POINTS [PICTURE [LEAST MOST [DISTANCE]]]\n"
+             "       stock DRAWING [PICTURE [LEAST MOST]]\n",
+             "POINTS has x y z on a line. LEAST and MOST are 1 and 4, DISTANCE is 50 where none is given.");
+    if (given >= 3) {
+        least = number(argv[first + 1]);
+        most = number(argv[first + 2]);
         if (!(least <= most))
             fail("LEAST to MOST is no range", "");
     }
-    read_drawing(argv[1]);
+    if (given == 4)
+        distance = (float)number(argv[first + 3]);
+    if (stl) {
+        read_stl(argv[1]);
+        read_points(argv[2]);
+    } else
+        read_drawing(argv[1]);
     ask();
     judge();
     print_stock();
-    if (argc > 2)
-        draw(argv[2]);
+    if (given > 0 && is_named_stl(argv[first]))
+        write_stl(argv[first]);
+    else if (given > 0)
+        draw(argv[first]);
     return 0;
 }

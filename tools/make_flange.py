@@ -4,6 +4,11 @@ rough casting.
 
     tools/make_flange.py > examples/flange.txt
 
+Its STL and its points alone are made of that, by examples/stock.c and by sed; tests/host/run compares them:
+
+    stock examples/flange.txt examples/flange.stl
+    { head -n 1 examples/flange_points.txt; sed -n 's/^point //p' examples/flange.txt; }
+
 The casting stands about 2.6 mm over the drawing, more below, less on one lobe, and is sunk at one
 place beside the hub: there it is short of stock.
 """
@@ -53,6 +58,11 @@ def stock(p, n, chance):
     return over
 
 
+def written(p):
+    """Without a minus before a zero: many programs join corners by their bits."""
+    return "%.3f %.3f %.3f" % tuple(round(x, 3) + 0.0 for x in p)
+
+
 def main():
     chance = random.Random(1)
     triangles, points = [], []
@@ -72,9 +82,9 @@ def main():
     print("# tools/make_flange.py makes this file.")
     print("settings area 1 40")
     for corners in triangles:
-        print("triangle", "  ".join("%.3f %.3f %.3f" % p for p in corners))
+        print("triangle", "  ".join(written(p) for p in corners))
     for p in points:
-        print("point", "%.3f %.3f %.3f" % p)
+        print("point", written(p))
     print("distance 50")
 
 
