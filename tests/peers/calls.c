@@ -21,7 +21,7 @@
 
 enum { MOST = GAUGE_MAX_TRIANGLES, SMALL = GAUGE_MAX_SMALL, POINTS = 1000, TURNS = 15 };
 static float block[GAUGE_DRAWING_BYTES(MOST) / 4], other[GAUGE_DRAWING_BYTES(MOST) / 4], points[3 * POINTS], windings[POINTS], sums[GAUGE_SUMS(MOST)];
-static uint8_t image[GAUGE_IMAGE_MAX(MOST)];
+static uint8_t image[GAUGE_IMAGE_MAX(MOST)], stl[GAUGE_STL_BYTES(MOST)];
 static struct gauge_answer answers[POINTS];
 static struct gauge_drawing d, copy;
 static uint64_t size;
@@ -37,6 +37,8 @@ static uint64_t median(void) { return gauge_drawing_build(&d, GAUGE_MEDIAN, 10, 
 static uint64_t area(void) { return gauge_drawing_build(&d, GAUGE_AREA, 10, 40); }
 static uint64_t written(void) { return size = gauge_drawing_write(&d, image, sizeof image); }
 static uint64_t read_back(void) { return gauge_drawing_read(&copy, image, size); }
+static uint64_t stl_written(void) { return gauge_drawing_write_stl(&d, stl, sizeof stl); }
+static uint64_t stl_read(void) { return gauge_drawing_read_stl(&copy, stl, GAUGE_STL_BYTES(d.count)); }
 static uint64_t check(void) { return gauge_drawing_check(&d); }
 static uint64_t one(void) { return gauge_drawing_sure(&d, points, 1, 100, answers); }
 static uint64_t sure(void) { return gauge_drawing_sure(&d, points, POINTS, 100, answers); }
@@ -132,6 +134,8 @@ int main(void)
         least("build, area", area, THEN(area_then));
         least("write", written, 0);
         least("read", read_back, 0);
+        least("write STL", stl_written, 0);
+        least("read STL", stl_read, 0);
         least("check", check, THEN(check_then));
         least("sure, one point", one, THEN(one_then));
         least("sure, 1,000 points", sure, THEN(many_then));
