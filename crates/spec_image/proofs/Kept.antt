@@ -7,14 +7,15 @@ use mathlib.Core.List.{List}
 use Prim.Native.Nat.{ℕ, zero, suc, _+_, _*_, _≤_, _<_}
 use native.Mathlib.Omega.{arith}
 use lib.ListN.{length, take, getD}
-use lib.Ieee.{nan, binary32, ofBits}
+use lib.Dec.{T}
+use lib.Ieee.{Float, nan, binary32, fits}
 use lib.Ieee.Bits.{ofBits-fits}
 use Rattle.spec_tables.specs.Each.{Each}
-use Rattle.spec_tables.proofs.Each.{each-by-index, each-taken}
-use Rattle.spec_tables.proofs.Pieces.{take-overwrite, length-singles, getD-concatMap}
+use Rattle.spec_tables.proofs.Each.{each-concatMap, each-at, each-by-index, each-taken}
+use Rattle.spec_tables.proofs.Pieces.{take-overwrite, length-singles}
 use Rattle.spec_numbers.specs.Plain.{Plain}
 use Rattle.spec_numbers.proofs.Order.{finite-number}
-use Rattle.spec_records.specs.Little.{littleAt, Bytes}
+use Rattle.spec_records.specs.Little.{Bytes}
 use Rattle.spec_records.specs.Entries.{floatsIn, NoNan}
 use Rattle.spec_records.specs.Records.{Layout, wrong, bodies, laidOut}
 use Rattle.spec_records.specs.Layouts.{Shape, versionFor, imageWants, imageSize, imageSpans}
@@ -45,9 +46,8 @@ use Rattle.spec_image.proofs.Rewritten.{rewritten}
 -- floats that are read are values of the format, so they can be written again
 pub floats-fit : (s : List ℕ) (start n : ℕ) → AllFit binary32 (floatsIn binary32 s start n)
 floats-fit s start n i h =
-    rw (getD-concatMap nan (λ (j : ℕ). ofBits binary32 (littleAt 4 s (start + 4 * j))) n i
-    (omega (arith, length-singles (λ (j : ℕ). ofBits binary32 (littleAt 4 s (start + 4 * j))) n)))
-    (ofBits-fits binary32 (littleAt 4 s (start + 4 * i)))
+    let fit : Float → Type 0 = λ (x : Float). T (fits binary32 x) in
+    each-at fit (floatsIn binary32 s start n) i nan h (each-concatMap fit _ n (λ j. (ofBits-fits binary32 _, tt)))
 
 -- ---- what good lists hold
 module _ (x : Image) (g : Good x) (fit : AllFit binary32 (x .triangles)) where

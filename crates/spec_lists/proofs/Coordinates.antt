@@ -1,8 +1,8 @@
 -- A coordinate is finite, and stays a coordinate when it is read plus zero. The first bad number of a list is bad, and those before it
 -- are not: so the place that a refusal reports is determined.
-use mathlib.Core.Path.{_≡_}
+use mathlib.Core.Path.{_≡_, refl, ap}
 use mathlib.Core.Bool.{Bool, true, false, not, cond}
-use mathlib.Core.List.{List, [], _∷_}
+use mathlib.Core.List.{List, [], _∷_, _++_}
 use Prim.Native.Nat.{ℕ, zero, suc, _+_, _≤_, _<_}
 use native.Mathlib.Nat.{lt-trans}
 use native.Mathlib.Decide.{decLt}
@@ -107,3 +107,36 @@ module _ (xs : List Float) (i : ℕ) (inside : i < length xs) where
 pub none-remaining : (xs : List Float) (i : ℕ) → length xs ≤ i → firstBad (drop i xs) ≡ 0
 unfolding firstBad
 none-remaining xs i h = rw (drop-of-length-le xs h)
+
+-- ---- the first bad number of two lists, one behind the other
+-- the search never goes past the end
+pub first-bad-within : (xs : List Float) → firstBad xs ≤ length xs
+unfolding firstBad
+first-bad-within [] = omega arith
+first-bad-within (x ∷ xs) = go (isCoordinate x) (first-bad-within xs)
+  where
+    go : (b : Bool) → firstBad xs ≤ length xs → cond b (suc (firstBad xs)) 0 ≤ suc (length xs)
+    go true h = omega arith
+    go false h = omega arith
+
+-- a bad number in the front is the first of both, so a search piece by piece may stop there
+pub bad-in-front : (xs ys : List Float) → firstBad xs < length xs → firstBad (xs ++ ys) ≡ firstBad xs
+unfolding firstBad
+bad-in-front [] ys h = absurd (omega arith)
+bad-in-front (x ∷ xs) ys h = go (isCoordinate x) h (bad-in-front xs ys)
+  where
+    go : (b : Bool) → cond b (suc (firstBad xs)) 0 < suc (length xs) → (firstBad xs < length xs → firstBad (xs ++ ys) ≡ firstBad xs)
+        → cond b (suc (firstBad (xs ++ ys))) 0 ≡ cond b (suc (firstBad xs)) 0
+    go true h rest = ap suc (rest (omega arith))
+    go false h rest = refl
+
+-- behind a front of coordinates the search goes on, so piece by piece it finds what one search of the whole does
+pub good-in-front : (xs ys : List Float) → firstBad xs ≡ length xs → firstBad (xs ++ ys) ≡ length xs + firstBad ys
+unfolding firstBad
+good-in-front [] ys h = omega arith
+good-in-front (x ∷ xs) ys h = go (isCoordinate x) h (good-in-front xs ys)
+  where
+    go : (b : Bool) → cond b (suc (firstBad xs)) 0 ≡ suc (length xs) → (firstBad xs ≡ length xs → firstBad (xs ++ ys) ≡ length xs + firstBad ys)
+        → cond b (suc (firstBad (xs ++ ys))) 0 ≡ suc (length xs) + firstBad ys
+    go true h rest = omega (arith, rest (omega arith))
+    go false h rest = absurd (omega arith)

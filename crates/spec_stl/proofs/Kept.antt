@@ -3,17 +3,18 @@
 use mathlib.Core.Path.{_≡_, refl, sym, ap, subst, _∙_}
 use mathlib.Core.Bool.{true, false}
 use mathlib.Core.List.{List, [], _++_, append-nil, append-assoc}
-use Prim.Native.Nat.{ℕ, _+_, _*_, _/_, _%_, _^_, _≤_, _<_}
+use Prim.Native.Nat.{ℕ, _+_, _*_, _%_, _^_, _≤_, _<_}
 use native.Mathlib.Omega.{arith}
 use borrow.Author.Tests.{eq-eqb, ne-eqb, lt-ltb}
-use lib.Dec.{eqb}
+use lib.Dec.{T, eqb}
 use lib.ListN.{length, getD, take, drop, length-replicate, length-append}
 use lib.Seq.{take-length}
-use lib.Ieee.{Float, binary32, nan, ofBits}
+use lib.Ieee.{Float, binary32, nan, fits}
 use lib.Ieee.Bits.{ofBits-fits}
 use Rattle.spec_tables.specs.Tables.{concatMap, slice, Remaining}
 use Rattle.spec_tables.proofs.Tables.{length-concatMap, concatMap-same, concatMap-slices, slice-concatMap, remaining-whole, remaining-front}
-use Rattle.spec_tables.proofs.Pieces.{piece-within, getD-slice, length-singles, getD-concatMap, remaining-concatMap, remaining-on, remaining-slice}
+use Rattle.spec_tables.proofs.Each.{each-concatMap, each-at}
+use Rattle.spec_tables.proofs.Pieces.{piece-within, remaining-concatMap, remaining-on, remaining-slice}
 use Rattle.spec_numbers.proofs.Order.{finite-number}
 use Rattle.spec_records.specs.Little.{little, ofLittle, littleAt, Bytes}
 use Rattle.spec_records.specs.Entries.{floatBytes, NoNan}
@@ -238,19 +239,9 @@ module _ (s : List ℕ) where
   pub read-all-fit : AllFit binary32 (stlTriangles s)
   unfolding stlTriangles cornersIn
   read-all-fit k h =
-      let n = stlCount s in
-      let i : ℕ = k / 9 in
-      let j : ℕ = k % 9 in
-      let b : ℕ → Float = λ (m : ℕ). ofBits binary32 (littleAt 4 s (cornersStart i + 4 * m)) in
-      let place : 9 * i + j ≡ k = omega arith in
-      let inside : i < n = omega (arith, length-read s) in
-      let facet : slice (stlTriangles s) (9 * i) 9 ≡ cornersIn s i = slice-concatMap (cornersIn s) 9 n i (length-corners s) inside in
-      let is : getD (stlTriangles s) k nan ≡ b j =
-      ap (λ (m : ℕ). getD (stlTriangles s) m nan) (sym place)
-      ∙ sym (getD-slice nan (stlTriangles s) (9 * i) 9 j (omega arith))
-      ∙ ap (λ (l : List Float). getD l j nan) facet
-      ∙ getD-concatMap nan b 9 j (omega arith) in
-      rw is (ofBits-fits binary32 (littleAt 4 s (cornersStart i + 4 * j)))
+      let fit : Float → Type 0 = λ (x : Float). T (fits binary32 x) in
+      each-at fit (stlTriangles s) k nan h
+      (each-concatMap fit (cornersIn s) (stlCount s) (λ i. each-concatMap fit _ 9 (λ j. (ofBits-fits binary32 _, tt))))
 
   module _ (ok : Bytes s) (room : ℕ) (read : readRefusal s room ≡ passes) where
     reads : Reads s room

@@ -1,7 +1,6 @@
 -- What is refused of an STL, as code finds it: the size, the count, and the first corner that is no coordinate, looked for facet by facet.
-use mathlib.Core.Path.{_≡_, refl, sym, ap, _∙_}
-use mathlib.Core.Bool.{Bool, true, false, not, cond}
-use mathlib.Core.List.{List, [], _∷_, _++_}
+use mathlib.Core.Path.{_≡_, sym, ap, _∙_}
+use mathlib.Core.List.{List, [], _∷_}
 use mathlib.Core.Logic.{⊎-elim}
 use Prim.Native.Nat.{ℕ, zero, suc, _+_, _*_, _%_, _≤_, _<_}
 use native.Mathlib.Nat.{eq-or-lt-of-le, le-of-suc-le-suc}
@@ -13,44 +12,12 @@ use lib.ListN.{length}
 use lib.Ieee.{Float}
 use Rattle.spec_tables.specs.Tables.{concatMap}
 use Rattle.spec_lists.specs.Limits.{maxTriangles}
-use Rattle.spec_lists.specs.Reading.{triangleCount}
-use Rattle.spec_lists.specs.Refusals.{passes, refusedIf, isCoordinate, firstBad, firstRefusal, raggedRefusal, noneRefusal, tooManyRefusal, coordinateRefusal, trianglesRefusal}
+use Rattle.spec_lists.specs.Refusals.{passes, refusedIf, firstBad, firstRefusal, raggedRefusal, noneRefusal, tooManyRefusal, coordinateRefusal, trianglesRefusal}
+use Rattle.spec_lists.proofs.Coordinates.{first-bad-within, bad-in-front, good-in-front}
 use Rattle.spec_lists.proofs.Verdicts.{so}
 use Rattle.spec_stl.specs.Stl.{stlCount, stlSize, cornersIn, stlTriangles}
 use Rattle.spec_stl.specs.Calls.{sizeRefusal}
 use Rattle.spec_stl.proofs.Facets.{length-corners, length-facets, length-read, count-read}
-
--- ---- the first bad number of two lists, one behind the other
-first-bad-within : (xs : List Float) → firstBad xs ≤ length xs
-unfolding firstBad
-first-bad-within [] = omega arith
-first-bad-within (x ∷ xs) = go (isCoordinate x) (first-bad-within xs)
-  where
-    go : (b : Bool) → firstBad xs ≤ length xs → cond b (suc (firstBad xs)) 0 ≤ suc (length xs)
-    go true h = omega arith
-    go false h = omega arith
-
--- a bad number in the front is the first of both
-bad-in-front : (xs ys : List Float) → firstBad xs < length xs → firstBad (xs ++ ys) ≡ firstBad xs
-unfolding firstBad
-bad-in-front [] ys h = absurd (omega arith)
-bad-in-front (x ∷ xs) ys h = go (isCoordinate x) h (bad-in-front xs ys)
-  where
-    go : (b : Bool) → cond b (suc (firstBad xs)) 0 < suc (length xs) → (firstBad xs < length xs → firstBad (xs ++ ys) ≡ firstBad xs)
-        → cond b (suc (firstBad (xs ++ ys))) 0 ≡ cond b (suc (firstBad xs)) 0
-    go true h rest = ap suc (rest (omega arith))
-    go false h rest = refl
-
--- behind a front of coordinates the search goes on
-good-in-front : (xs ys : List Float) → firstBad xs ≡ length xs → firstBad (xs ++ ys) ≡ length xs + firstBad ys
-unfolding firstBad
-good-in-front [] ys h = omega arith
-good-in-front (x ∷ xs) ys h = go (isCoordinate x) h (good-in-front xs ys)
-  where
-    go : (b : Bool) → cond b (suc (firstBad xs)) 0 ≡ suc (length xs) → (firstBad xs ≡ length xs → firstBad (xs ++ ys) ≡ length xs + firstBad ys)
-        → cond b (suc (firstBad (xs ++ ys))) 0 ≡ suc (length xs) + firstBad ys
-    go true h rest = omega (arith, rest (omega arith))
-    go false h rest = absurd (omega arith)
 
 -- ---- corners, facet by facet
 module _ (s : List ℕ) where
