@@ -31,6 +31,24 @@ then-passes [] h = refl
 then-passes (passes ∷ tests) h = then-passes tests (h .1)
 then-passes (refused n p ∷ tests) h = absurd (never-both n p (h .0))
 
+-- ---- what holds of a verdict that passes, and of each test that refuses, holds of a row: what numbers and places a call can tell
+module _ (P : Verdict → Type 0) (ok : P passes) where
+  -- it holds of a test, if it holds where the test refuses
+  pub test-has : (b : Bool) (number place : ℕ) → (b ≡ true → P (refused number place)) → P (refusedIf b number place)
+  test-has true number place h = h refl
+  test-has false number place h = ok
+
+  -- it holds of a row of none
+  pub row-ends : P (firstRefusal [])
+  unfolding firstRefusal
+  row-ends = ok
+
+  -- and of a row whose first test it holds of, and, once that passed, of the others
+  pub row-has : (test : Verdict) (tests : List Verdict) → P test → (test ≡ passes → P (firstRefusal tests)) → P (firstRefusal (test ∷ tests))
+  unfolding firstRefusal
+  row-has passes tests h k = k refl
+  row-has (refused number place) tests h k = h
+
 -- ---- tests made in turn, as code makes them: b says whether the answer v refuses
 -- a test that refuses stops the row: its answer is the row's
 pub stops : (v test : Verdict) (tests : List Verdict) (b : Bool) → v ≡ test → b ≡ refuses v → b ≡ true → v ≡ firstRefusal (test ∷ tests)
