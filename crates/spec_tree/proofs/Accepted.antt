@@ -16,11 +16,11 @@ use Rattle.spec_numbers.proofs.Tests.{both-passed}
 use Rattle.spec_shapes.specs.Boxes.{Box}
 use Rattle.spec_tree.specs.Trees.{Tree, numbers, nodeCount, linksFrom, boxesOf}
 use Rattle.spec_tree.specs.Order.{Permutes, permutes}
-use Rattle.spec_tree.specs.Accepted.{Listing, Finding, wrong, spans, finding, Room, isWhole, present, accepted}
+use Rattle.spec_tree.specs.Accepted.{Listing, Finding, wrong, spans, finding, isWhole, present, accepted}
 use Rattle.spec_tree.proofs.Standing.{Stands, taken-stands, stands-slice}
 use Rattle.spec_tree.proofs.Trees.{root-last, links-length, boxes-length, count-least, count-most}
 use Rattle.spec_tree.proofs.Order.{test-permutes, permutes-test, permutes-length}
-use Rattle.spec_tree.proofs.Found.{Says, found}
+use Rattle.spec_tree.proofs.Found.{Room, Says, found}
 use Rattle.spec_tree.proofs.Listed.{Listed, listed-found}
 
 whole-listed : (boxAt : ℕ → Box) (n : ℕ) (order links : List ℕ) (boxes : List Float) (nodes : ℕ) → Permutes n order → 0 < nodes → (f : Finding)

@@ -1,7 +1,6 @@
 -- The depth that is read off the links of an accepted tree is the number of its levels, and reading it meets only nodes that are there.
 use mathlib.Core.Path.{_≡_, ap, _∙_}
 use mathlib.Core.Bool.{Bool, true, false}
-use mathlib.Core.Logic.{_⊎_, inl, inr}
 use mathlib.Core.List.{List}
 use Prim.Native.Nat.{ℕ, zero, suc, _+_, _-_, _*_, _≤_, _<_, max}
 use native.Mathlib.Omega.{arith}
@@ -15,10 +14,10 @@ use Rattle.spec_lists.specs.Refusals.{passes, refused}
 use Rattle.spec_shapes.specs.Boxes.{Box}
 use Rattle.spec_tree.specs.Trees.{Tree, leaf, branch, levels, kindAt, leftAt, rightAt}
 use Rattle.spec_tree.specs.Accepted.{Listing}
-use Rattle.spec_tree.specs.Hangs.{Hangs, LeafRange, ChildrenBefore, Sound}
+use Rattle.spec_tree.specs.Hangs.{Hangs, ChildrenBefore, Sound}
 use Rattle.spec_tree.specs.Depth.{depthBy, depthAt, depthOf, Descends, deep, notDeep, depthAnswer}
 use Rattle.spec_tree.specs.Refusals.{checkRefusal}
-use Rattle.spec_tree.proofs.Hangs.{listing-hangs}
+use Rattle.spec_tree.proofs.Hangs.{listing-hangs, sound-branch}
 
 module _ (over : ℕ → Box) (order links : List ℕ) (boxes : List Float) where
   hangs-depth : (t : Tree) (most node : ℕ) → levels t ≤ most → Hangs over order links boxes t node → depthAt links most node ≡ levels t
@@ -88,11 +87,10 @@ module _ (links : List ℕ) where
 pub sound-descends : (n : ℕ) (order links : List ℕ) (boxes : List Float) (nodes node : ℕ) → Sound n order links boxes nodes → node < nodes → Descends links node
 sound-descends n order links boxes nodes node s h =
     let there : 3 * nodes ≤ length links = s .links-there in
-    record { there = omega arith; falls = λ k w p. branch-of k p (s .node-is k (omega arith)) }
-  where
-    branch-of : (k : ℕ) → kindAt links k ≡ 2 → LeafRange order links k ⊎ ChildrenBefore links k → ChildrenBefore links k
-    branch-of k p (inl l) = absurd (omega (arith, l .is-leaf))
-    branch-of k p (inr b) = b
+    record {
+      there = omega arith;
+      falls = λ k w p. sound-branch order links k (s .node-is k (omega arith)) (λ (one : kindAt links k ≡ 1). omega (arith, p));
+    }
 
 -- ---- the call
 module _ (triangles : List Float) (order links : List ℕ) (boxes : List Float) (nodes : ℕ) where

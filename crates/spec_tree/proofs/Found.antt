@@ -12,10 +12,16 @@ use Rattle.spec_tables.specs.Tables as Tables
 use Rattle.spec_numbers.proofs.Tests.{both-passed}
 use Rattle.spec_shapes.specs.Boxes.{Box, union}
 use Rattle.spec_tree.specs.Trees.{Tree, leaf, branch, numbers, nodeCount, levels, Filled, joined, boxOver, rootFrom, linksFrom, boxesOf, kindAt, leftAt, rightAt, nodeBox}
-use Rattle.spec_tree.specs.Accepted.{sameBox, Finding, wrong, spans, boxed, leafFinding, leftFound, leftTried, rightFound, rightTried, byKind, finding, Room}
+use Rattle.spec_tree.specs.Accepted.{sameBox, Finding, wrong, spans, boxed, leafFinding, leftFound, leftTried, rightFound, rightTried, byKind, finding}
 use Rattle.spec_tree.proofs.Standing.{Stands, stands-three, slice-join, slice-length}
 use Rattle.spec_tree.proofs.Nodes.{same-box, links-stand, box-stands}
 use Rattle.spec_tree.proofs.Trees.{root-last, links-length, boxes-length, count-least}
+
+-- what a look at a node needs: the node is there, and its triangles end within the order list
+pub record Room (order links : List ℕ) (boxes : List Float) (node last : ℕ) : Type 0 where
+  pub links-there : 3 * node + 3 ≤ length links
+  pub boxes-there : 6 * node + 6 ≤ length boxes
+  pub order-there : last ≤ length order
 
 module _ (boxAt : ℕ → Box) (order links : List ℕ) (boxes : List Float) where
   -- the tree that was found, with at most `most` levels, its root at this node, its triangles ending before `last`

@@ -4,16 +4,16 @@ use mathlib.Core.List.{List}
 use mathlib.Core.Logic.{_⊎_, inl, inr}
 use Prim.Native.Nat.{ℕ, _+_, _-_, _*_, _≤_, _<_}
 use native.Mathlib.Omega.{arith}
-use native.Mathlib.Decide.{decLt}
 use lib.ListN.{length}
 use lib.Ieee.{Float}
 use Rattle.spec_shapes.specs.Boxes.{Box}
-use Rattle.spec_tree.specs.Trees.{Tree, leaf, branch, numbers, nodeCount, Filled, joined, boxOver, rootFrom, linksFrom, boxesOf}
+use Rattle.spec_tree.specs.Trees.{Tree, leaf, branch, numbers, nodeCount, Filled, joined, boxOver, rootFrom, linksFrom, boxesOf, kindAt}
 use Rattle.spec_tree.specs.Accepted.{Listing}
 use Rattle.spec_tree.specs.Hangs.{There, LeafAt, Hangs, LeafRange, ChildrenBefore, Sound}
 use Rattle.spec_tree.proofs.Standing.{stands-slice}
 use Rattle.spec_tree.proofs.Nodes.{NodeLinks, links-read, box-read}
 use Rattle.spec_tree.proofs.Trees.{root-last, count-least}
+use Rattle.spec_tree.proofs.Links.{each-node}
 use Rattle.spec_tree.proofs.Listed.{Listed, Halves, halves}
 use Rattle.spec_tree.proofs.Accepted.{listing-stands, listing-some, listing-links, listing-boxes}
 use Rattle.spec_tree.proofs.Order.{permutes-entries}
@@ -62,15 +62,6 @@ module _ (boxAt : ℕ → Box) (order links : List ℕ) (boxes : List Float) whe
   abbrev Node : ℕ → Type 0
   Node node = LeafRange order links node ⊎ ChildrenBefore links node
 
-  -- the nodes of a branch are those of its left subtree, those of its right subtree, and itself
-  one-of-three : (first mid node k : ℕ) → first ≤ k → k < node + 1 → (first ≤ k → k < mid → Node k) → (mid ≤ k → k < node → Node k) → Node node → Node k
-  one-of-three first mid node k a b left right own = at (decLt k mid) (decLt k node)
-    where
-      at : Dec (k < mid) → Dec (k < node) → Node k
-      at (yes p) d = left a p
-      at (no p) (yes q) = right (omega arith) q
-      at (no p) (no q) = let e : node ≡ k = omega arith in subst Node e own
-
   -- every node of a listing, not only the root, is a sound leaf or branch
   listed-node : (t : Tree) (first entry node last : ℕ) → Filled t → Listed boxAt order links boxes first entry node last t
       → 3 * node + 3 ≤ length links → 6 * node + 6 ≤ length boxes → (k : ℕ) → first ≤ k → k < node + 1 → Node k
@@ -85,12 +76,12 @@ module _ (boxAt : ℕ → Box) (order links : List ℕ) (boxes : List Float) whe
       let right-before : rootFrom (first + nodeCount l) r < node = omega (arith, h .right-next) in
       let here : ChildrenBefore links node =
       record { is-branch = h .own .kind-is; left-before = rw (h .own .left-is) left-before; right-before = rw (h .own .right-is) right-before } in
-      one-of-three first (first + nodeCount l) node k a b
-      (λ p q. listed-node l first entry (rootFrom first l) (entry + length (numbers l)) (f .0) (h .left) (omega arith) (omega arith) k p
+      each-node Node first (first + nodeCount l) node
+      (λ j p q. listed-node l first entry (rootFrom first l) (entry + length (numbers l)) (f .0) (h .left) (omega arith) (omega arith) j p
       (omega (arith, h .left-next)))
-      (λ p q. listed-node r (first + nodeCount l) (entry + length (numbers l)) (rootFrom (first + nodeCount l) r) last (f .1) (h .right) (omega arith)
-      (omega arith) k p (omega (arith, h .right-next)))
-      (inr here)
+      (λ j p q. listed-node r (first + nodeCount l) (entry + length (numbers l)) (rootFrom (first + nodeCount l) r) last (f .1) (h .right) (omega arith)
+      (omega arith) j p (omega (arith, h .right-next)))
+      (inr here) k a (omega arith)
 
 -- ---- of a whole listing
 module _ (boxAt : ℕ → Box) (n : ℕ) (order links : List ℕ) (boxes : List Float) (nodes : ℕ) (t : Tree) (s : Listing boxAt n order links boxes nodes t) where
@@ -120,3 +111,21 @@ module _ (boxAt : ℕ → Box) (n : ℕ) (order links : List ℕ) (boxes : List 
             (omega (arith, some, links-there)) (omega (arith, some, boxes-there)) node (omega arith) (omega (arith, some));
         entries = permutes-entries n order (s .permuted);
       }
+
+-- ---- a sound node, by its kind
+module _ (order links : List ℕ) (node : ℕ) (is : LeafRange order links node ⊎ ChildrenBefore links node) where
+  -- of kind 1, it has a range within the order list
+  pub sound-leaf : kindAt links node ≡ 1 → LeafRange order links node
+  sound-leaf p = go is
+    where
+      go : LeafRange order links node ⊎ ChildrenBefore links node → LeafRange order links node
+      go (inl l) = l
+      go (inr b) = absurd (omega (arith, b .is-branch))
+
+  -- of another kind, it has its children before it
+  pub sound-branch : (kindAt links node ≡ 1 → ⊥) → ChildrenBefore links node
+  sound-branch p = go is
+    where
+      go : LeafRange order links node ⊎ ChildrenBefore links node → ChildrenBefore links node
+      go (inl l) = absurd (p (l .is-leaf))
+      go (inr b) = b

@@ -12,15 +12,15 @@ use lib.ListN.{length, getD, length-append, length-map}
 use lib.Ieee.{Float}
 use Rattle.spec_numbers.proofs.Tests.{both-passed}
 use Rattle.spec_lists.specs.Reading.{boxAt, triangleCount}
-use Rattle.spec_lists.specs.Refusals.{Verdict, passes, refused, firstRefusal, trianglesRefusal}
-use Rattle.spec_lists.proofs.Verdicts.{all-pass, so}
+use Rattle.spec_lists.specs.Refusals.{Verdict, passes, refused, trianglesRefusal}
+use Rattle.spec_lists.proofs.Verdicts.{all-pass, then-passes}
 use Rattle.spec_tables.specs.Tables as Tables
 use Rattle.spec_shapes.specs.Boxes.{Box}
 use Rattle.spec_tree.specs.Trees.{Tree, leaf, branch, numbers, nodeCount, Filled, joined, linksFrom, boxesOf, rootFrom, kindAt, nodeBox}
 use Rattle.spec_tree.specs.Order.{range, permutes, occurs, allBelow, distinct}
 use Rattle.spec_tree.specs.Accepted.{Listing, accepted}
 use Rattle.spec_tree.specs.Hangs.{Sound}
-use Rattle.spec_tree.specs.Refusals.{treeRefusal, checkRefusal}
+use Rattle.spec_tree.specs.Refusals.{checkRefusal}
 use Rattle.spec_tree.specs.Leaves.{leaves, Leaf, leavesFrom, sliceOf, oneIf, slicesWith, leafNodes, leafAt, leafCount, LeafFound, nothing, found, notSought, kth, leafFrom, NodesThere, leafAnswer, EntryFound, noEntry, triangle, entryRefused, entryAt, entryAnswer, counted, notCounted, countedIf, countAnswer}
 use Rattle.spec_tree.proofs.Standing.{Stands, stands-first, stands-second, stands-slice}
 use Rattle.spec_tree.proofs.Nodes.{NodeLinks, links-read, box-read}
@@ -29,6 +29,7 @@ use Rattle.spec_tree.proofs.Listed.{Listed, Halves, halves}
 use Rattle.spec_tree.proofs.Order.{occurs-append, permuted-occurs, permutes-test, permutes-length}
 use Rattle.spec_tree.proofs.Accepted.{accepted-listed, listing-stands}
 use Rattle.spec_tree.proofs.Hangs.{listing-sound}
+use Rattle.spec_tree.proofs.Unchanged.{tree-passes, tree-passed}
 use Rattle.spec_tree.proofs.Seeking.{other-node, leaf-nodes-then, kth-none, kth-some}
 
 map-append : {A B : Type 0} (g : A → B) (xs ys : List A) → map g (xs ++ ys) ≡ map g xs ++ map g ys
@@ -282,14 +283,14 @@ accepted-leaves boxAt n order links boxes nodes h =
 -- what the tree check says yes to passes, so that not all is refused
 pub check-passes : (triangles : List Float) (order links : List ℕ) (boxes : List Float) (nodes : ℕ) → trianglesRefusal triangles ≡ passes
     → accepted (boxAt triangles) (triangleCount triangles) order links boxes nodes ≡ true → checkRefusal triangles order links boxes nodes ≡ passes
-unfolding checkRefusal treeRefusal firstRefusal
-check-passes triangles order links boxes nodes t a = rw (t, a)
+unfolding checkRefusal
+check-passes triangles order links boxes nodes t a = then-passes _ (t, (tree-passes triangles order links boxes nodes a, tt))
 
 -- ---- lists that pass
 module _ (triangles : List Float) (order links : List ℕ) (boxes : List Float) (nodes : ℕ) (p : checkRefusal triangles order links boxes nodes ≡ passes) where
   passed-accepted : accepted (boxAt triangles) (triangleCount triangles) order links boxes nodes ≡ true
-  unfolding checkRefusal treeRefusal
-  passed-accepted = so _ 7 0 (all-pass _ p .1 .0)
+  unfolding checkRefusal
+  passed-accepted = tree-passed triangles order links boxes nodes (all-pass _ p .1 .0)
 
   -- they are the listing of a tree
   passed-listed : (t : Tree) × Listing (boxAt triangles) (triangleCount triangles) order links boxes nodes t

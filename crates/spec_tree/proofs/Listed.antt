@@ -1,5 +1,5 @@
 -- Completeness of the tree check: it finds the listing of a tree, subtree by subtree.
-use mathlib.Core.Path.{_≡_, refl, sym}
+use mathlib.Core.Path.{_≡_, refl, sym, subst, _∙_}
 use mathlib.Core.List.{List, _++_}
 use Prim.Native.Nat.{ℕ, zero, suc, _+_, _-_, _*_, _≤_, _<_}
 use native.Mathlib.Omega.{arith}
@@ -13,7 +13,8 @@ use Rattle.spec_tree.specs.Trees.{Tree, leaf, branch, numbers, nodeCount
 use Rattle.spec_tree.specs.Accepted.{Finding, spans, boxed, leafFinding, rightTried, byKind, finding}
 use Rattle.spec_tree.proofs.Standing.{Stands, three-stand, stands-first, stands-second, stands-slice}
 use Rattle.spec_tree.proofs.Nodes.{NodeLinks, links-read, box-read, box-same}
-use Rattle.spec_tree.proofs.Trees.{root-last, links-length, boxes-length}
+use Rattle.spec_tree.proofs.Trees.{boxes-length}
+use Rattle.spec_tree.proofs.Links.{BranchLinks, branch-links}
 
 module _ (boxAt : ℕ → Box) (order links : List ℕ) (boxes : List Float) where
   boxed-as : (node first entry : ℕ) (box : Box) → nodeBox boxes node ≡ box → boxed boxes node first entry box ≡ spans first entry box
@@ -64,10 +65,7 @@ module _ (boxAt : ℕ → Box) (order links : List ℕ) (boxes : List Float) whe
   unfolding rootFrom numbers linksFrom boxesOf boxOver
   halves first entry node last l r s =
       let mid : ℕ = entry + length (numbers l) in
-      let right-root : rootFrom (first + nodeCount l) r + 1 ≡ first + nodeCount l + nodeCount r = root-last (first + nodeCount l) r in
-      let next : rootFrom (first + nodeCount l) r + 1 ≡ node = omega (arith, s .root) in
-      let three = three-stand 0 links (linksFrom first entry l) (linksFrom (first + nodeCount l) mid r) _ (3 * first) (3 * (first + nodeCount l)) (3 * node)
-      (omega (arith, links-length first entry l)) (omega (arith, links-length (first + nodeCount l) mid r)) (s .links-stand) in
+      let b : BranchLinks links first entry l r = branch-links links first entry l r (s .links-stand) in
       let six = three-stand nan boxes (boxesOf boxAt l) (boxesOf boxAt r) _ (6 * first) (6 * (first + nodeCount l)) (6 * node)
       (omega (arith, boxes-length boxAt l)) (omega (arith, boxes-length boxAt r)) (s .boxes-stand) in
       let both : length (numbers l ++ numbers r) ≡ length (numbers l) + length (numbers r) = length-append (numbers l) (numbers r) in
@@ -77,7 +75,7 @@ module _ (boxAt : ℕ → Box) (order links : List ℕ) (boxes : List Float) whe
           slice = stands-first 0 order (numbers l) (numbers r) entry (s .slice);
           ends = refl;
           within = omega (arith, s .ends, s .within);
-          links-stand = three .0;
+          links-stand = b .left;
           boxes-stand = six .0;
         };
         right = record {
@@ -85,12 +83,12 @@ module _ (boxAt : ℕ → Box) (order links : List ℕ) (boxes : List Float) whe
           slice = stands-second 0 order (numbers l) (numbers r) entry mid refl (s .slice);
           ends = omega (arith, s .ends);
           within = s .within;
-          links-stand = three .1;
+          links-stand = b .right;
           boxes-stand = six .1;
         };
-        right-next = next;
-        left-next = root-last first l;
-        own = links-read links node 2 (rootFrom first l) (rootFrom (first + nodeCount l) r) (three .2);
+        right-next = b .right-next ∙ s .root;
+        left-next = b .left-next;
+        own = subst (λ (k : ℕ). NodeLinks links k 2 (rootFrom first l) (rootFrom (first + nodeCount l) r)) (s .root) (b .own);
         box = box-read boxes node (union (boxOver boxAt l) (boxOver boxAt r)) (six .2);
       }
 

@@ -1,15 +1,17 @@
--- The test of the order list says yes exactly where it is a permutation of 0 to n - 1.
+-- The test of the order list says yes exactly where it is a permutation of 0 to n - 1; and what its slices keep.
 use mathlib.Core.Path.{_≡_, refl, sym, ap, _∙_}
 use mathlib.Core.Bool.{Bool, true, false, not, _&&_, _||_, true≢false, or-true, or-assoc, and-assoc, and-false}
 use mathlib.Core.Logic.{⊎-elim}
 use mathlib.Core.List.{List, [], _∷_, _++_, List·Memᴰ, List·Memᴰ·head, List·Memᴰ·tail, List·Memᴰ·cases-cons, Memᴰ·append-left, Memᴰ·append-right, Memᴰ·cast, List·Permᴰ, List·Permᴰ·nil, List·Permᴰ·cons, List·Permᴰ·swap, List·Permᴰ·trans, Permᴰ·refl}
-use Prim.Native.Nat.{ℕ, zero, suc, _≤_, _<_}
+use Prim.Native.Nat.{ℕ, zero, suc, _+_, _-_, _≤_, _<_}
 use native.Mathlib.Omega.{arith}
 use native.Mathlib.Decide.{ℕ-discrete, decLt}
 use borrow.Author.Tests.{eqb-true, eq-eqb, ne-eqb, ltb-true, lt-ltb, not-true}
 use lib.Dec.{ltb, eqb}
-use lib.ListN.{length, getD, length-append}
+use lib.ListN.{length, getD, drop, length-append, length-take, length-drop}
+use lib.Seq.{getD-take, getD-drop}
 use Rattle.spec_numbers.proofs.Tests.{both-passed}
+use Rattle.spec_tables.specs.Tables.{slice}
 use Rattle.spec_tree.specs.Order.{range, Permutes, EntriesBelow, occurs, distinct, allBelow, permutes}
 
 -- ---- a list with no number twice, whose numbers are all in another that is no longer, is a permutation of it
@@ -93,6 +95,16 @@ permuted-length List·Permᴰ·nil = refl
 permuted-length (List·Permᴰ·cons e p) = ap suc (permuted-length p)
 permuted-length (List·Permᴰ·swap e f) = refl
 permuted-length (List·Permᴰ·trans p q) = permuted-length p ∙ permuted-length q
+
+-- numbers below n, none of them twice, are at most n: so an entry beyond the first n is out of range or repeated
+pub distinct-few : (n : ℕ) (xs : List ℕ) → allBelow n xs ≡ true → distinct xs ≡ true → length xs ≤ n
+distinct-few n xs b d = go (decLt n (length xs))
+  where
+    go : Dec (n < length xs) → length xs ≤ n
+    go (no h) = omega arith
+    go (yes h) =
+        let filled = fills xs (range n) d (λ j m. range-has n j (below-each n xs b j m)) (omega (arith, range-length n)) in
+        omega (arith, permuted-length filled, range-length n)
 
 or-swap : (a b c : Bool) → (a || (b || c)) ≡ (b || (a || c))
 or-swap true true c = refl
@@ -222,3 +234,15 @@ member-at (x ∷ xs) (suc i) h = List·Memᴰ·tail (member-at xs i (omega arith
 -- the same by place: each entry is below n, so reading its triangle stays within the list
 pub permutes-entries : (n : ℕ) (order : List ℕ) → Permutes n order → EntriesBelow n order
 permutes-entries n order p i h = permutes-below n order p (getD order i 0) (member-at order i h)
+
+-- ---- a slice of the order list
+-- a range that is not empty gives a slice that is not, so its box has a first triangle to start from
+pub slice-some : (l : List ℕ) (a b : ℕ) → a < b → b ≤ length l → 0 < length (slice l a (b - a))
+slice-some l a b h k = omega (arith, length-take (b - a) (drop a l), length-drop a l)
+
+-- a slice keeps every entry below n, so reading its triangles stays within the list
+pub slice-entries : (n : ℕ) (l : List ℕ) (a k : ℕ) → EntriesBelow n l → EntriesBelow n (slice l a k)
+slice-entries n l a k e i h =
+    let inside : i < k = omega (arith, length-take k (drop a l)) in
+    let within : a + i < length l = omega (arith, length-take k (drop a l), length-drop a l) in
+    rw (getD-take k (drop a l) i 0 inside, getD-drop a l i 0) (e (a + i) within)

@@ -1,5 +1,6 @@
 -- The tree check: what it is for lists to be the listing of a tree over n triangles, and the test of it, by recursion from the root.
--- Walks read accepted lists without further tests, so every bound that they rely on is decided here.
+-- Walks read accepted lists without further tests, so every bound that they rely on is decided here. Code asks for the reasons of a no
+-- (Reasons), which are told of no other lists than those that this refuses (proofs/Unchanged).
 use mathlib.Core.Path.{_≡_}
 use mathlib.Core.Bool.{Bool, true, false, cond, _&&_}
 use mathlib.Core.List.{List}
@@ -78,12 +79,6 @@ module _ (boxAt : ℕ → Box) (order links : List ℕ) (boxes : List Float) whe
   unfoldable pub finding : ℕ → ℕ → ℕ → Finding
   finding zero node last = wrong
   finding (suc left) node last = byKind (eqb (kindAt links node) 1) (eqb (kindAt links node) 2) (finding left) node last
-
--- what a look at a node needs: the node is there, and its triangles end within the order list
-pub record Room (order links : List ℕ) (boxes : List Float) (node last : ℕ) : Type 0 where
-  pub links-there : 3 * node + 3 ≤ length links
-  pub boxes-there : 6 * node + 6 ≤ length boxes
-  pub order-there : last ≤ length order
 
 -- the whole listing begins with node 0 and entry 0
 abbrev pub isWhole : Finding → Bool

@@ -31,7 +31,7 @@ pub record Descends (links : List ℕ) (node : ℕ) : Type 0 where
   pub there : 3 * node + 3 ≤ length links
   pub falls : (k : ℕ) → k ≤ node → kindAt links k ≡ 2 → ChildrenBefore links k
 
--- ---- the call: 1 to 4 and 7 refuse, else the depth
+-- ---- the call: 1 to 4 and 71 to 75 refuse, else the depth
 pub data DepthFound : Type 0 where
   deep : ℕ → DepthFound
   notDeep : (number place : ℕ) → DepthFound

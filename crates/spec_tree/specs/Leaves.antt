@@ -82,7 +82,7 @@ pub record NodesThere (links : List ℕ) (boxes : List Float) (nodes : ℕ) : Ty
   pub links-there : 3 * nodes ≤ length links
   pub boxes-there : 6 * nodes ≤ length boxes
 
--- ---- the calls over any lists at all: 1 to 4 and 7 refuse
+-- ---- the calls over any lists at all: 1 to 4 and 71 to 75 refuse
 abbrev pub soughtIf : Verdict → LeafFound → LeafFound
 soughtIf passes l = l
 soughtIf (refused number place) l = notSought number place

@@ -3,5 +3,7 @@ pub mod Order
 pub mod Accepted
 pub mod Hangs
 pub mod Depth
+pub mod Reasons
+pub mod Ways
 pub mod Refusals
 pub mod Leaves
