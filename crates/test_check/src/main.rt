@@ -1,47 +1,26 @@
-// Prints what the tree check says of a tree over two triangles, of the same lists with one entry changed, and of trees of 64 and 65 levels.
-// The file `stdout` beside src/ was written by hand: only the tree itself and the one of 64 levels are accepted.
+// Prints what the tree check says, number and place, of a tree over two triangles, of the same lists with something changed, and of trees of 64
+// and 65 levels. The file `stdout` beside src/ was written by hand, from the rules of 71 to 75.
 ghost use Prim.Native.Nat.{_<_, _≤_};
 use lists::verdict::Verdict;
 use tree::calls::check;
-use tree::check::is_accepted;
 
-struct Lists {
-    order: [u32; 2],
-    links: [u32; 9],
-    boxes: [f32; 18],
-    nodes: usize,
-}
-
-// T0 and T1 of the printed run, each in a leaf.
-fn tree() -> Lists {
-    Lists {
-        order: [0, 1],
-        links: [1, 0, 1, 1, 1, 2, 2, 0, 1],
-        boxes: [
-            0.0,
-            0.0,
-            0.0,
-            1.0,
-            1.0,
-            0.0,
-            10.0,
-            0.0,
-            0.0,
-            11.0,
-            1.0,
-            0.0,
-            0.0,
-            0.0,
-            0.0,
-            11.0,
-            1.0,
-            0.0,
-        ],
-        nodes: 3,
+fn put_verdict(verdict: Verdict) {
+    match verdict {
+        Verdict::Passed => {
+            io::write_all(1, b": passed\n");
+        }
+        Verdict::Refused { number, place } => {
+            io::write_all(1, b": ");
+            io::print_decimal(1, number as u64);
+            io::write_all(1, b" ");
+            io::print_decimal(1, place as u64);
+            io::write_all(1, b"\n");
+        }
     }
 }
 
-fn accepts(lists: Lists) -> bool {
+// What the check says of lists over T0 and T1 of the printed run.
+fn put_lists(order: &[u32], links: &[u32], boxes: &[f32], nodes: usize) {
     let triangles = [
         0.0,
         0.0,
@@ -62,63 +41,108 @@ fn accepts(lists: Lists) -> bool {
         1.0,
         0.0,
     ];
-    let order = lists.order;
-    let links = lists.links;
-    let boxes = lists.boxes;
-    is_accepted(&triangles, &order, &links, &boxes, lists.nodes)
+    put_verdict(check(&triangles, order, links, boxes, nodes));
 }
 
-fn put(lists: Lists) {
-    if accepts(lists) {
-        io::write_all(1, b" yes");
-    } else {
-        io::write_all(1, b" no");
-    }
+// Their tree: each in a leaf, and the branch over both.
+fn tree_order() -> [u32; 2] {
+    [0, 1]
 }
 
-fn put_order(first: u32, second: u32) {
-    let mut lists = tree();
-    lists.order = [first, second];
-    put(lists);
+fn tree_links() -> [u32; 9] {
+    [1, 0, 1, 1, 1, 2, 2, 0, 1]
+}
+
+fn tree_boxes() -> [f32; 18] {
+    [
+        0.0,
+        0.0,
+        0.0,
+        1.0,
+        1.0,
+        0.0,
+        10.0,
+        0.0,
+        0.0,
+        11.0,
+        1.0,
+        0.0,
+        0.0,
+        0.0,
+        0.0,
+        11.0,
+        1.0,
+        0.0,
+    ]
+}
+
+fn put_order(order: &[u32]) {
+    let links = tree_links();
+    let boxes = tree_boxes();
+    put_lists(order, &links, &boxes, 3);
+}
+
+// So many nodes, with so many entries of links and so many numbers of boxes.
+fn put_counts(nodes: usize, entries: usize, sides: usize)
+    requires { ⌜ (entries ≤ 9) × (sides ≤ 18) ⌝ }
+{
+    let order = tree_order();
+    let links = tree_links();
+    let boxes = tree_boxes();
+    io::print_decimal(1, nodes as u64);
+    put_lists(&order, &links[0..entries], &boxes[0..sides], nodes);
 }
 
 fn put_link(i: usize, value: u32)
     requires { ⌜ i < 9 ⌝ }
 {
-    let mut lists = tree();
-    lists.links[i] = value;
-    put(lists);
+    let order = tree_order();
+    let mut links = tree_links();
+    let boxes = tree_boxes();
+    links[i] = value;
+    io::print_decimal(1, i as u64);
+    put_lists(&order, &links, &boxes, 3);
+}
+
+fn put_each_link(value: u32) {
+    for i in 0..9 {
+        put_link(i, value);
+    }
 }
 
 fn put_box(i: usize, value: f32)
     requires { ⌜ i < 18 ⌝ }
 {
-    let mut lists = tree();
-    lists.boxes[i] = value;
-    put(lists);
+    let order = tree_order();
+    let links = tree_links();
+    let mut boxes = tree_boxes();
+    boxes[i] = value;
+    io::print_decimal(1, i as u64);
+    put_lists(&order, &links, &boxes, 3);
 }
 
-fn put_nodes(nodes: usize) {
-    let mut lists = tree();
-    lists.nodes = nodes;
-    put(lists);
-}
-
-// Prints for changes of the tree: 0 to 4 are the node count, the next nine a link as 3, and the last 18 a box number as minus zero.
-fn put_change(k: usize) {
-    if k < 5 {
-        put_nodes(k);
-    } else if k < 14 {
-        put_link(k - 5, 3);
-    } else if k < 32 {
-        put_box(k - 14, -0.0);
+fn put_each_box() {
+    for i in 0..18 {
+        put_box(i, -0.0);
     }
 }
 
-fn put_changes(from: usize, to: usize) {
-    for k in from..to {
-        put_change(k);
-    }
+// A box is wrong; and a leaf's kind; and the node count; and the order.
+fn put_several() {
+    let order = tree_order();
+    let repeated = [1u32, 1];
+    let mut links = tree_links();
+    let mut boxes = tree_boxes();
+    boxes[6] = 9.0;
+    io::write_all(1, b"box");
+    put_lists(&order, &links, &boxes, 3);
+    links[3] = 2;
+    io::write_all(1, b"box, kind");
+    put_lists(&order, &links, &boxes, 3);
+    io::write_all(1, b"box, kind, count");
+    put_lists(&order, &links, &boxes, 4);
+    io::write_all(1, b"box, kind, count, order");
+    put_lists(&repeated, &links, &boxes, 4);
 }
 
 // 0, 1 and so on.
@@ -141,7 +165,8 @@ fn put_node(links: &mut [u32; 387], node: usize, kind: u32, left: u32, right: u3
     links[at + 2] = right;
 }
 
-// A comb: each branch has all that stands before it at its left and a leaf of one triangle at its right, so n triangles make n levels.
+// A comb: each branch has all that stands before it at its left and a leaf of one triangle at its right, so n triangles make n levels. The
+// leaf at the bottom is listed first.
 fn comb() -> [u32; 387] {
     let mut links = [0u32; 387];
     put_node(&mut links, 0, 1, 0, 1);
@@ -155,55 +180,87 @@ fn comb() -> [u32; 387] {
     links
 }
 
-fn put_verdict(verdict: Verdict) {
-    match verdict {
-        Verdict::Passed => {
-            io::write_all(1, b" passes");
-        }
-        Verdict::Refused { number, place } => {
-            io::write_all(1, b" ");
-            io::print_decimal(1, number as u64);
-            io::write_all(1, b" at ");
-            io::print_decimal(1, place as u64);
-        }
+// The other comb, of 65 levels: all leaves are listed first, each a level further down than the one before it, and then the branches upward.
+fn other_comb() -> [u32; 387] {
+    let mut links = [0u32; 387];
+    put_node(&mut links, 0, 1, 0, 1);
+    let mut t = 1u32;
+    while t < 65 {
+        put_node(&mut links, t as usize, 1, t, t + 1);
+        put_node(&mut links, t as usize + 64, 2, 64 - t, 63 + t);
+        t += 1;
     }
+    links
 }
 
-// Prints what the check says of a comb. All triangles are the origin, and so are all boxes.
-fn put_comb(n: usize)
+// What the check says of a comb of n levels. All triangles are the origin, and so are all boxes.
+fn put_comb(links: &[u32], n: usize)
     requires { ⌜ (0 < n) × (n ≤ 65) ⌝ }
 {
     let triangles = [0.0f32; 585];
     let order = numbers();
-    let links = comb();
     let boxes = [0.0f32; 774];
     let coordinates = 9 * n;
     let nodes = 2 * n - 1;
     put_verdict(check(
         &triangles[0..coordinates],
         &order[0..n],
-        &links,
+        links,
         &boxes,
         nodes,
     ));
 }
 
 fn main() {
+    let order = tree_order();
     io::write_all(1, b"the tree");
-    put(tree());
-    io::write_all(1, b"\norder 1 0, 0 0, 0 2");
-    put_order(1, 0);
-    put_order(0, 0);
-    put_order(0, 2);
-    io::write_all(1, b"\nnodes 0 to 4");
-    put_changes(0, 5);
-    io::write_all(1, b"\neach link as 3");
-    put_changes(5, 14);
-    io::write_all(1, b"\neach box number as minus zero");
-    put_changes(14, 32);
-    io::write_all(1, b"\n64 levels");
-    put_comb(64);
-    io::write_all(1, b"\n65 levels");
-    put_comb(65);
-    io::write_all(1, b"\n");
+    put_order(&order);
+    io::write_all(1, b"order 1 0");
+    let changed_over = [1u32, 0];
+    put_order(&changed_over);
+    io::write_all(1, b"order 0 0");
+    let repeated = [0u32, 0];
+    put_order(&repeated);
+    io::write_all(1, b"order 0 2");
+    let second_out_of_range = [0u32, 2];
+    put_order(&second_out_of_range);
+    io::write_all(1, b"order 2 0");
+    let first_out_of_range = [2u32, 0];
+    put_order(&first_out_of_range);
+    io::write_all(1, b"order 0");
+    put_order(&order[0..1]);
+    io::write_all(1, b"order");
+    put_order(&order[0..0]);
+    io::write_all(1, b"order 0 1 0");
+    let longer = [0u32, 1, 0];
+    put_order(&longer);
+    io::write_all(1, b"so many nodes, 0 to 4\n");
+    put_counts(0, 9, 18);
+    put_counts(1, 9, 18);
+    put_counts(2, 9, 18);
+    put_counts(3, 9, 18);
+    put_counts(4, 9, 18);
+    io::write_all(1, b"links with one entry too few\n");
+    put_counts(3, 8, 18);
+    io::write_all(1, b"boxes with one number too few\n");
+    put_counts(3, 9, 17);
+    io::write_all(1, b"each link as 0\n");
+    put_each_link(0);
+    io::write_all(1, b"each link as 1\n");
+    put_each_link(1);
+    io::write_all(1, b"each link as 2\n");
+    put_each_link(2);
+    io::write_all(1, b"each link as 3\n");
+    put_each_link(3);
+    io::write_all(1, b"each box number as minus zero\n");
+    put_each_box();
+    put_several();
+    let leaves_right = comb();
+    io::write_all(1, b"64 levels, leaves at the right");
+    put_comb(&leaves_right, 64);
+    io::write_all(1, b"65 levels, leaves at the right");
+    put_comb(&leaves_right, 65);
+    let leaves_left = other_comb();
+    io::write_all(1, b"65 levels, leaves at the left");
+    put_comb(&leaves_left, 65);
 }
