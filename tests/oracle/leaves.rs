@@ -75,8 +75,9 @@ fn main() {
     let mut damaged = out[0].clone();
     let links = 2 + 10 * damaged[0] as usize;
     damaged[links + 2] += 1;
+    // the first leaf ends one entry later: the next one does not begin there, or it ends beyond the list
+    writeln!(text, "refused 73 {}", u32::from(damaged[1] > 1)).unwrap();
     out.push(damaged);
-    text.push_str("refused 7 0\n");
     out.push(vec![0, 0]);
     text.push_str("refused 2 0\n");
     let bytes: Vec<u8> = out.iter().flatten().flat_map(|w| w.to_le_bytes()).collect();

@@ -107,43 +107,40 @@ fn join(a: [f32; 6], b: [f32; 6]) -> [f32; 6] {
     std::array::from_fn(|i| if i < 3 { a[i].min(b[i]) } else { a[i].max(b[i]) })
 }
 
-/// The nodes' boxes, by reading the nodes from the first to the last, each branch joining the two open trees before it;
-/// none where that is no tree over the triangles.
-fn boxes_of(corners: &[f32], order: &[u16], nodes: &[[u16; 3]]) -> Option<Vec<[f32; 6]>> {
+/// The nodes' boxes, by reading the nodes from the first to the last, each branch joining the two open trees before it; where that is no
+/// tree over the triangles, what it is refused for: 71, 72 or 73 with its place. (So few triangles make no tree that is too deep.)
+fn boxes_of(corners: &[f32], order: &[u16], nodes: &[[u16; 3]]) -> Result<Vec<[f32; 6]>, String> {
     let count = corners.len() / 9;
-    let mut sorted = order.to_vec();
-    sorted.sort();
-    if sorted != (0..count as u16).collect::<Vec<_>>() {
-        return None;
+    if let Some(at) = (0..order.len()).find(|&i| order[i] as usize >= count || order[..i].contains(&order[i])) {
+        return Err(format!("refused 71 {at}"));
+    }
+    if nodes.is_empty() || nodes.len() > 2 * count - 1 {
+        return Err("refused 72 0".into());
     }
     let bound = |&k: &u16| {
         let corner = |c: usize| std::array::from_fn(|i| corners[9 * k as usize + 3 * c + i % 3]);
         join(join(corner(0), corner(1)), corner(2))
     };
-    let (mut covered, mut boxes, mut open) = (0, Vec::new(), Vec::new());
+    let (mut covered, mut boxes, mut open): (_, Vec<[f32; 6]>, Vec<usize>) = (0, Vec::new(), Vec::new());
     for (node, &[kind, left, right]) in nodes.iter().enumerate() {
-        let (depth, over) = match kind {
+        let over = match kind {
             1 if left == covered && left < right && right as usize <= count => {
                 covered = right;
-                (1, order[left as usize..right as usize].iter().map(bound).reduce(join)?)
+                order[left as usize..right as usize].iter().map(bound).reduce(join).unwrap()
             }
-            2 => {
-                let (r, below_r, box_r) = open.pop()?;
-                let (l, below_l, box_l): (usize, usize, _) = open.pop()?;
-                if (l, r) != (left as usize, right as usize) {
-                    return None;
-                }
-                (below_l.max(below_r) + 1, join(box_l, box_r))
+            2 if open.ends_with(&[left as usize, right as usize]) => {
+                open.truncate(open.len() - 2);
+                join(boxes[left as usize], boxes[right as usize])
             }
-            _ => return None,
+            _ => return Err(format!("refused 73 {node}")),
         };
-        if depth > 64 {
-            return None;
-        }
-        open.push((node, depth, over));
+        open.push(node);
         boxes.push(over);
     }
-    (open.len() == 1 && covered as usize == count).then_some(boxes)
+    if open.len() > 1 || (covered as usize) < count {
+        return Err(format!("refused 73 {}", nodes.len() - 1));
+    }
+    Ok(boxes)
 }
 
 /// What the writer, lent 300 bytes, says of what an image holds.
@@ -164,10 +161,14 @@ fn rewriting(case: &[u8], sizes: &[usize]) -> String {
         return "refused 6 0".into();
     }
     let nodes: Vec<[u16; 3]> = case[order + 6..].chunks(30).map(|n| numbers(&n[..6]).try_into().unwrap()).collect();
-    let bits: Vec<u8> = case[order + 6..].chunks(30).flat_map(|n| n[6..].to_vec()).collect();
-    match boxes_of(&corners, &numbers(&case[triangles + 6..order]), &nodes) {
-        Some(boxes) if boxes.concat().iter().flat_map(|x| x.to_le_bytes()).collect::<Vec<_>>() == bits => "the same bytes".into(),
-        _ => "refused 7 0".into(),
+    let boxes = match boxes_of(&corners, &numbers(&case[triangles + 6..order]), &nodes) {
+        Err(refused) => return refused,
+        Ok(boxes) => boxes,
+    };
+    let stored = |node: usize| &case[order + 6 + 30 * node + 6..][..24];
+    match (0..nodes.len()).find(|&node| boxes[node].map(|x| x.to_le_bytes()).concat() != stored(node)) {
+        Some(node) => format!("refused 75 {node}"),
+        None => "the same bytes".into(),
     }
 }
 

@@ -11,7 +11,7 @@ use lists::verdict::Verdict;
 use lists::verdict::room_refusal;
 use tree::calls::tree_refusal;
 
-// The first of the tests 1 to 4, 6 and 7 that refuses.
+// The first of the tests 1 to 4, 6 and 71 to 75 that refuses.
 pub fn sums_refusal(
     triangles: &[f32],
     order: &[u32],
@@ -30,7 +30,7 @@ pub fn sums_refusal(
     tree_refusal(triangles, order, links, boxes, nodes)
 }
 
-// The first of the tests 1 to 4, 6, 7, 8 and 14 that refuses.
+// The first of the tests 1 to 4, 6, 71 to 75, 8 and 14 that refuses.
 pub fn fast_refusal(
     triangles: &[f32],
     order: &[u32],

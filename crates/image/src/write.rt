@@ -1,4 +1,4 @@
-// Writing an image: the tests 1 to 7 in turn, then the bytes.
+// Writing an image: the tests 1 to 6 and 71 to 75 in turn, then the bytes.
 ghost use mathlib.Core.Path.{_≡_};
 ghost use Prim.Native.Nat.{_<_, _^_};
 ghost use Rattle.spec_records.specs.Layouts.{shapeBy};
@@ -39,7 +39,7 @@ pub fn leaf_refusal(wide: bool, settings: Settings) -> Verdict
     refused_if(max_leaf(wide) < settings.leaf_minimum, 5, 0)
 }
 
-// The first of the tests 1 to 7 that refuses.
+// The first of the tests 1 to 6 and 71 to 75 that refuses.
 fn write_refusal(
     settings: Settings,
     triangles: &[f32],

@@ -87,7 +87,7 @@ pub fn leaf_count(links: &[u32], nodes: usize) -> usize
     count
 }
 
-// The tree's k-th leaf, counted from 0, or the first of the tests 1 to 4 and 7 that refuses. The lists may be any lists at all.
+// The tree's k-th leaf, counted from 0, or the first of the tests 1 to 4 and 71 to 75 that refuses. The lists may be any lists at all.
 pub fn leaf(
     triangles: &[f32],
     order: &[u32],
@@ -106,7 +106,7 @@ pub fn leaf(
     }
 }
 
-// How many leaves the tree has, or the first of the tests 1 to 4 and 7 that refuses. The lists may be any lists at all.
+// How many leaves the tree has, or the first of the tests 1 to 4 and 71 to 75 that refuses. The lists may be any lists at all.
 pub fn leaves(
     triangles: &[f32],
     order: &[u32],
@@ -124,7 +124,7 @@ pub fn leaves(
     }
 }
 
-// The i-th triangle of the tree's k-th leaf, both counted from 0, or the first of the tests 1 to 4 and 7 that refuses.
+// The i-th triangle of the tree's k-th leaf, both counted from 0, or the first of the tests 1 to 4 and 71 to 75 that refuses.
 // The lists may be any lists at all.
 pub fn leaf_entry(
     triangles: &[f32],

@@ -20,7 +20,7 @@ use tree::calls::tree_refusal;
 use walks::answer::Query;
 use walks::words::put_answer;
 
-// The first of the tests 1 to 4, 6, 7, 8 and 9 that refuses.
+// The first of the tests 1 to 4, 6, 71 to 75, 8 and 9 that refuses.
 fn query_refusal(
     triangles: &[f32],
     order: &[u32],

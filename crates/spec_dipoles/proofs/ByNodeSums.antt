@@ -20,7 +20,8 @@ use Rattle.spec_dipoles.specs.Sums.{Dipole}
 use Rattle.spec_dipoles.specs.Far.{isUsed, farTerm}
 use Rattle.spec_dipoles.specs.Fast.{fastBy, fastAt}
 use Rattle.spec_dipoles.specs.Calls.{dipoleAt, dipoleIn, dipoles, sumsRefusal, afterSums, fastAbout}
-use Rattle.spec_dipoles.proofs.Readable.{tree-passed, accepted-readable, accepted-some}
+use Rattle.spec_tree.proofs.Unchanged.{tree-passed}
+use Rattle.spec_dipoles.proofs.Readable.{accepted-readable, accepted-some}
 use Rattle.spec_dipoles.proofs.Lent.{dipole-read}
 
 -- ---- two lists of dipoles that agree at the tree's nodes give the same number

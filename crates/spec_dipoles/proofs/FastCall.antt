@@ -12,7 +12,8 @@ use Rattle.spec_lists.proofs.Verdicts.{all-pass, refusal-leaves}
 use Rattle.spec_lists.proofs.Passed.{room-passed}
 use Rattle.spec_dipoles.specs.Calls.{fastRefusal, fastWindings, afterFast}
 use Rattle.spec_dipoles.specs.Stored.{RootIn}
-use Rattle.spec_dipoles.proofs.Readable.{tree-passed, accepted-root}
+use Rattle.spec_tree.proofs.Unchanged.{tree-passed}
+use Rattle.spec_dipoles.proofs.Readable.{accepted-root}
 
 module _ (triangles : List Float) (order links : List ℕ) (boxes : List Float) (nodes : ℕ) where
   module _ (sums points : List Float) (accuracy : Float) (old : List Float) where

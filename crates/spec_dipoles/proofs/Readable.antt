@@ -7,20 +7,11 @@ use native.Mathlib.Omega.{arith}
 use lib.ListN.{length}
 use lib.Ieee.{Float}
 use Rattle.spec_lists.specs.Reading.{boxAt, triangleCount}
-use Rattle.spec_lists.specs.Refusals.{passes}
-use Rattle.spec_lists.proofs.Verdicts.{so}
 use Rattle.spec_tree.specs.Accepted.{accepted}
-use Rattle.spec_tree.specs.Refusals.{treeRefusal}
 use Rattle.spec_tree.specs.Hangs.{Sound}
 use Rattle.spec_tree.proofs.Accepted.{accepted-listed, listing-some}
 use Rattle.spec_tree.proofs.Hangs.{listing-sound}
 use Rattle.spec_dipoles.specs.Stored.{Readable, RootIn}
-
--- a tree that passed its test is accepted
-pub tree-passed : (triangles : List Float) (order links : List ℕ) (boxes : List Float) (nodes : ℕ) → treeRefusal triangles order links boxes nodes ≡ passes
-    → accepted (boxAt triangles) (triangleCount triangles) order links boxes nodes ≡ true
-unfolding treeRefusal
-tree-passed triangles order links boxes nodes e = so (accepted (boxAt triangles) (triangleCount triangles) order links boxes nodes) 7 0 e
 
 module _ (triangles : List Float) (order links : List ℕ) (boxes : List Float) (nodes : ℕ)
     (yes : accepted (boxAt triangles) (triangleCount triangles) order links boxes nodes ≡ true) where

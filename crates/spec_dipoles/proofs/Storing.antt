@@ -22,7 +22,8 @@ use Rattle.spec_tree.specs.Hangs.{leafSlice}
 use Rattle.spec_dipoles.specs.Sums.{Sums, leafSums, joinedSums, nodeSums, Dipole, dipoleOf}
 use Rattle.spec_dipoles.specs.Calls.{sixteenOf, dipoleAt, sumsRefusal, dipoleIn, dipoles, afterSums}
 use Rattle.spec_dipoles.specs.Stored.{stored, restored, sumsFrom, storedSums, madeDipoles, Readable}
-use Rattle.spec_dipoles.proofs.Readable.{tree-passed, accepted-readable, accepted-boxed}
+use Rattle.spec_tree.proofs.Unchanged.{tree-passed}
+use Rattle.spec_dipoles.proofs.Readable.{accepted-readable, accepted-boxed}
 use Rattle.spec_dipoles.proofs.Lent.{overwrite-again, dipole-read, dipole-behind}
 use Rattle.spec_dipoles.proofs.Levels.{sums-by-earlier}
 

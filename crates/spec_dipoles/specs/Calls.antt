@@ -38,7 +38,7 @@ unfoldable pub dipoleAt : List Float → ℕ → Dipole
 dipoleAt sums node = dipoleFrom sums (16 * node)
 
 -- ---- node_sums
--- 1 to 4, 6, 7; `room` is the lent list's length
+-- 1 to 4, 6, 71 to 75; `room` is the lent list's length
 unfoldable pub sumsRefusal : (triangles : List Float) (order links : List ℕ) (boxes : List Float) (nodes room : ℕ) → Verdict
 sumsRefusal triangles order links boxes nodes room =
     firstRefusal (trianglesRefusal triangles ∷ roomRefusal (room / 16) nodes ∷ treeRefusal triangles order links boxes nodes ∷ [])
@@ -57,7 +57,7 @@ afterSums f triangles order links boxes nodes old =
     afterVerdict (sumsRefusal triangles order links boxes nodes (length old)) (overwrite 0 (dipoles f triangles order links boxes nodes) old) old
 
 -- ---- fast_winding
--- 1 to 4, 6, 7, 8, 14: room for a number a point, and sixteen numbers a node
+-- 1 to 4, 6, 71 to 75, 8, 14: room for a number a point, and sixteen numbers a node
 unfoldable pub fastRefusal : (triangles : List Float) (order links : List ℕ) (boxes : List Float) (nodes : ℕ) (sums points : List Float) (accuracy : Float)
     (room : ℕ) → Verdict
 fastRefusal triangles order links boxes nodes sums points accuracy room =

@@ -1,7 +1,6 @@
 -- What passed the tests is built and searched without a refusal, and what is written are the lines of the run.
-use mathlib.Core.Path.{_≡_, refl, ap, _∙_}
+use mathlib.Core.Path.{_≡_, ap, _∙_}
 use mathlib.Core.List.{List}
-use mathlib.Core.Bool.{Bool, true, false, not}
 use Prim.Native.Nat.{ℕ, _+_, _*_, _≤_}
 use native.Mathlib.Omega.{arith}
 use lib.ListN.{length, take}
@@ -14,19 +13,15 @@ use Rattle.spec_records.specs.Layouts.{version1}
 use Rattle.spec_image.specs.Image.{settingsIn}
 use Rattle.spec_printing.specs.Printed.{countsLine}
 use Rattle.spec_lists.specs.Reading.{triangleCount, pointCount}
-use Rattle.spec_lists.specs.Refusals.{Verdict, passes, refusedIf, Settings}
+use Rattle.spec_lists.specs.Refusals.{Verdict, passes, Settings}
 use Rattle.spec_lists.proofs.Verdicts.{then-passes}
 use Rattle.spec_lists.proofs.Passed.{triangles-passed, settings-passed, room-passes}
-use Rattle.spec_tree.specs.Refusals.{treeRefusal}
+use Rattle.spec_tree.proofs.Unchanged.{tree-passes}
 use Rattle.spec_build.specs.Build.{Lists, made, notMade, answerBy, builtTree, buildRefusal, BuildIs}
 use Rattle.spec_build.proofs.Build.{build-passes, made-nodes, made-depth, made-accepted}
 use Rattle.spec_search.specs.Calls.{queryRefusal, answerWords, afterQuery, sureAnswer}
 use Rattle.spec_gauge.specs.Printed.{maxBytes, Request, requestIn, treeLine, maxGauged, maxPoints, maxPrinted, Fits}
 use Rattle.spec_gauge.proofs.Printed.{AllPassed}
-
-accepted-passes : (b : Bool) → b ≡ true → refusedIf (not b) 7 0 ≡ passes
-accepted-passes true e = refl
-accepted-passes false e = cc
 
 -- the lists that the program lends to the build: as many triangles as fit have room
 pub record Lent (lent : Lists) : Type 0 where
@@ -73,14 +68,14 @@ module _ (a : Request) (passed : AllPassed a) {nodes depth : ℕ} {old new : Lis
   -- the query of the tree that was built is never refused
   pub query-passes : (count : ℕ) → count ≡ triangleCount (a .triangles) → pointCount (a .points) ≤ maxPoints
       → queryRefusal (a .triangles) (take count (new .order)) (new .links) (new .boxes) nodes (a .points) (a .distance) 16380 ≡ passes
-  unfolding queryRefusal treeRefusal
+  unfolding queryRefusal
   query-passes count e h =
       then-passes _ (
         passed .triangles,
         (
           room-passes 2730 (pointCount (a .points)) h,
           (
-            rw e (accepted-passes _ (made-accepted binary32 (a .triangles) (a .settings) old new nodes depth b)),
+            rw e (tree-passes (a .triangles) _ (new .links) (new .boxes) nodes (made-accepted binary32 (a .triangles) (a .settings) old new nodes depth b)),
             (
               passed .points,
               (passed .distance, tt),

@@ -12,11 +12,11 @@ use Rattle.spec_records.specs.Layouts.{Shape, nodeSize, imageSize}
 use Rattle.spec_lists.specs.Reading.{triangleCount, boxAt}
 use Rattle.spec_lists.specs.Refusals.{passes, Settings}
 use Rattle.spec_lists.specs.Passed.{GoodTriangles, GoodSettings}
-use Rattle.spec_lists.proofs.Verdicts.{all-pass, then-passes, not-refused, so}
+use Rattle.spec_lists.proofs.Verdicts.{all-pass, then-passes, not-refused}
 use Rattle.spec_lists.proofs.Passed.{triangles-passed, triangles-pass, settings-passed, settings-pass, room-passed, room-passes}
 use Rattle.spec_tree.specs.Trees.{Tree}
 use Rattle.spec_tree.specs.Accepted.{Listing, accepted}
-use Rattle.spec_tree.specs.Refusals.{treeRefusal}
+use Rattle.spec_tree.proofs.Unchanged.{tree-passes, tree-passed}
 use Rattle.spec_tree.proofs.Order.{permutes-length}
 use Rattle.spec_tree.proofs.Accepted.{accepted-listed, listed-accepted, listing-most, listing-links, listing-boxes}
 use Rattle.spec_image.specs.Image.{Image}
@@ -93,12 +93,12 @@ module _ (x : Image) (given : ℕ) where
 
   -- what passed the writer's tests has good lists and room for the image
   pub write-passed : writeRefusal x given ≡ passes → Good x × (exactSize x ≤ given)
-  unfolding writeRefusal treeRefusal
+  unfolding writeRefusal
   write-passed e =
       let p = all-pass _ e in
       let late = p .1 .1 in
       let listed = accepted-listed (boxAt (x .triangles)) (triangleCount (x .triangles)) (x .order) (x .links) (x .boxes) (x .nodes)
-      (so isTree 7 0 (late .1 .1 .0)) in (
+      (tree-passed (x .triangles) (x .order) (x .links) (x .boxes) (x .nodes) (late .1 .1 .0)) in (
         record {
           triangles = triangles-passed (x .triangles) (p .0);
           settings = settings-passed (x .settings) (p .1 .0);
@@ -111,7 +111,7 @@ module _ (x : Image) (given : ℕ) where
 
   -- good lists with room for the image pass the writer's tests
   pub write-passes : Good x → exactSize x ≤ given → writeRefusal x given ≡ passes
-  unfolding writeRefusal treeRefusal
+  unfolding writeRefusal
   write-passes g room =
       let yes : isTree ≡ true =
       listed-accepted (boxAt (x .triangles)) (triangleCount (x .triangles)) (x .order) (x .links) (x .boxes) (x .nodes) (g .tree) (g .listing) in
@@ -119,6 +119,9 @@ module _ (x : Image) (given : ℕ) where
         triangles-pass (x .triangles) (g .triangles),
         (
           settings-pass (x .settings) (g .settings),
-          (leaf-passes (versionOf x) (x .settings) (g .leafKept), (room-passes given (exactSize x) room, (rw yes, tt))),
+          (
+            leaf-passes (versionOf x) (x .settings) (g .leafKept),
+            (room-passes given (exactSize x) room, (tree-passes (x .triangles) (x .order) (x .links) (x .boxes) (x .nodes) yes, tt)),
+          ),
         ),
       )

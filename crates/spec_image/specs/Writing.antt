@@ -1,4 +1,4 @@
--- What writing an image answers and leaves in the lent bytes: the tests 1 to 7, then the image.
+-- What writing an image answers and leaves in the lent bytes: the tests 1 to 6 and 71 to 75, then the image.
 use Prim.Native.Nat.{ℕ}
 use mathlib.Core.List.{List, [], _∷_}
 use lib.ListN.{length}
@@ -33,7 +33,7 @@ exactSize x = imageSize (versionOf x) (triangleCount (x .triangles)) (x .nodes)
 unfoldable pub leafRefusal : Shape → Settings → Verdict
 leafRefusal sh s = refusedIf (ltb (sh .maxLeaf) (s .leafMinimum)) 5 0
 
--- 1 to 7, into `given` bytes
+-- 1 to 6 and 71 to 75, into `given` bytes
 unfoldable pub writeRefusal : Image → (given : ℕ) → Verdict
 writeRefusal x given =
     firstRefusal

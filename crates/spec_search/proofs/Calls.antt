@@ -12,14 +12,14 @@ use Rattle.spec_shapes.specs.Points.{Point}
 use Rattle.spec_lists.specs.Limits.{deepest, maxTriangles}
 use Rattle.spec_lists.specs.Reading.{boxAt, triangleCount, pointAt, pointCount}
 use Rattle.spec_lists.specs.Refusals.{Verdict, passes, refuses}
-use Rattle.spec_lists.proofs.Verdicts.{all-pass, so, refusal-leaves}
+use Rattle.spec_lists.proofs.Verdicts.{all-pass, refusal-leaves}
 use Rattle.spec_lists.proofs.Passed.{triangles-passed, points-passed, room-passed}
 use Rattle.spec_tree.specs.Trees.{Tree, numbers}
 use Rattle.spec_tree.specs.Accepted.{Listing}
-use Rattle.spec_tree.specs.Refusals.{treeRefusal}
 use Rattle.spec_tree.proofs.Order.{permutes-length}
 use Rattle.spec_tree.proofs.Accepted.{accepted-listed, listing-some}
 use Rattle.spec_tree.proofs.Hangs.{listing-hangs, listing-sound}
+use Rattle.spec_tree.proofs.Unchanged.{tree-passed}
 use Rattle.spec_search.specs.Answers.{Answer, nothing, found, sixWords}
 use Rattle.spec_search.specs.Safe.{NodeSafe}
 use Rattle.spec_search.specs.Calls.{queryRefusal, answerWords, afterQuery, Searchable, Askable}
@@ -53,12 +53,15 @@ module _ (triangles : List Float) (order links : List ℕ) (boxes : List Float) 
   -- lists that pass the tests have what the searches need, and the lent list has room for all answers
   pub query-passed : queryRefusal triangles order links boxes nodes points distance room ≡ passes
       → Askable triangles order links boxes nodes points × (6 * pointCount points ≤ room)
-  unfolding queryRefusal treeRefusal
+  unfolding queryRefusal
   query-passed h =
       let all = all-pass _ h in
       let fits : pointCount points ≤ room / 6 = room-passed _ _ (all .1 .0) in (
         record {
-          searchable = record { triangles-good = triangles-passed triangles (all .0); tree-accepted = so _ _ _ (all .1 .1 .0) };
+          searchable = record {
+            triangles-good = triangles-passed triangles (all .0);
+            tree-accepted = tree-passed triangles order links boxes nodes (all .1 .1 .0);
+          };
           points-good = points-passed points (all .1 .1 .1 .0);
         },
         omega arith,

@@ -15,7 +15,7 @@ use Rattle.spec_search.specs.Answers.{Query, sure, source, Answer, sixWo
 use Rattle.spec_search.specs.Sure.{limitOf, scan}
 use Rattle.spec_search.specs.Source.{sourceWalk}
 
--- 1 to 4, 6, 7, 8, 9, the first that applies; `room` is the lent list's length, and an answer takes six
+-- 1 to 4, 6, 71 to 75, 8, 9, the first that applies; `room` is the lent list's length, and an answer takes six
 unfoldable pub queryRefusal : (triangles : List Float) (order links : List ℕ) (boxes : List Float) (nodes : ℕ) (points : List Float) (distance : Float)
     (room : ℕ) → Verdict
 queryRefusal triangles order links boxes nodes points distance room =

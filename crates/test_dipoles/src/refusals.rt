@@ -211,7 +211,7 @@ fn put_wrong_tree() {
     put_winding(asked, 3, 48, 2);
 }
 
-// Where several are wrong the lowest number counts.
+// Where several are wrong the first test counts.
 fn put_several() {
     let mut asked = right();
     asked.accuracy = -1.0;

@@ -20,7 +20,7 @@ use lists::tests::triangles_refusal;
 use lists::verdict::Verdict;
 use shapes::vec3::Vec3;
 use tree::calls::DepthFound;
-use tree::check::is_accepted;
+use tree::calls::tree_refusal;
 use walks::answer::Probe;
 use walks::sure::search;
 
@@ -294,15 +294,17 @@ pub extern "C" fn timing_measured(
     ensures { λ r. ⌜ r ≡ Answered.measuredFirst binary32 (now (triangles .entry)) (now (order .entry)) (now (links .entry)) (now (boxes .entry)) nodes
         (now (points .entry)) distance ⌝ }
 {
-    let verdict = triangles_refusal(triangles);
-    if verdict.refuses() {
+    let bad_triangles = triangles_refusal(triangles);
+    if bad_triangles.refuses() {
         return 0;
     }
-    if is_accepted(triangles, order, links, boxes, nodes) {
-        if points.len() >= 3 {
-            let p = point_at(points, 0);
-            return measured_at(triangles, order, links, boxes, nodes, p, distance);
-        }
+    let bad_tree = tree_refusal(triangles, order, links, boxes, nodes);
+    if bad_tree.refuses() {
+        return 0;
+    }
+    if points.len() >= 3 {
+        let p = point_at(points, 0);
+        return measured_at(triangles, order, links, boxes, nodes, p, distance);
     }
     0
 }

@@ -1,6 +1,6 @@
 -- `dipoles::stored::range_sums` meets its contract: what `leaf_sums` ensures of the part.
 use Prim.Native.Nat.{_-_}
-use Rattle.spec_tree.proofs.Steps.{slice-entries}
+use Rattle.spec_tree.proofs.Order.{slice-entries}
 use borrow.Author.Needs.{needs}
 use Rattle.dipoles.proofs.stored.range_sums.Statement.{statement}
 use Rattle.dipoles.proofs.stored.range_sums.Tie as tie

@@ -1,6 +1,6 @@
 -- `dipoles::walk::leaf_winding` meets its contract: what each call ensures, put in.
 use Prim.Native.Nat.{_-_}
-use Rattle.spec_tree.proofs.Steps.{slice-entries}
+use Rattle.spec_tree.proofs.Order.{slice-entries}
 use borrow.Author.Needs.{needs}
 use Rattle.dipoles.proofs.walk.leaf_winding.Statement.{statement}
 use Rattle.dipoles.proofs.walk.leaf_winding.Tie as tie
