@@ -52,8 +52,18 @@
  *                            beyond 1,048,576 either way                         among the numbers
  *     GAUGE_SETTING       5  a setting is out of range                           0
  *     GAUGE_ROOM          6  a list or slice to write is too short               0
- *     GAUGE_TREE          7  order, links and boxes are no tree of these         0
- *                            triangles
+ *     GAUGE_TREE_ORDER   71  an entry of the order list is no triangle's         index of the first such
+ *                            number, or stands there a second time;              entry;
+ *                            else it has fewer entries than triangles            how many it has
+ *     GAUGE_TREE_COUNT   72  there is no node, or there are more than 2n - 1,    0
+ *                            or more than links or boxes hold
+ *     GAUGE_TREE_LISTING 73  the links are not one tree, each branch behind      the first node at which
+ *                            its left and its right subtree, whose leaves        that breaks; the root where
+ *                            have the entries of order in turn, 0 to n           trees or entries are left
+ *                                                                                over at the end
+ *     GAUGE_TREE_DEPTH   74  a node is deeper than level 64; the root is 1       the first such node
+ *     GAUGE_TREE_BOX     75  a node's box is not, bit for bit, that of its       the first such node
+ *                            triangles or of its two children's boxes
  *     GAUGE_POINT         8  point bytes are no multiple of 12,                  their length;
  *                            else a coordinate is no number or out of range      index of the first
  *                                                                                among the numbers
@@ -66,10 +76,11 @@
  *                            above 1,000
  *
  * An index among the numbers counts from 0. In triangles place / 9 is the triangle and place % 9 the
- * number in it; in points place / 3 is the point and place % 3 its x, y or z.
+ * number in it; in points place / 3 is the point and place % 3 its x, y or z. Entries and nodes count
+ * from 0 too: order[place], and links[3 * place] with boxes[6 * place].
  *
- * Where several hold, GAUGE_LAYOUT or GAUGE_STL is told first, then the lowest number. On success
- * entries and bytes past those that a call writes stay as they were.
+ * Where several hold, GAUGE_LAYOUT or GAUGE_STL is told first, then what stands first in this table. On
+ * success entries and bytes past those that a call writes stay as they were.
  *
  * No call allocates, keeps anything between calls, or writes to a file or a screen; any number of
  * threads may call at once, as long as none writes a list or a slice that another uses. The calls count
@@ -83,8 +94,8 @@
 #include <stdint.h>
 
 /* Of this header: the first number changes when a host must change. */
-#define GAUGE_VERSION_MAJOR 2
-#define GAUGE_VERSION_MINOR 2
+#define GAUGE_VERSION_MAJOR 3
+#define GAUGE_VERSION_MINOR 0
 
 #define GAUGE_MAX_TRIANGLES 65536
 #define GAUGE_MAX_LEAF_MINIMUM 65536
@@ -113,7 +124,11 @@
 #define GAUGE_COORDINATE 4
 #define GAUGE_SETTING 5
 #define GAUGE_ROOM 6
-#define GAUGE_TREE 7
+#define GAUGE_TREE_ORDER 71
+#define GAUGE_TREE_COUNT 72
+#define GAUGE_TREE_LISTING 73
+#define GAUGE_TREE_DEPTH 74
+#define GAUGE_TREE_BOX 75
 #define GAUGE_POINT 8
 #define GAUGE_DISTANCE 9
 #define GAUGE_LAYOUT 10
@@ -122,17 +137,17 @@
 
 /* A thread whose whole stack is so many bytes is enough for the call. Measured, not proved: on
  * the largest and the deepest inputs, with the toolchain that the library was made by,
- * tests/host/stack.c found 9 to 12 bytes in a hundred left, and more of the 16 KB, which is the least
+ * tests/host/stack.c found 11 to 13 bytes in a hundred left, and more of the 16 KB, which is the least
  * that a thread may have. gauge_image_max and gauge_image_triangles take next to none. */
 #define GAUGE_STACK_READ (16 * 1024)
 #define GAUGE_STACK_BUILD (40 * 1024)
-#define GAUGE_STACK_WRITE (100 * 1024)
-#define GAUGE_STACK_CHECK (100 * 1024)
-#define GAUGE_STACK_SURE (100 * 1024)
-#define GAUGE_STACK_SOURCE (100 * 1024)
+#define GAUGE_STACK_WRITE (78 * 1024)
+#define GAUGE_STACK_CHECK (78 * 1024)
+#define GAUGE_STACK_SURE (78 * 1024)
+#define GAUGE_STACK_SOURCE (78 * 1024)
 #define GAUGE_STACK_WINDING (16 * 1024)
-#define GAUGE_STACK_NODE_SUMS (100 * 1024)
-#define GAUGE_STACK_FAST_WINDING (106 * 1024)
+#define GAUGE_STACK_NODE_SUMS (78 * 1024)
+#define GAUGE_STACK_FAST_WINDING (82 * 1024)
 #define GAUGE_STACK_READ_STL (16 * 1024)
 #define GAUGE_STACK_WRITE_STL (16 * 1024)
 
@@ -246,7 +261,7 @@ uint64_t gauge_build(size_t strategy, size_t leaf_minimum, size_t maximum_depth,
  * Counted: the bytes written, from the front of image.
  * Refused: GAUGE_RAGGED, GAUGE_NONE, GAUGE_TOO_MANY, GAUGE_COORDINATE, GAUGE_SETTING as gauge_build and
  * where a drawing of 4,096 triangles or fewer has a leaf minimum above 4,096, GAUGE_ROOM where image is
- * shorter than the image is (GAUGE_IMAGE_MAX is always enough), GAUGE_TREE. */
+ * shorter than the image is (GAUGE_IMAGE_MAX is always enough), GAUGE_TREE_ORDER to GAUGE_TREE_BOX. */
 uint64_t gauge_write(size_t strategy, size_t leaf_minimum, size_t maximum_depth,
                      const float *triangles, size_t triangles_length, const uint32_t *order, size_t order_length,
                      const uint32_t *links, size_t links_length, const float *boxes, size_t boxes_length, size_t nodes,
@@ -256,7 +271,8 @@ uint64_t gauge_write(size_t strategy, size_t leaf_minimum, size_t maximum_depth,
  * links and boxes have the nodes at their front, and these are a tree of 64 levels at most.
  *
  * Counted: the triangles.
- * Refused: GAUGE_RAGGED, GAUGE_NONE, GAUGE_TOO_MANY, GAUGE_COORDINATE, GAUGE_TREE. */
+ * Refused: GAUGE_RAGGED, GAUGE_NONE, GAUGE_TOO_MANY, GAUGE_COORDINATE, and GAUGE_TREE_ORDER,
+ * GAUGE_TREE_COUNT, GAUGE_TREE_LISTING, GAUGE_TREE_DEPTH or GAUGE_TREE_BOX, the first that holds. */
 uint64_t gauge_check(const float *triangles, size_t triangles_length, const uint32_t *order, size_t order_length,
                      const uint32_t *links, size_t links_length, const float *boxes, size_t boxes_length, size_t nodes);
 
@@ -268,7 +284,8 @@ uint64_t gauge_check(const float *triangles, size_t triangles_length, const uint
  *
  * Counted: the points answered, from the front of answers.
  * Refused: GAUGE_RAGGED, GAUGE_NONE, GAUGE_TOO_MANY, GAUGE_COORDINATE, GAUGE_ROOM where answers has room
- * for fewer than points_length / 12 answers, GAUGE_TREE, GAUGE_POINT, GAUGE_DISTANCE. */
+ * for fewer than points_length / 12 answers, GAUGE_TREE_ORDER to GAUGE_TREE_BOX as gauge_check,
+ * GAUGE_POINT, GAUGE_DISTANCE. */
 uint64_t gauge_sure(const float *triangles, size_t triangles_length, const uint32_t *order, size_t order_length,
                     const uint32_t *links, size_t links_length, const float *boxes, size_t boxes_length, size_t nodes,
                     const uint8_t *points, size_t points_length, float distance,
@@ -300,7 +317,7 @@ uint64_t gauge_winding(const float *triangles, size_t triangles_length,
  *
  * Counted: the nodes.
  * Refused: GAUGE_RAGGED, GAUGE_NONE, GAUGE_TOO_MANY, GAUGE_COORDINATE, GAUGE_ROOM where sums has fewer
- * than 16 floats a node (GAUGE_SUMS is always enough), GAUGE_TREE. */
+ * than 16 floats a node (GAUGE_SUMS is always enough), GAUGE_TREE_ORDER to GAUGE_TREE_BOX. */
 uint64_t gauge_node_sums(const float *triangles, size_t triangles_length, const uint32_t *order, size_t order_length,
                          const uint32_t *links, size_t links_length, const float *boxes, size_t boxes_length, size_t nodes,
                          float *sums, size_t sums_length);
@@ -315,8 +332,8 @@ uint64_t gauge_node_sums(const float *triangles, size_t triangles_length, const 
  *
  * Counted: the points answered, from the front of windings.
  * Refused: GAUGE_RAGGED, GAUGE_NONE, GAUGE_TOO_MANY, GAUGE_COORDINATE, GAUGE_ROOM where windings has
- * room for fewer than points_length / 12 numbers or sums has fewer than 16 floats a node, GAUGE_TREE,
- * GAUGE_POINT, GAUGE_SCALE. */
+ * room for fewer than points_length / 12 numbers or sums has fewer than 16 floats a node,
+ * GAUGE_TREE_ORDER to GAUGE_TREE_BOX, GAUGE_POINT, GAUGE_SCALE. */
 uint64_t gauge_fast_winding(const float *triangles, size_t triangles_length, const uint32_t *order, size_t order_length,
                             const uint32_t *links, size_t links_length, const float *boxes, size_t boxes_length, size_t nodes,
                             const float *sums, size_t sums_length, const uint8_t *points, size_t points_length, float scale,

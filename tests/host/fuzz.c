@@ -10,6 +10,7 @@
  * The exit status is 0 where nothing differs and, of ENOUGH calls or more, each call was done and refused
  * in every way that gauge.h lists for it. */
 #define _DEFAULT_SOURCE
+#include "damages.h"
 #include "plain.h"
 
 #include <float.h>
@@ -21,21 +22,6 @@
 #include <unistd.h>
 
 /* ---- chance */
-
-static uint64_t state;
-
-static uint64_t chance(void)
-{
-    uint64_t z = (state += 0x9e3779b97f4a7c15u);
-    z = (z ^ (z >> 30)) * 0xbf58476d1ce4e5b9u;
-    z = (z ^ (z >> 27)) * 0x94d049bb133111ebu;
-    return z ^ (z >> 31);
-}
-
-static unsigned below(unsigned n)
-{
-    return (unsigned)(chance() % n);
-}
 
 static float between(float lo, float hi)
 {
@@ -118,23 +104,23 @@ static const char *const names[CALLS] = {"gauge_image_max", "gauge_image_triangl
                                          "gauge_node_sums", "gauge_fast_winding"};
 
 /* How a call may end, as gauge.h lists it: the first is done, the others are refusals. */
-enum { ENDS = 13, ENOUGH = 30000 };
-static const unsigned numbers[ENDS] = {0, 1, 2, 3, 4, 5, 6, 7, 8, 9, 10, 11, 14};
+enum { ENDS = 17, ENOUGH = 30000 };
+static const unsigned numbers[ENDS] = {0, 1, 2, 3, 4, 5, 6, 71, 72, 73, 74, 75, 8, 9, 10, 11, 14};
 static uint64_t calls, called[CALLS], ended[CALLS][ENDS], differences, unknown;
 static const int listed[CALLS][ENDS] = {
-    {1, 0, 0, 0, 0, 0, 0, 0, 0, 0, 0, 0, 0}, /* gauge_image_max */
-    {1, 0, 0, 0, 0, 0, 0, 0, 0, 0, 1, 0, 0}, /* gauge_image_triangles */
-    {1, 0, 0, 0, 0, 0, 1, 0, 0, 0, 1, 0, 0}, /* gauge_read */
-    {1, 0, 1, 1, 1, 0, 1, 0, 0, 0, 0, 1, 0}, /* gauge_read_stl */
-    {1, 1, 1, 1, 1, 0, 1, 0, 0, 0, 0, 0, 0}, /* gauge_write_stl */
-    {1, 1, 1, 1, 1, 1, 1, 0, 0, 0, 0, 0, 0}, /* gauge_build */
-    {1, 1, 1, 1, 1, 1, 1, 1, 0, 0, 0, 0, 0}, /* gauge_write */
-    {1, 1, 1, 1, 1, 0, 0, 1, 0, 0, 0, 0, 0}, /* gauge_check */
-    {1, 1, 1, 1, 1, 0, 1, 1, 1, 1, 0, 0, 0}, /* gauge_sure */
-    {1, 1, 1, 1, 1, 0, 1, 1, 1, 1, 0, 0, 0}, /* gauge_source */
-    {1, 1, 1, 1, 1, 0, 1, 0, 1, 0, 0, 0, 0}, /* gauge_winding */
-    {1, 1, 1, 1, 1, 0, 1, 1, 0, 0, 0, 0, 0}, /* gauge_node_sums */
-    {1, 1, 1, 1, 1, 0, 1, 1, 1, 0, 0, 0, 1}, /* gauge_fast_winding */
+    {1, 0, 0, 0, 0, 0, 0, 0, 0, 0, 0, 0, 0, 0, 0, 0, 0}, /* gauge_image_max */
+    {1, 0, 0, 0, 0, 0, 0, 0, 0, 0, 0, 0, 0, 0, 1, 0, 0}, /* gauge_image_triangles */
+    {1, 0, 0, 0, 0, 0, 1, 0, 0, 0, 0, 0, 0, 0, 1, 0, 0}, /* gauge_read */
+    {1, 0, 1, 1, 1, 0, 1, 0, 0, 0, 0, 0, 0, 0, 0, 1, 0}, /* gauge_read_stl */
+    {1, 1, 1, 1, 1, 0, 1, 0, 0, 0, 0, 0, 0, 0, 0, 0, 0}, /* gauge_write_stl */
+    {1, 1, 1, 1, 1, 1, 1, 0, 0, 0, 0, 0, 0, 0, 0, 0, 0}, /* gauge_build */
+    {1, 1, 1, 1, 1, 1, 1, 1, 1, 1, 1, 1, 0, 0, 0, 0, 0}, /* gauge_write */
+    {1, 1, 1, 1, 1, 0, 0, 1, 1, 1, 1, 1, 0, 0, 0, 0, 0}, /* gauge_check */
+    {1, 1, 1, 1, 1, 0, 1, 1, 1, 1, 1, 1, 1, 1, 0, 0, 0}, /* gauge_sure */
+    {1, 1, 1, 1, 1, 0, 1, 1, 1, 1, 1, 1, 1, 1, 0, 0, 0}, /* gauge_source */
+    {1, 1, 1, 1, 1, 0, 1, 0, 0, 0, 0, 0, 1, 0, 0, 0, 0}, /* gauge_winding */
+    {1, 1, 1, 1, 1, 0, 1, 1, 1, 1, 1, 1, 0, 0, 0, 0, 0}, /* gauge_node_sums */
+    {1, 1, 1, 1, 1, 0, 1, 1, 1, 1, 1, 1, 1, 0, 0, 0, 1}, /* gauge_fast_winding */
 };
 
 /* Who is called: the library, with the lists themselves, and plain.c, with their copies. */
@@ -577,10 +563,10 @@ static void ask_all(Settings s, Drawing d, Slice points, float distance)
     ask_fast(d, make_sums(d), points, 2, 4 * n);
 }
 
-/* A copy of a drawing, to be damaged: each list has room for some entries more. */
-enum { MORE = 40 };
-static float bad_triangles[9 * MOST + MORE], bad_boxes[6 * MOST_NODES + MORE];
-static uint32_t bad_order[MOST + MORE], bad_links[3 * MOST_NODES + MORE];
+/* A copy of a drawing, to be damaged: each list has room for some entries more, by each of so many damages. */
+enum { AT_ONCE = 4, LONGER = 40, SPARE = AT_ONCE * LONGER };
+static float bad_triangles[9 * MOST + SPARE], bad_boxes[6 * MOST_NODES + SPARE];
+static uint32_t bad_order[MOST + SPARE], bad_links[3 * MOST_NODES + SPARE];
 
 /* The image is counted and read, and what was read is asked. Where it can be written it gives the same bytes. */
 static void ask_image(Slice image, Slice points)
@@ -613,7 +599,7 @@ static Drawing copied(Drawing d)
     memcpy(bad_order, d.order, 4 * d.order_length);
     memcpy(bad_links, d.links, 4 * d.links_length);
     memcpy(bad_boxes, d.boxes, 4 * d.boxes_length);
-    for (int i = 0; i < MORE; i++) {
+    for (int i = 0; i < SPARE; i++) {
         bad_triangles[d.triangles_length + (size_t)i] = between(-1, 1);
         bad_order[d.order_length + (size_t)i] = below((unsigned)d.order_length + 2);
         bad_links[d.links_length + (size_t)i] = below(4);
@@ -653,65 +639,52 @@ static size_t made_up(size_t count)
     return below(2) ? some[below(sizeof some / sizeof *some)] : count + below(7) - 3;
 }
 
-/* A tree's lists with something wrong in them, or nothing. */
-static Drawing damage(Drawing d)
+/* Lists of other lengths, another node count, other triangles: what is not the tree's alone. The drawing is a copy. */
+static Drawing damage_lengths(Drawing d)
 {
-    unsigned n = (unsigned)d.order_length, nodes = (unsigned)d.nodes, node = below(nodes), entry = below(n), other = below(n);
-    uint32_t bits;
-    switch (below(13)) {
-    case 0: /* the kind of a node */
-        return with_link(d, 3 * node, below(4) ? below(4) : (uint32_t)chance());
-    case 1: /* a side of a node, near what it was or anything */
-    case 2:
-        node = 3 * node + 1 + below(2);
-        return with_link(d, node, below(3) ? d.links[node] + below(5) - 2 : (uint32_t)chance());
-    case 3: /* a box that is another */
-        return with_side(d, 6 * node + below(6), below(2) ? 0x7fc00000 : (uint32_t)chance());
-    case 4: /* the next number, up or down, or the other zero */
-        node = 6 * node + below(6);
-        memcpy(&bits, d.boxes + node, 4);
-        return with_side(d, node, bits == 0 ? 0x80000000 : bits ^ 1);
-    case 5: /* an entry of the order twice, or past the end */
-        return with_order(d, entry, below(2) ? other : n + below(2) * (uint32_t)chance());
-    case 6: /* two entries of the order changed over */
-        d = with_order(d, entry, d.order[other]);
-        bad_order[other] = tree_order[entry];
+    unsigned n = (unsigned)d.triangles_length / 9;
+    switch (below(5)) {
+    case 0: /* a bad corner */
+        if (d.triangles_length != 0)
+            bad_triangles[below((unsigned)d.triangles_length)] = bad_coordinate();
         return d;
-    case 7: /* a bad corner */
-        d = copied(d);
-        bad_triangles[below(9 * n)] = bad_coordinate();
-        return d;
-    case 8: { /* a node left out, or twice */
-        int more = (int)below(2);
-        size_t rest = nodes - node - (more ? 0 : 1);
-        d = copied(d);
-        memmove(bad_links + 3 * (node + more), tree_links + 3 * (node + !more), 12 * rest);
-        memmove(bad_boxes + 6 * (node + more), tree_boxes + 6 * (node + !more), 24 * rest);
-        d.nodes = more ? d.nodes + 1 : d.nodes - 1;
-        d.links_length = 3 * d.nodes;
-        d.boxes_length = 6 * d.nodes;
-        return d;
-    }
-    case 9: /* a node count that is made up */
+    case 1: /* a node count that is made up */
         d.nodes = made_up(d.nodes);
         return d;
-    case 10: /* lists that are longer */
-        d = copied(d);
-        d.order_length += below(3) ? 0 : below(MORE);
-        d.links_length += below(MORE);
-        d.boxes_length += below(MORE);
+    case 2: /* lists that are longer */
+        d.order_length += below(3) ? 0 : below(LONGER);
+        d.links_length += below(LONGER);
+        d.boxes_length += below(LONGER);
         d.nodes += below(3) ? 0 : below(4);
         return d;
-    case 11: /* lists that are shorter */
-        d.order_length -= below(3) ? 0 : 1 + below(n);
-        d.links_length -= below(3) ? 0 : 1 + below(3 * nodes);
-        d.boxes_length -= below(3) ? 0 : 1 + below(6 * nodes);
+    case 3: /* lists that are shorter */
+        d.order_length -= below(3) ? 0 : below((unsigned)d.order_length + 1);
+        d.links_length -= below(3) ? 0 : below((unsigned)d.links_length + 1);
+        d.boxes_length -= below(3) ? 0 : below((unsigned)d.boxes_length + 1);
         return d;
     default: /* triangles of another length */
-        d = copied(d);
-        d.triangles_length = below(2) ? d.triangles_length + below(20) : below(9 * n);
+        d.triangles_length = below(2) ? d.triangles_length + below(20) : below(9 * n + 1);
         return d;
     }
+}
+
+/* A drawing with one thing wrong in it, or several, or nothing. */
+static Drawing damage(Drawing d)
+{
+    d = copied(d);
+    for (unsigned times = below(3) ? 1 : 2 + below(AT_ONCE - 1); times > 0; times--) {
+        Tree t = {d.triangles_length / 9, bad_order, d.order_length, bad_links, d.links_length, bad_boxes, d.boxes_length, d.nodes};
+        if (below(6) == 0 || t.count == 0) {
+            d = damage_lengths(d);
+            continue;
+        }
+        damage_tree(&t, (int)below(DAMAGES));
+        d.order_length = t.order_length;
+        d.links_length = t.links_length;
+        d.boxes_length = t.boxes_length;
+        d.nodes = t.nodes;
+    }
+    return d;
 }
 
 static uint8_t bad_image[MOST_IMAGE];
@@ -1136,18 +1109,19 @@ static void in_turn(size_t n)
     each_corner(n);
 }
 
-/* 64 levels are accepted, 65 are not. */
+/* 64 levels are accepted, 65 are not, and that is told before a box that is wrong. */
 static void each_depth(void)
 {
-    static const size_t levels[] = {1, 2, 63, 64, 65, 66, 100};
-    make_drawing(100);
-    make_points(3, 100);
+    static const size_t levels[] = {1, 2, 63, 64, 65, 66, 100, 200};
+    make_drawing(200);
+    make_points(3, 200);
     for (size_t k = 0; k < sizeof levels / sizeof *levels; k++)
-        for (int leaves_right = 0; leaves_right < 2; leaves_right++)
+        for (int leaves = PLAIN_LEFT; leaves <= PLAIN_TURNING; leaves++)
             for (size_t more = 0; more < 2; more++) {
-                size_t n = levels[k] + more * (100 - levels[k]);
-                size_t nodes = plain_chain(levels[k], leaves_right, drawing, n, tree_order, tree_links, tree_boxes);
+                size_t n = levels[k] + more * (200 - levels[k]);
+                size_t nodes = plain_chain(levels[k], leaves, drawing, n, tree_order, tree_links, tree_boxes);
                 ask_all(usual, tree_of(n, nodes), bytes_of(touched, 36), GAUGE_MAX_DISTANCE);
+                ask_all(usual, with_side(tree_of(n, nodes), 6 * below((unsigned)nodes), 0x7fc00000), bytes_of(touched, 36), GAUGE_MAX_DISTANCE);
             }
 }
 
@@ -1336,6 +1310,19 @@ static void ask_questions(Drawing d, size_t n, int times)
     }
 }
 
+/* A tree with a chain above it, mostly of more than 64 levels: as it is, and with something wrong. */
+static void ask_deep(void)
+{
+    size_t n = 64 + below(160), more = 50 + below((unsigned)n - 50);
+    Settings s = {1 + below(2), 1 + below(3), 64};
+    make_drawing(n);
+    make_points(2, n);
+    Drawing d = make_tree(n - more, s);
+    d = tree_of(n, plain_raise(more, (int)below(3), drawing, n - more, tree_order, tree_links, tree_boxes, d.nodes));
+    ask_all(s, d, bytes_of(touched, 24), GAUGE_MAX_DISTANCE);
+    ask_all(s, damage(d), bytes_of(touched, 24), GAUGE_MAX_DISTANCE);
+}
+
 static void by_chance(void)
 {
     size_t n = below(300) ? 1 + below(below(4) ? 12 : 64) : below(3) ? 1 + below(600) : 4000 + below(1000);
@@ -1377,7 +1364,7 @@ int main(int argc, char **argv)
         return 2;
     }
     uint64_t wanted = strtoull(argv[1], NULL, 10), seed = argc == 3 ? strtoull(argv[2], NULL, 10) : 1;
-    state = seed;
+    chance_state = seed;
     for (int list = 0; list < LISTS; list++) {
         rooms[list] = make_room();
         copies[list] = make_room();
@@ -1397,7 +1384,10 @@ int main(int argc, char **argv)
         ask_large(n, flat);
     }
     while (calls < wanted)
-        by_chance();
+        if (below(30))
+            by_chance();
+        else
+            ask_deep();
     printf("%-21s %9s %9s", "call", "calls", "done");
     for (int k = 1; k < ENDS; k++)
         printf(" %7s%2u", "refused", numbers[k]);

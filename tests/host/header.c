@@ -1,6 +1,6 @@
 /* include/gauge.h alone, compiled as C99 and as C++, each with every warning an error; what it states
- * of its numbers and of a drawing's block, and the worked example of two triangles, also as an STL, from
- * C and from C++ alike. */
+ * of its numbers and of a drawing's block, and the worked example of two triangles, also with a damaged
+ * tree and as an STL, from C and from C++ alike. */
 #include "gauge.h"
 #include "gauge.h"
 
@@ -26,13 +26,16 @@ static size_t at(const void *list, const void *block)
 static void expect_numbers(void)
 {
     const uint64_t point = (uint64_t)1 << 63 | 17, layout = (uint64_t)10 << 56 | 14;
-    const uint64_t scale = (uint64_t)GAUGE_SCALE << 56, stl = (uint64_t)GAUGE_STL << 56 | 134;
-    expect(GAUGE_VERSION_MAJOR == 2 && GAUGE_VERSION_MINOR == 2, "the header's version");
+    const uint64_t scale = (uint64_t)GAUGE_SCALE << 56, stl = (uint64_t)GAUGE_STL << 56 | 134, box = (uint64_t)GAUGE_TREE_BOX << 56 | 131070;
+    expect(GAUGE_VERSION_MAJOR == 3 && GAUGE_VERSION_MINOR == 0, "the header's version");
     expect(sizeof(struct gauge_answer) == GAUGE_ANSWER_BYTES && sizeof(float) == 4, "an answer has 24 bytes");
     expect(!gauge_refused(4096) && gauge_number(4096) == 0, "a count is no refusal");
     expect(gauge_refused(point) && gauge_number(point) == GAUGE_POINT && gauge_place(point) == 17, "a refusal of points");
     expect(gauge_refused(layout) && gauge_number(layout) == GAUGE_LAYOUT && gauge_place(layout) == 14, "a refusal of layout");
     expect(gauge_refused(scale) && gauge_number(scale) == GAUGE_SCALE && gauge_place(scale) == 0, "a refusal of scale");
+    expect(GAUGE_TREE_ORDER == 71 && GAUGE_TREE_COUNT == 72 && GAUGE_TREE_LISTING == 73 && GAUGE_TREE_DEPTH == 74 && GAUGE_TREE_BOX == 75 &&
+               gauge_refused(box) && gauge_number(box) == GAUGE_TREE_BOX && gauge_place(box) == 131070,
+           "refusals of a tree");
     expect(GAUGE_STL == 11 && gauge_refused(stl) && gauge_number(stl) == GAUGE_STL && gauge_place(stl) == 134, "a refusal of an STL's length");
     expect(GAUGE_STL_BYTES(0) == 84 && GAUGE_STL_BYTES(1) == 134 && GAUGE_STL_BYTES(65536) == 3276884, "the bytes of an STL");
     expect(GAUGE_STL_TRIANGLES(0) == 0 && GAUGE_STL_TRIANGLES(83) == 0 && GAUGE_STL_TRIANGLES(84) == 0 && GAUGE_STL_TRIANGLES(133) == 0 &&
@@ -109,6 +112,42 @@ static void expect_example(void)
     expect(gauge_drawing_fast_winding(&back, sums, points, 2, GAUGE_MAX_SCALE * 2, windings) == (uint64_t)GAUGE_SCALE << 56, "a scale too large");
 }
 
+/* Whether the check says this of the drawing. */
+static int is_refused(const struct gauge_drawing *d, unsigned number, uint64_t place)
+{
+    return gauge_drawing_check(d) == ((uint64_t)number << 56 | place);
+}
+
+/* Two leaves and their branch, with one thing wrong at a time, and then with all of it. */
+static void expect_damage(void)
+{
+    static const float corners[18] = {0, 0, 0, 1, 0, 0, 0, 1, 0, 10, 0, 0, 11, 0, 0, 10, 1, 0};
+    static float block[GAUGE_DRAWING_BYTES(2) / 4];
+    struct gauge_drawing d = gauge_lay(block, 2);
+    memcpy(d.triangles, corners, sizeof corners);
+    expect(gauge_drawing_build(&d, GAUGE_MEDIAN, 1, 40) == 3 && gauge_drawing_check(&d) == 2, "a tree");
+
+    d.boxes[17] = -0.0f;
+    expect(is_refused(&d, GAUGE_TREE_BOX, 2), "the root's box has a minus zero");
+    d.boxes[6] = 9;
+    expect(is_refused(&d, GAUGE_TREE_BOX, 1), "the second leaf's box is wrong, too");
+    d.links[8] = 0;
+    expect(is_refused(&d, GAUGE_TREE_LISTING, 2), "the root has the first leaf twice");
+    d.links[5] = 1;
+    expect(is_refused(&d, GAUGE_TREE_LISTING, 1), "the second leaf is empty");
+    d.nodes = 1;
+    expect(is_refused(&d, GAUGE_TREE_LISTING, 0), "the first leaf alone does not cover all");
+    d.nodes = 0;
+    expect(is_refused(&d, GAUGE_TREE_COUNT, 0), "no nodes");
+    d.nodes = 4;
+    expect(is_refused(&d, GAUGE_TREE_COUNT, 0), "more nodes than a tree of two has");
+    d.order[1] = d.order[0];
+    expect(is_refused(&d, GAUGE_TREE_ORDER, 1), "an entry of the order list twice");
+    d.order[0] = 2;
+    expect(is_refused(&d, GAUGE_TREE_ORDER, 0), "an entry out of range");
+    expect(gauge_check(d.triangles, 18, d.order, 0, d.links, 9, d.boxes, 18, 3) == (uint64_t)GAUGE_TREE_ORDER << 56, "no order list");
+}
+
 /* Two triangles as a binary STL: 84 bytes, then for each 12 that are not looked at, 36 of corners, 2 that are not looked at. */
 static void expect_stl(void)
 {
@@ -144,6 +183,7 @@ int main(void)
     expect_numbers();
     expect_block();
     expect_example();
+    expect_damage();
     expect_stl();
     return failed;
 }

@@ -44,9 +44,16 @@ uint64_t plain_fast_winding(const float *triangles, size_t triangles_length, con
                             const float *sums, size_t sums_length, const uint8_t *points, size_t points_length, float scale,
                             uint8_t *windings, size_t windings_length);
 
-/* The lists of a tree of so many levels, each branch with one leaf of one triangle, at its right or at
- * its left; the leaf at the bottom has the rest. Returns its nodes. */
-size_t plain_chain(size_t levels, int leaves_right, const float *triangles, size_t count, uint32_t *order, uint32_t *links, float *boxes);
+/* Where the leaves of a chain are: at the left of each branch, at its right, or at either in turn. */
+enum { PLAIN_LEFT, PLAIN_RIGHT, PLAIN_TURNING };
+
+/* Makes a tree over the first count triangles one of more levels: each has a branch over all that there is and a leaf of the next
+ * triangle. Returns its nodes. */
+size_t plain_raise(size_t more, int leaves, const float *triangles, size_t count, uint32_t *order, uint32_t *links, float *boxes, size_t nodes);
+
+/* The lists of a chain of so many levels, each branch with a leaf of one triangle; the leaf at the bottom has the rest. Returns
+ * its nodes. */
+size_t plain_chain(size_t levels, int leaves, const float *triangles, size_t count, uint32_t *order, uint32_t *links, float *boxes);
 
 /* How many angles the two winding calls have made, and how many of them were more than 2^-20 off atan2. */
 extern uint64_t plain_angles, plain_angles_off;

@@ -201,10 +201,19 @@ static void draw_chain(size_t n)
     }
 }
 
-static void ask_chain(int leaves_right, const char *input)
+static void ask_chain(int leaves, const char *input)
 {
-    d.nodes = plain_chain(LEVELS, leaves_right, d.triangles, d.count, d.order, d.links, d.boxes);
+    d.nodes = plain_chain(LEVELS, leaves, d.triangles, d.count, d.order, d.links, d.boxes);
     ask_tree(input);
+}
+
+/* As many levels as triangles, which every call that looks at the tree refuses at the first node below level 64. */
+static void ask_too_deep(int leaves, uint64_t place, const char *input)
+{
+    static const int calls[] = {WRITE, CHECK, SURE, SOURCE, NODE_SUMS, FAST};
+    d.nodes = plain_chain(d.count, leaves, d.triangles, d.count, d.order, d.links, d.boxes);
+    for (size_t k = 0; k < sizeof calls / sizeof *calls; k++)
+        expect(calls[k], (uint64_t)GAUGE_TREE_DEPTH << 56 | place, input);
 }
 
 int main(void)
@@ -220,14 +229,16 @@ int main(void)
     ask_built("one triangle", 1);
     draw_field();
     ask_built("a field of 65,536", 16);
-    ask_chain(1, "a field of 65,536 as a chain of 64 levels, leaves at the right");
-    ask_chain(0, "a field of 65,536 as a chain of 64 levels, leaves at the left");
+    ask_chain(PLAIN_RIGHT, "a field of 65,536 as a chain of 64 levels, leaves at the right");
+    ask_chain(PLAIN_LEFT, "a field of 65,536 as a chain of 64 levels, leaves at the left");
+    ask_too_deep(PLAIN_RIGHT, 0, "a chain of 65,536 levels, leaves at the right: the leaf at the bottom is listed first");
+    ask_too_deep(PLAIN_LEFT, LEVELS - 1, "a chain of 65,536 levels, leaves at the left: each is one level below the one before it");
     draw_chain(100);
     ask_built("a chain of 100", 64);
     draw_chain(N);
     ask_built("a chain of 65,536", 64);
-    ask_chain(1, "a chain of 65,536, leaves at the right");
-    ask_chain(0, "a chain of 65,536, leaves at the left");
+    ask_chain(PLAIN_RIGHT, "a chain of 65,536, leaves at the right");
+    ask_chain(PLAIN_LEFT, "a chain of 65,536, leaves at the left");
     for (int call = 0; call < CALLS; call++)
         printf("%-18s took %7zu bytes of stack at most, %7zu are stated\n", names[call], most[call], stated[call]);
     return failed;

@@ -15,7 +15,7 @@ use lists::tests::triangle_count;
 use tree::calls::check;
 use walks::answer::Query;
 
-// Whether the lists can be queried: tests 1 to 4 and 7. The status is the number of triangles.
+// Whether the lists can be queried: tests 1 to 4 and 71 to 75. The status is the number of triangles.
 pub fn check_lists(
     triangles: &[f32],
     order: &[u32],
@@ -31,7 +31,7 @@ pub fn check_lists(
     encode(verdict, triangle_count(triangles))
 }
 
-// A query at each point, 24 bytes an answer: tests 1 to 4 and 6 to 9. The status is the number of points.
+// A query at each point, 24 bytes an answer: tests 1 to 4, 6, 71 to 75, 8 and 9. The status is the number of points.
 fn query_points(
     query: Query,
     triangles: &[f32],
@@ -123,7 +123,7 @@ pub fn winding_points(triangles: &[f32], points: &[u8], windings: &mut [u8]) -> 
     encode(verdict, points.len() / 12)
 }
 
-// Writes the dipoles of the tree, sixteen numbers a node: tests 1 to 4, 6 and 7. The status is the number of nodes.
+// Writes the dipoles of the tree, sixteen numbers a node: tests 1 to 4, 6 and 71 to 75. The status is the number of nodes.
 pub fn sums_lists(
     triangles: &[f32],
     order: &[u32],
@@ -139,7 +139,7 @@ pub fn sums_lists(
     encode(verdict, nodes)
 }
 
-// Writes the winding number by dipoles about each point, an f32 in four bytes: tests 1 to 4, 6, 7, 8 and 14.
+// Writes the winding number by dipoles about each point, an f32 in four bytes: tests 1 to 4, 6, 71 to 75, 8 and 14.
 // The status is the number of points.
 pub fn fast_points(
     triangles: &[f32],

@@ -1,4 +1,4 @@
-// The winding numbers by dipoles about all points: tests 1 to 4, 6, 7, 8 and 14, then four bytes a point.
+// The winding numbers by dipoles about all points: tests 1 to 4, 6, 71 to 75, 8 and 14, then four bytes a point.
 ghost use mathlib.Core.Path.{_≡_};
 ghost use Prim.Native.Nat.{_*_, _/_, _≤_};
 ghost use lib.ListN.{length};
@@ -18,7 +18,7 @@ use lists::verdict::Verdict;
 use lists::verdict::room_refusal;
 use tree::calls::tree_refusal;
 
-// The first of the tests 1 to 4, 6, 7, 8 and 14 that refuses.
+// The first of the tests 1 to 4, 6, 71 to 75, 8 and 14 that refuses.
 fn fast_refusal(
     triangles: &[f32],
     order: &[u32],

@@ -1,4 +1,4 @@
-// The answers of a query at all points: tests 1 to 4 and 6 to 9, then 24 bytes a point.
+// The answers of a query at all points: tests 1 to 4, 6, 71 to 75, 8 and 9, then 24 bytes a point.
 ghost use mathlib.Core.Path.{_≡_};
 ghost use Prim.Native.Nat.{_*_, _/_, _≤_};
 ghost use lib.ListN.{length};
@@ -21,7 +21,7 @@ use queries::query::answer_at;
 use tree::calls::tree_refusal;
 use walks::answer::Query;
 
-// The first of the tests 1 to 4 and 6 to 9 that refuses. The room is in bytes: 24 an answer, where a point has 12.
+// The first of the tests 1 to 4, 6, 71 to 75, 8 and 9 that refuses. The room is in bytes: 24 an answer, where a point has 12.
 fn query_refusal(
     triangles: &[f32],
     order: &[u32],

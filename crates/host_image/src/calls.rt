@@ -37,7 +37,7 @@ pub fn image_triangles(image: &[u8]) -> u64
     }
 }
 
-// Writes the image of a drawing to the front of `image`: tests 1 to 7. The status is the number of bytes.
+// Writes the image of a drawing to the front of `image`: tests 1 to 6 and 71 to 75. The status is the number of bytes.
 pub fn write_lists(
     strategy: usize,
     leaf_minimum: usize,

@@ -24,7 +24,8 @@ use Rattle.spec_lists.proofs.Verdicts.{all-pass, then-passes}
 use Rattle.spec_lists.proofs.Passed.{triangles-pass, room-passes}
 use Rattle.spec_tree.specs.Trees.{Tree, nodeCount, levels}
 use Rattle.spec_tree.specs.Accepted.{Listing, accepted}
-use Rattle.spec_tree.specs.Refusals.{treeRefusal, checkRefusal}
+use Rattle.spec_tree.specs.Refusals.{checkRefusal}
+use Rattle.spec_tree.proofs.Unchanged.{tree-passes}
 use Rattle.spec_tree.proofs.Accepted.{listed-accepted}
 use Rattle.spec_build.specs.Build.{builtTree, Lists, buildRefusal, made, answerBy, BuildIs}
 use Rattle.spec_build.proofs.Built.{whole-nodes}
@@ -49,11 +50,11 @@ use Rattle.spec_host.proofs.Build.{build-encodable}
 -- ---- the check of lists that are the listing of a tree
 listing-passes : (triangles : List Float) (order links : List ℕ) (boxes : List Float) (nodes : ℕ) (t : Tree) → GoodTriangles triangles
     → Listing (boxAt triangles) (triangleCount triangles) order links boxes nodes t → checkRefusal triangles order links boxes nodes ≡ passes
-unfolding checkRefusal treeRefusal
+unfolding checkRefusal
 listing-passes triangles order links boxes nodes t good l =
     let yes : accepted (boxAt triangles) (triangleCount triangles) order links boxes nodes ≡ true =
     listed-accepted (boxAt triangles) (triangleCount triangles) order links boxes nodes t l in
-    then-passes _ (triangles-pass triangles good, (rw yes, tt))
+    then-passes _ (triangles-pass triangles good, (tree-passes triangles order links boxes nodes yes, tt))
 
 -- ---- built
 module _ {triangles : List Float} {s : Settings} {old new : Lists} {r : ℕ} (p : BuildPut triangles s old r new)

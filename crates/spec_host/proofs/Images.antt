@@ -261,10 +261,10 @@ pub write-encodable : (x : Image) (given : ℕ) → InPlace (writeRefusal x give
 unfolding writeRefusal leafRefusal
 write-encodable x given =
     then-test _ _ (triangles-encodable (x .triangles))
-    (λ _. then-test _ _ (settings-encodable (x .settings))
+    (λ good. then-test _ _ (settings-encodable (x .settings))
     (λ _. then-test _ _ (at-zero (ltb (versionOf x .maxLeaf) (x .settings .leafMinimum)) 5 (omega arith) (omega arith))
     (λ _. then-test _ _ (room-encodable given (exactSize x))
-    (λ _. then-test _ [] (tree-encodable (x .triangles) (x .order) (x .links) (x .boxes) (x .nodes)) (λ _. no-test)))))
+    (λ _. then-test _ [] (tree-encodable (x .triangles) (x .order) (x .links) (x .boxes) (x .nodes) good) (λ _. no-test)))))
 
 -- ---- what is encoded
 -- the place of a wrong layout can be encoded

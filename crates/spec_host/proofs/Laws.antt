@@ -11,14 +11,15 @@ use lib.Ieee.{Float, binary32}
 use Rattle.spec_tables.specs.Tables.{overwrite}
 use Rattle.spec_lists.specs.Reading.{triangleCount, boxAt, pointAt}
 use Rattle.spec_lists.specs.Refusals.{Verdict, passes, pointsRefusal, afterVerdict}
-use Rattle.spec_lists.proofs.Verdicts.{all-pass, so}
+use Rattle.spec_lists.proofs.Verdicts.{all-pass}
 use Rattle.spec_lists.proofs.Passed.{triangles-passed}
-use Rattle.spec_tree.specs.Refusals.{treeRefusal, checkRefusal}
+use Rattle.spec_tree.specs.Refusals.{checkRefusal}
+use Rattle.spec_tree.proofs.Unchanged.{tree-passed}
 use Rattle.spec_tree.proofs.Accepted.{accepted-listed, listing-most}
 use Rattle.spec_search.specs.Answers.{Query}
 use Rattle.spec_search.specs.Calls.{queryRefusal, afterQuery, answerBy}
 use Rattle.spec_angles.specs.Windings.{windingRefusal, windingAt, written, afterWinding}
-use Rattle.spec_dipoles.specs.Calls.{sumsRefusal, afterSums, fastRefusal, fastWindings, fastAbout, afterFast}
+use Rattle.spec_dipoles.specs.Calls.{sumsRefusal, fastRefusal, fastWindings, fastAbout, afterFast}
 use Rattle.spec_host.specs.Status.{status, Decoded}
 use Rattle.spec_host.proofs.Status.{decoded}
 use Rattle.spec_host.specs.PointBytes.{numbersOf, bytesOf, wordBytes, pointBytesRefusal, windings, windingBytes, fastBytes}
@@ -39,7 +40,7 @@ check-decoded triangles order links boxes nodes =
 -- the status of the call that makes the dipoles is decoded without loss: a tree that passes has few nodes
 pub sums-decoded : (triangles : List Float) (order links : List ℕ) (boxes : List Float) (nodes : ℕ) (room : ℕ)
     → Decoded (sumsRefusal triangles order links boxes nodes room) nodes (status (sumsRefusal triangles order links boxes nodes room) nodes)
-unfolding sumsRefusal treeRefusal
+unfolding sumsRefusal
 sums-decoded triangles order links boxes nodes room =
     decoded (sumsRefusal triangles order links boxes nodes room) nodes (sums-encodable triangles order links boxes nodes room) few
   where
@@ -47,7 +48,7 @@ sums-decoded triangles order links boxes nodes room =
     few e =
         let all = all-pass _ e in
         let n = triangleCount triangles in
-        let listed = accepted-listed (boxAt triangles) n order links boxes nodes (so _ _ _ (all .1 .1 .0)) in
+        let listed = accepted-listed (boxAt triangles) n order links boxes nodes (tree-passed triangles order links boxes nodes (all .1 .1 .0)) in
         omega (arith, triangles-passed triangles (all .0) .few, listing-most (boxAt triangles) n order links boxes nodes (listed .0) (listed .1))
 
 module _ (triangles : List Float) (points : List ℕ) (fits : length points < 2 ^ 63) (few : length points / 12 < 2 ^ 56) (room : ℕ) where

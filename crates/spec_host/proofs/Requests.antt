@@ -10,13 +10,14 @@ use lib.ListN.{length}
 use lib.Ieee.{Float}
 use Rattle.spec_lists.specs.Refusals.{passes, refusedIf, coordinateRefusal, firstBad}
 use Rattle.spec_lists.specs.Passed.{GoodPoints}
-use Rattle.spec_lists.proofs.Verdicts.{all-pass, so}
+use Rattle.spec_lists.proofs.Verdicts.{all-pass}
 use Rattle.spec_lists.proofs.Passed.{triangles-passed, room-passed}
-use Rattle.spec_tree.specs.Refusals.{treeRefusal, checkRefusal}
+use Rattle.spec_tree.specs.Refusals.{checkRefusal}
+use Rattle.spec_tree.proofs.Unchanged.{tree-passed}
 use Rattle.spec_search.specs.Calls.{Searchable}
 use Rattle.spec_dipoles.specs.Calls.{sumsRefusal}
 use Rattle.spec_dipoles.specs.Stored.{RootIn}
-use Rattle.spec_dipoles.proofs.Readable.{tree-passed, accepted-root}
+use Rattle.spec_dipoles.proofs.Readable.{accepted-root}
 use Rattle.spec_host.specs.Status.{Placed, InPlace}
 use Rattle.spec_host.specs.PointBytes.{numbersOf, pointBytesRefusal}
 use Rattle.spec_host.specs.Requests.{queryBytesRefusal, windingBytesRefusal, fastBytesRefusal}
@@ -42,18 +43,18 @@ module _ (triangles : List Float) (order links : List ℕ) (boxes : List Float) 
   unfolding checkRefusal
   check-encodable =
       then-test _ _ (triangles-encodable triangles)
-      (λ _. then-test _ _ (tree-encodable triangles order links boxes nodes) (λ _. no-test))
+      (λ good. then-test _ _ (tree-encodable triangles order links boxes nodes good) (λ _. no-test))
 
   module _ (points : List ℕ) (distance : Float) (room : ℕ) where
     -- lists that pass the tests of a query have what the searches need, and there is room for an answer a point
     pub query-passed : queryBytesRefusal triangles order links boxes nodes points distance room ≡ passes
         → Searchable triangles order links boxes nodes × (GoodPoints (numbersOf points) × (24 * (length points / 12) ≤ room))
-    unfolding queryBytesRefusal treeRefusal
+    unfolding queryBytesRefusal
     query-passed e =
         let all = all-pass _ e in
         let enough : length points / 12 ≤ room / 24 = room-passed _ _ (all .1 .0) in
         let search : Searchable triangles order links boxes nodes =
-        record { triangles-good = triangles-passed triangles (all .0); tree-accepted = so _ _ _ (all .1 .1 .0) } in
+        record { triangles-good = triangles-passed triangles (all .0); tree-accepted = tree-passed triangles order links boxes nodes (all .1 .1 .0) } in
         (search, (point-bytes-passed points (all .1 .1 .1 .0), omega arith))
 
     -- every verdict of a query can be encoded in the status
@@ -61,8 +62,8 @@ module _ (triangles : List Float) (order links : List ℕ) (boxes : List Float) 
     unfolding queryBytesRefusal
     query-encodable fits =
         then-test _ _ (triangles-encodable triangles)
-        (λ _. then-test _ _ (room-encodable (room / 24) (length points / 12))
-        (λ _. then-test _ _ (tree-encodable triangles order links boxes nodes)
+        (λ good. then-test _ _ (room-encodable (room / 24) (length points / 12))
+        (λ _. then-test _ _ (tree-encodable triangles order links boxes nodes good)
         (λ _. then-test _ _ (point-bytes-encodable points fits)
         (λ _. then-test _ _ (distance-encodable distance) (λ _. no-test)))))
 
@@ -90,14 +91,14 @@ module _ (triangles : List Float) (order links : List ℕ) (boxes : List Float) 
   unfolding sumsRefusal
   sums-encodable room =
       then-test _ _ (triangles-encodable triangles)
-      (λ _. then-test _ _ (room-encodable (room / 16) nodes)
-      (λ _. then-test _ _ (tree-encodable triangles order links boxes nodes) (λ _. no-test)))
+      (λ good. then-test _ _ (room-encodable (room / 16) nodes)
+      (λ _. then-test _ _ (tree-encodable triangles order links boxes nodes good) (λ _. no-test)))
 
   module _ (sums : List Float) (points : List ℕ) (accuracy : Float) (room : ℕ) where
     -- lists that pass the tests of the call by dipoles have what the walk needs, and there is room for a number a point
     pub fast-passed : fastBytesRefusal triangles order links boxes nodes sums points accuracy room ≡ passes
         → RootIn triangles order links sums nodes × (4 * (length points / 12) ≤ room)
-    unfolding fastBytesRefusal treeRefusal
+    unfolding fastBytesRefusal
     fast-passed e =
         let all = all-pass _ e in
         let enough : length points / 12 ≤ room / 4 = room-passed _ _ (all .1 .0) in
@@ -110,8 +111,8 @@ module _ (triangles : List Float) (order links : List ℕ) (boxes : List Float) 
     unfolding fastBytesRefusal
     fast-encodable fits =
         then-test _ _ (triangles-encodable triangles)
-        (λ _. then-test _ _ (room-encodable (room / 4) (length points / 12))
+        (λ good. then-test _ _ (room-encodable (room / 4) (length points / 12))
         (λ _. then-test _ _ (room-encodable (length sums / 16) nodes)
-        (λ _. then-test _ _ (tree-encodable triangles order links boxes nodes)
+        (λ _. then-test _ _ (tree-encodable triangles order links boxes nodes good)
         (λ _. then-test _ _ (point-bytes-encodable points fits)
         (λ _. then-test _ _ (scale-encodable accuracy) (λ _. no-test))))))

@@ -12,9 +12,11 @@ use borrow.Author.Tests.{eqb-true, ltb-true, ltb-false, lt-ltb, le-leb, lt-leb}
 use Rattle.spec_lists.specs.Limits.{maxTriangles}
 use Rattle.spec_lists.specs.Reading.{triangleCount}
 use Rattle.spec_lists.specs.Refusals.{Verdict, passes, refused, firstRefusal, refusedIf, raggedRefusal, noneRefusal, tooManyRefusal, coordinateRefusal, trianglesRefusal, Settings, settingsRefusal, roomRefusal, distanceRefusal, scaleRefusal, firstBad, areSettings, isDistance, isScale}
-use Rattle.spec_lists.proofs.Verdicts.{not-refused}
-use Rattle.spec_tree.specs.Accepted.{accepted}
+use Rattle.spec_lists.proofs.Verdicts.{test-has, row-ends, row-has, not-refused}
+use Rattle.spec_lists.proofs.Passed.{triangles-passed}
 use Rattle.spec_tree.specs.Refusals.{treeRefusal}
+use Rattle.spec_tree.proofs.Places.{InTree}
+use Rattle.spec_tree.proofs.Unchanged.{tree-placed}
 use Rattle.spec_host.specs.Status.{status, refusalStatus, saturated, statusNumber, statusPlace, statusCount, Placed, InPlace, Encodable, Decoded}
 
 -- ---- decoding
@@ -73,21 +75,6 @@ done-below (refused number place) count ok low = absurd (go (eqb number 8) refl)
     go false e = let h : number * 2 ^ 56 + place < 2 ^ 56 = rw e at low in omega (arith, ok .some)
 
 -- ---- verdicts that can be encoded
--- what holds of a verdict that passes, and of each test of a row that refuses, holds of the row
-module _ (P : Verdict → Type 0) (ok : P passes) where
-  test-has : (b : Bool) (number place : ℕ) → (b ≡ true → P (refused number place)) → P (refusedIf b number place)
-  test-has true number place h = h refl
-  test-has false number place h = ok
-
-  row-ends : P (firstRefusal [])
-  unfolding firstRefusal
-  row-ends = ok
-
-  row-has : (test : Verdict) (tests : List Verdict) → P test → (test ≡ passes → P (firstRefusal tests)) → P (firstRefusal (test ∷ tests))
-  unfolding firstRefusal
-  row-has passes tests h k = k refl
-  row-has (refused number place) tests h k = h
-
 -- a test can be encoded where its place is in range whenever it refuses
 pub placed : (b : Bool) (number place : ℕ) → (b ≡ true → Placed number place) → InPlace (refusedIf b number place)
 placed = test-has InPlace tt
@@ -195,7 +182,14 @@ pub scale-encodable : (s : Float) → InPlace (scaleRefusal s)
 unfolding scaleRefusal
 scale-encodable s = at-zero (not (isScale s)) 14 (omega arith) (omega arith)
 
--- the test of the tree can be encoded
-pub tree-encodable : (triangles : List Float) (order links : List ℕ) (boxes : List Float) (nodes : ℕ) → InPlace (treeRefusal triangles order links boxes nodes)
-unfolding treeRefusal
-tree-encodable triangles order links boxes nodes = at-zero (not (accepted _ _ order links boxes nodes)) 7 (omega arith) (omega arith)
+-- The test of the tree can be encoded, once the triangles passed: a place in the order list or among the nodes is at most 2n.
+pub tree-encodable : (triangles : List Float) (order links : List ℕ) (boxes : List Float) (nodes : ℕ) → trianglesRefusal triangles ≡ passes
+    → InPlace (treeRefusal triangles order links boxes nodes)
+tree-encodable triangles order links boxes nodes good =
+    let v : Verdict = treeRefusal triangles order links boxes nodes in
+    told-encodable v (go v (tree-placed triangles order links boxes nodes))
+  where
+    go : (v : Verdict) → InTree (triangleCount triangles) v → Told v
+    go passes p = tt
+    go (refused number place) p =
+        record { some = omega (arith, p .some); most = omega (arith, p .most); low = omega (arith, p .near, triangles-passed triangles good .few) }

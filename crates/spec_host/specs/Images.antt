@@ -52,7 +52,7 @@ imageNodes image = nodesBy (laidOut imageWants image 0)
 unfoldable pub contents : (image : List ℕ) → Image
 contents image = imageIn (versionFor (imageTriangles image)) image (imageTriangles image) (imageNodes image)
 
--- ---- writing: 1 to 7 by the list call, and its bytes; the status counts bytes
+-- ---- writing: 1 to 6 and 71 to 75 by the list call, and its bytes; the status counts bytes
 pub record WritePut (x : Image) (old : List ℕ) (r : ℕ) (new : List ℕ) : Type 0 where
   pub status-is : r ≡ status (writeRefusal x (length old)) (exactSize x)
   pub bytes-are : new ≡ bytesAfter x old

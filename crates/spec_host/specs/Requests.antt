@@ -13,7 +13,7 @@ use Rattle.spec_search.specs.Calls.{answerBy}
 use Rattle.spec_host.specs.Status.{status}
 use Rattle.spec_host.specs.PointBytes.{pointBytesRefusal, answerBytes, windingBytes, fastBytes, afterBytes}
 
--- 1 to 4, 6 to 9
+-- 1 to 4, 6, 71 to 75, 8, 9
 unfoldable pub queryBytesRefusal : (triangles : List Float) (order links : List ℕ) (boxes : List Float) (nodes : ℕ) (points : List ℕ) (distance : Float)
     (room : ℕ) → Verdict
 queryBytesRefusal triangles order links boxes nodes points distance room =
@@ -29,7 +29,7 @@ windingBytesRefusal triangles points room =
     firstRefusal
     (trianglesRefusal triangles ∷ roomRefusal (room / 4) (length points / 12) ∷ pointBytesRefusal points ∷ [])
 
--- 1 to 4, 6, 7, 8, 14
+-- 1 to 4, 6, 71 to 75, 8, 14
 unfoldable pub fastBytesRefusal : (triangles : List Float) (order links : List ℕ) (boxes : List Float) (nodes : ℕ) (sums : List Float) (points : List ℕ)
     (accuracy : Float) (room : ℕ) → Verdict
 fastBytesRefusal triangles order links boxes nodes sums points accuracy room =
