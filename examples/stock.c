@@ -2,20 +2,23 @@
  * the bay.
  *
  *     stock DRAWING.stl POINTS [PICTURE [LEAST MOST [DISTANCE]]]
+ *     stock DRAWING.gauge POINTS [PICTURE [LEAST MOST [DISTANCE]]]
  *     stock DRAWING [PICTURE [LEAST MOST]]
  *
- * DRAWING.stl is the drawing as a pattern shop sends it, binary or in text. POINTS are the points that
- * were touched: x y z on a line; blank lines, and all behind a #, are passed over. They are searched for
+ * DRAWING.stl is the drawing as a pattern shop sends it, binary or in text; DRAWING.gauge is the engine's
+ * image of a drawing and its tree, which need not be built again. POINTS are the points that were
+ * touched: x y z on a line; blank lines, and all behind a #, are passed over. They are searched for
  * within DISTANCE (50 where none is given). A DRAWING under any other name is plain text as
  * tools/make_input.py reads it: settings, triangles, points and distance in one.
  *
  * Stock is how far a touched point lies outside the drawing, or, with a minus, inside. It is wanted from
  * LEAST to MOST (1 and 4 where none are given). PICTURE is written as SVG, which any browser shows: the
  * drawing from two sides, each place in the colour of the touched point nearest to it. Under a name that
- * ends in .stl it is not a picture but the drawing, as a binary STL.
+ * ends in .stl or .gauge it is not a picture but the drawing, as a binary STL or as an image.
  *
- * The engine's part is read_stl(), ask() and write_stl(): an STL becomes a drawing, a tree is built over
- * it, and the points are asked for their nearest place on it and for inside or outside. */
+ * The engine's part is read_stl(), read_image(), ask() and write_drawing(): an STL becomes a drawing, a
+ * tree is built over it, or both come from an image, and the points are asked for their nearest place on
+ * it and for inside or outside. */
 #include "gauge.h"
 
 #include <ctype.h>
@@ -32,6 +35,7 @@ static struct gauge_drawing drawing;
 static float touched[3 * MOST_POINTS], windings[MOST_POINTS];
 static struct gauge_answer answers[MOST_POINTS];
 static size_t points;
+static int has_tree; /* one that came with the drawing */
 static unsigned strategy, leaf_minimum, maximum_depth;
 static float distance = 50;
 static double least = 1, most = 4;
@@ -73,6 +77,29 @@ static void done(const char *call, uint64_t returned)
         fprintf(stderr, "point %llu (the first is 0): its %c is no number, or beyond %.0f\n", place / 3, "xyz"[place % 3],
                 (double)GAUGE_MAX_COORDINATE);
         break;
+    case GAUGE_LAYOUT:
+        fprintf(stderr, "the image is cut off or damaged, or it is no image: what begins at its byte %llu is wrong\n", place);
+        break;
+    case GAUGE_ROOM:
+        fprintf(stderr, "the image has more triangles or nodes than any drawing\n");
+        break;
+    case GAUGE_TREE_ORDER:
+        fprintf(stderr, "the tree is damaged: entry %llu of the order list (the first is 0) is out of range or repeated\n", place);
+        break;
+    case GAUGE_TREE_COUNT:
+        fprintf(stderr, "the tree is damaged: it has %zu nodes, and over %zu triangles there are 1 to %zu\n", drawing.nodes, drawing.count,
+                2 * drawing.count - 1);
+        break;
+    case GAUGE_TREE_LISTING:
+        fprintf(stderr, "the tree is damaged: it breaks at node %llu (the first is 0), %s\n", place,
+                place + 1 == drawing.nodes ? "its root: its links are wrong, or nodes are missing" : "whose kind or links are wrong");
+        break;
+    case GAUGE_TREE_DEPTH:
+        fprintf(stderr, "the tree is damaged: node %llu (the first is 0) is deeper than %d levels\n", place, GAUGE_MAX_DEPTH);
+        break;
+    case GAUGE_TREE_BOX:
+        fprintf(stderr, "the tree is damaged: the box of node %llu (the first is 0) is not that of what it holds\n", place);
+        break;
     case GAUGE_DISTANCE:
         fprintf(stderr, "the distance is no number, or not 0 to %.0f\n", (double)GAUGE_MAX_DISTANCE);
         break;
@@ -84,10 +111,20 @@ static void done(const char *call, uint64_t returned)
 
 /* ---- files */
 
-static int is_named_stl(const char *path)
+static int ends_in(const char *path, const char *ending)
 {
     const char *end = strrchr(path, '.');
-    return end != NULL && (strcmp(end, ".stl") == 0 || strcmp(end, ".STL") == 0);
+    return end != NULL && strcmp(end, ending) == 0;
+}
+
+static int is_named_stl(const char *path)
+{
+    return ends_in(path, ".stl") || ends_in(path, ".STL");
+}
+
+static int is_named_image(const char *path)
+{
+    return ends_in(path, ".gauge");
 }
 
 /* All of a file, and a zero behind it. */
@@ -198,6 +235,17 @@ static void read_stl(const char *path)
     maximum_depth = 40;
 }
 
+/* Whether the tree in it is one of its triangles the calls that ask it find out. */
+static void read_image(const char *path)
+{
+    size_t length;
+    char *bytes = read_file(path, &length);
+    lay();
+    done("gauge_read", gauge_drawing_read(&drawing, (const uint8_t *)bytes, length));
+    free(bytes);
+    has_tree = 1;
+}
+
 static void read_points(const char *path)
 {
     size_t length, lines = 0;
@@ -257,7 +305,8 @@ static void read_drawing(const char *path)
 /* Inside or outside is asked for by fast winding: its error is far below the half that parts them. */
 static void ask(void)
 {
-    done("gauge_build", gauge_drawing_build(&drawing, strategy, leaf_minimum, maximum_depth));
+    if (!has_tree)
+        done("gauge_build", gauge_drawing_build(&drawing, strategy, leaf_minimum, maximum_depth));
     done("gauge_sure", gauge_drawing_sure(&drawing, touched, points, distance, answers));
     float *sums = malloc(GAUGE_SUMS(drawing.count) * sizeof *sums);
     if (sums == NULL)
@@ -683,23 +732,25 @@ static void draw(const char *path)
     printf("the picture is %s\n", path);
 }
 
-/* ---- the drawing as a binary STL */
+/* ---- the drawing as a binary STL, or as an image */
 
 /* Nobody's drawing is written over. */
-static void write_stl(const char *path)
+static void write_drawing(const char *path)
 {
-    size_t length = GAUGE_STL_BYTES(drawing.count);
-    uint8_t *stl = malloc(length);
+    int stl = is_named_stl(path);
+    size_t room = stl ? GAUGE_STL_BYTES(drawing.count) : GAUGE_IMAGE_MAX(drawing.count);
+    uint8_t *bytes = malloc(room);
     FILE *f = fopen(path, "rb");
     if (f != NULL)
         fail("there is a drawing already: ", path);
-    if (stl == NULL)
+    if (bytes == NULL)
         fail("no memory", "");
-    done("gauge_write_stl", gauge_drawing_write_stl(&drawing, stl, length));
+    uint64_t length = stl ? gauge_drawing_write_stl(&drawing, bytes, room) : gauge_drawing_write(&drawing, bytes, room);
+    done(stl ? "gauge_write_stl" : "gauge_write", length);
     f = fopen(path, "wb");
-    if (f == NULL || fwrite(stl, 1, length, f) != length || fclose(f) != 0)
+    if (f == NULL || fwrite(bytes, 1, length, f) != length || fclose(f) != 0)
         fail("cannot write ", path);
-    free(stl);
+    free(bytes);
     printf("the drawing is %s\n", path);
 }
 
@@ -714,9 +765,11 @@ static double number(const char *word)
 
 int main(int argc, char **argv)
 {
-    int stl = argc > 1 && is_named_stl(argv[1]), first = stl ? 3 : 2, given = argc - first;
-    if (given != 0 && given != 1 && given != 3 && !(stl && given == 4))
+    int stl = argc > 1 && is_named_stl(argv[1]), image = argc > 1 && is_named_image(argv[1]);
+    int first = stl || image ? 3 : 2, given = argc - first;
+    if (given != 0 && given != 1 && given != 3 && !(first == 3 && given == 4))
         fail("usage: stock DRAWING.stl POINTS [PICTURE [LEAST MOST [DISTANCE]]]\n"
+             "       stock DRAWING.gauge POINTS [PICTURE [LEAST MOST [DISTANCE]]]\n"
              "       stock DRAWING [PICTURE [LEAST MOST]]\n",
              "POINTS has x y z on a line. LEAST and MOST are 1 and 4, DISTANCE is 50 where none is given.");
     if (given >= 3) {
@@ -727,16 +780,19 @@ int main(int argc, char **argv)
     }
     if (given == 4)
         distance = (float)number(argv[first + 3]);
-    if (stl) {
+    if (stl)
         read_stl(argv[1]);
-        read_points(argv[2]);
-    } else
+    else if (image)
+        read_image(argv[1]);
+    else
         read_drawing(argv[1]);
+    if (first == 3)
+        read_points(argv[2]);
     ask();
     judge();
     print_stock();
-    if (given > 0 && is_named_stl(argv[first]))
-        write_stl(argv[first]);
+    if (given > 0 && (is_named_stl(argv[first]) || is_named_image(argv[first])))
+        write_drawing(argv[first]);
     else if (given > 0)
         draw(argv[first]);
     return 0;
