@@ -27,7 +27,8 @@ held-is-nearest f lo hi p h L U P H l k = between-is-nearer f P (held-finite _ _
 
 -- ---- on three
 module _ (f : Format) (p : Axis → Float) (P : Finite p) where
-  distance-not-below : (a : Axis → Float) → Finite a → T (le zero (distance2 f a p))
+  -- a squared distance of finite points is not below zero, so what is at most zero is zero
+  pub distance-not-below : (a : Axis → Float) → Finite a → T (le zero (distance2 f a p))
   distance-not-below a A =
       let d : (i : Axis) → T (le zero (apart2 f (a i) (p i))) = λ i. apart-not-below f _ _ (A i) (P i) in
       sum-not-below f _ _ (sum-not-below f _ _ (d X) (d Y)) (d Z)

@@ -1,7 +1,13 @@
 -- A test that passed or failed, as a fact: a branch of a program knows that a Bool is true or false, and the laws speak of `T`.
 use mathlib.Core.Path.{_≡_, refl, subst⁻¹}
 use mathlib.Core.Bool.{Bool, true, false, not, _&&_, _||_, false≢true}
+use mathlib.Core.Logic.{_⊎_, inl, inr}
 use lib.Dec.{T}
+
+-- a test came out one way or the other: a proof goes by cases on it
+pub either : (b : Bool) → (b ≡ true) ⊎ (b ≡ false)
+either true = inl refl
+either false = inr refl
 
 -- a test that came out true holds: the way from a branch of code to the laws
 pub passed : {b : Bool} → b ≡ true → T b

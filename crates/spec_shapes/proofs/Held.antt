@@ -8,7 +8,7 @@ use Rattle.spec_numbers.specs.Values.{zero, Number}
 use Rattle.spec_numbers.specs.Axes.{Axis, Finite, distance2}
 use Rattle.spec_numbers.proofs.Order.{transitive, finite-number, finite-between}
 use Rattle.spec_numbers.proofs.Hold.{held-at-least, held-at-most, held-finite}
-use Rattle.spec_numbers.proofs.Nearest.{distance-number, held-is-nearest-of-three}
+use Rattle.spec_numbers.proofs.Nearest.{distance-not-below, distance-number, held-is-nearest-of-three}
 use Rattle.spec_numbers.proofs.PlusZero.{plus-zero-finite, plus-zero-not-below, plus-zero-not-above, plus-zero-no-minus-zero}
 use Rattle.spec_shapes.specs.Points.{Point, on, at, minus, dot, isFinite, plusZero, squaredDistance}
 use Rattle.spec_shapes.specs.Boxes.{Box, heldIn, heldSquared, Inside, Contains, Proper}
@@ -88,6 +88,10 @@ module _ (f : Format) (t : Triangle) (F : FiniteCorners t) (p : Point) where
   -- no coordinate of the sure query's point is -0
   pub held-point-no-minus-zero : (i : Axis) → T (eq (on i (heldPoint f t p)) zero) → on i (heldPoint f t p) ≡ zero
   held-point-no-minus-zero i = rw (held-is, plus-zero-on kept i) (plus-zero-no-minus-zero (on i kept))
+
+  -- the squared distance to the sure query's point is not below zero
+  pub held-squared-not-below : Finite (at p) → T (le zero (squaredDistance f (heldPoint f t p) p))
+  held-squared-not-below P = rw (squared-is f (heldPoint f t p) p) (distance-not-below f (at p) P (at (heldPoint f t p)) held-point-finite)
 
   -- no box that holds the triangle's box is farther than the held point: skipping a box that is too far loses nothing
   pub box-is-nearer : Finite (at p) → (b : Box) → Proper b → Contains b (boxOf t) → T (le (heldSquared f b p) (squaredDistance f (heldPoint f t p) p))
