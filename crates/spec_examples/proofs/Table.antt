@@ -19,7 +19,8 @@ use Rattle.spec_build.specs.Grown.{grown}
 use Rattle.spec_build.specs.Tries.{axisInserted, axesBySize, rule, triedOn, triedIn, triedWithin, tried}
 use Rattle.spec_build.specs.Build.{builtTree}
 use Rattle.spec_search.specs.Walk.{tookAll, nodeWalk, pairWalk, rootWalk, fold}
-use Rattle.spec_search.specs.Sure.{limitOf, counts, offered, hit, tookSure, scan}
+use Rattle.spec_search.specs.Rules.{limitSquared, counts}
+use Rattle.spec_search.specs.Sure.{offered, hit, tookSure, scan}
 use Rattle.spec_search.specs.Source.{sourceHit, keepSmaller, tookSource, enters, sourceWalk}
 use Rattle.spec_search.specs.Calls.{sureAnswer, sourceAnswer}
 use Rattle.spec_examples.specs.Table.{AllHold}
@@ -33,7 +34,7 @@ unfolding add sub mul div lt le eq round ofInt ofBits minus plus scale dividedBy
     sizes area volume offsetOn offset withExcess withOutside boxSquared containsPoint heldIn unit reach meetsBox boxOf dots crossed part along facePoint pointOn
     closestPoint finiteOr heldPoint measured wholeRoot rootBy rootIn root arcs entry arc ratio mirrored angle numberAt pointAt triangleAt boxAt triangleCount
     numbers nodeCount joinedTo joined boxOver rootFrom linksFrom boxesOf range inserted sorted unionOf planeBetween allMeet allMeetAt isLarge areBothLarge
-    medianSplit grown axisInserted axesBySize rule triedOn triedIn triedWithin tried builtTree tookAll nodeWalk pairWalk rootWalk fold limitOf counts offered
-    hit tookSure scan sourceHit keepSmaller tookSource enters sourceWalk sureAnswer sourceAnswer e10Tree
+    medianSplit grown axisInserted axesBySize rule triedOn triedIn triedWithin tried builtTree tookAll nodeWalk pairWalk rootWalk fold limitSquared counts
+    offered hit tookSure scan sourceHit keepSmaller tookSource enters sourceWalk sureAnswer sourceAnswer e10Tree
 examples-hold binary32 = refl
 examples-hold binary64 = refl

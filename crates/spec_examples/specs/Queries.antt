@@ -1,4 +1,5 @@
--- E10: the two queries at (5.5, 0, 0) over T0 and T1, in the tree that is built (median, 1, 40), at distance 50 and at 4.5.
+-- E10: the two queries at (5.5, 0, 0) over T0 and T1, in the tree that is built (median, 1, 40), at distance 50 and at 4.5. The scope's sure query is by
+-- the first rule; by the second 4.5 reaches.
 use mathlib.Core.Bool.{false}
 use mathlib.Core.List.{List, [], _∷_}
 use lib.IntN.{ℤ, pos, negsuc}
@@ -9,6 +10,7 @@ use Rattle.spec_lists.specs.Refusals.{Settings}
 use Rattle.spec_tree.specs.Trees.{Tree, numbers, nodeCount, linksFrom, boxesOf}
 use Rattle.spec_build.specs.Build.{builtTree}
 use Rattle.spec_search.specs.Answers.{Answer, nothing, found}
+use Rattle.spec_search.specs.Rules.{Rule, strictlyBelow, belowOrEqual}
 use Rattle.spec_search.specs.Calls.{sureAnswer, sourceAnswer}
 use Rattle.spec_examples.specs.Table.{Example, Shown, float, whole}
 
@@ -45,8 +47,8 @@ module _ (f : Format) where
       let t = e10Tree in
       sourceAnswer f t0t1 (numbers t) (linksFrom 0 0 t) (boxesOf (boxAt t0t1) t) (nodeCount t) distance touched
 
-  abbrev pub sureAt : Float → Answer
-  sureAt distance = sureAnswer f t0t1 distance touched
+  abbrev pub sureAt : Rule → Float → Answer
+  sureAt rule distance = sureAnswer f rule t0t1 distance touched
 
   -- 4.5 squared is 20.25, 81 / 4
   abbrev pub e10-source : Example
@@ -57,7 +59,7 @@ module _ (f : Format) where
 
   abbrev pub e10-sure : Example
   e10-sure = record {
-    worked = shown (sureAt (n (pos 50)));
+    worked = shown (sureAt strictlyBelow (n (pos 50)));
     given = whole (pos 0) ∷ float (n (pos 1)) ∷ float (n (pos 0)) ∷ float (n (pos 0)) ∷ float (fin false 81 (negsuc 1)) ∷ [];
   }
 
@@ -65,7 +67,13 @@ module _ (f : Format) where
   e10-source-near = record { worked = shown (sourceAt fourAndAHalf); given = [] }
 
   abbrev pub e10-sure-near : Example
-  e10-sure-near = record { worked = shown (sureAt fourAndAHalf); given = [] }
+  e10-sure-near = record { worked = shown (sureAt strictlyBelow fourAndAHalf); given = [] }
+
+  abbrev pub e10-sure-level : Example
+  e10-sure-level = record {
+    worked = shown (sureAt belowOrEqual fourAndAHalf);
+    given = whole (pos 0) ∷ float (n (pos 1)) ∷ float (n (pos 0)) ∷ float (n (pos 0)) ∷ float (fin false 81 (negsuc 1)) ∷ [];
+  }
 
   abbrev pub queryExamples : List Example
-  queryExamples = e10-source ∷ e10-sure ∷ e10-source-near ∷ e10-sure-near ∷ []
+  queryExamples = e10-source ∷ e10-sure ∷ e10-source-near ∷ e10-sure-near ∷ e10-sure-level ∷ []

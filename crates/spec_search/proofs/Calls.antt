@@ -13,15 +13,17 @@ use Rattle.spec_lists.specs.Limits.{deepest, maxTriangles}
 use Rattle.spec_lists.specs.Reading.{boxAt, triangleCount, pointAt, pointCount}
 use Rattle.spec_lists.specs.Refusals.{Verdict, passes, refuses}
 use Rattle.spec_lists.proofs.Verdicts.{all-pass, refusal-leaves}
-use Rattle.spec_lists.proofs.Passed.{triangles-passed, points-passed, room-passed}
+use Rattle.spec_lists.proofs.Passed.{triangles-passed, points-passed, room-passed, distance-passed}
 use Rattle.spec_tree.specs.Trees.{Tree, numbers}
 use Rattle.spec_tree.specs.Accepted.{Listing}
+use Rattle.spec_tree.specs.Order.{EntriesBelow}
 use Rattle.spec_tree.proofs.Order.{permutes-length}
 use Rattle.spec_tree.proofs.Accepted.{accepted-listed, listing-some}
 use Rattle.spec_tree.proofs.Hangs.{listing-hangs, listing-sound}
 use Rattle.spec_tree.proofs.Unchanged.{tree-passed}
-use Rattle.spec_search.specs.Answers.{Answer, nothing, found, sixWords}
+use Rattle.spec_search.specs.Answers.{Query, Answer, nothing, found, sixWords}
 use Rattle.spec_search.specs.Safe.{NodeSafe}
+use Rattle.spec_search.specs.Marked.{noTriangle}
 use Rattle.spec_search.specs.Calls.{queryRefusal, answerWords, afterQuery, Searchable, Askable}
 
 -- ---- an accepted tree is safe to walk from its root
@@ -48,21 +50,31 @@ module _ (triangles : List Float) (order links : List ℕ) (boxes : List Float) 
         listed = listing-sound (boxAt triangles) (triangleCount triangles) order links boxes nodes (listed .0) l .entries;
       }
 
+  -- every entry of the order list is a triangle's number, so none is the marker's
+  pub entries-below : EntriesBelow (triangleCount triangles) order
+  entries-below = root-safe .listed
+
+  -- and there are fewer than the marker's number
+  pub numbers-low : triangleCount triangles ≤ noTriangle
+  numbers-low = omega (arith, s .triangles-good .few)
+
 -- ---- the tests that passed
-module _ (triangles : List Float) (order links : List ℕ) (boxes : List Float) (nodes : ℕ) (points : List Float) (distance : Float) (room : ℕ) where
+module _ (query : Query) (triangles : List Float) (order links : List ℕ) (boxes : List Float) (nodes : ℕ) (points : List Float) (distance : Float)
+    (room : ℕ) where
   -- lists that pass the tests have what the searches need, and the lent list has room for all answers
-  pub query-passed : queryRefusal triangles order links boxes nodes points distance room ≡ passes
-      → Askable triangles order links boxes nodes points × (6 * pointCount points ≤ room)
+  pub query-passed : queryRefusal query triangles order links boxes nodes points distance room ≡ passes
+      → Askable triangles order links boxes nodes points distance × (6 * pointCount points ≤ room)
   unfolding queryRefusal
   query-passed h =
       let all = all-pass _ h in
-      let fits : pointCount points ≤ room / 6 = room-passed _ _ (all .1 .0) in (
+      let fits : pointCount points ≤ room / 6 = room-passed _ _ (all .1 .1 .0) in (
         record {
           searchable = record {
             triangles-good = triangles-passed triangles (all .0);
-            tree-accepted = tree-passed triangles order links boxes nodes (all .1 .1 .0);
+            tree-accepted = tree-passed triangles order links boxes nodes (all .1 .1 .1 .0);
           };
-          points-good = points-passed points (all .1 .1 .1 .0);
+          points-good = points-passed points (all .1 .1 .1 .1 .0);
+          distance-good = distance-passed distance (all .1 .1 .1 .1 .1 .0);
         },
         omega arith,
       )

@@ -4,9 +4,10 @@ use mathlib.Core.Path.{_≡_, refl, sym, ap}
 use mathlib.Core.Bool.{Bool, true, false, not, true≢false, _&&_, _||_}
 use lib.Ieee.{Float, nan, inf, fin, lt, eq}
 use Rattle.spec_search.specs.Answers.{Hit, nothing, found}
-use Rattle.spec_search.specs.Sure.{counts, better, offered, above, isSkipped}
+use Rattle.spec_search.specs.Rules.{counts}
+use Rattle.spec_search.specs.Sure.{better, offered, above, isSkipped}
 use Rattle.spec_search.specs.Source.{smallest, keepSmaller}
-use Rattle.spec_search.specs.Kept.{kept, keptIf, nearer}
+use Rattle.spec_search.specs.Kept.{kept, keptIf, nearer, below}
 
 infinite-above-none : (x d : Float) → eq x (inf false) ≡ true → lt x d ≡ false
 unfolding lt eq
@@ -29,7 +30,8 @@ below-is-below-infinite (inf false) (fin s m k) (inf false) h e = absurd (true�
 below-is-below-infinite (fin s m k) y (inf false) h e = refl
 below-is-below-infinite x y (fin s m k) h e = absurd (true≢false (sym e))
 
-below-is-finite : (x y : Float) → lt x y ≡ true → eq x (inf false) ≡ false
+-- what is below anything is not infinite: a hit there stands for itself
+pub below-is-finite : (x y : Float) → lt x y ≡ true → eq x (inf false) ≡ false
 unfolding lt eq
 below-is-finite nan y h = refl
 below-is-finite (inf true) y h = refl
@@ -59,13 +61,13 @@ smallest-if : (b : Bool) (k : Hit) → eq (k .squared) (inf false) ≡ b → sma
 smallest-if true k e = sym (infinite-is (k .squared) e)
 smallest-if false k e = refl
 
-both-if : (c : Bool) (limit : Float) (h k : Hit) → counts limit (h .squared) ≡ c → (c && better h (kept k)) ≡ (c && nearer h k)
+both-if : (c : Bool) (limit : Float) (h k : Hit) → counts (below limit) (h .squared) ≡ c → (c && better h (kept k)) ≡ (c && nearer h k)
 unfolding kept counts
 both-if true limit h k e = better-if (eq (k .squared) (inf false)) limit h k refl e
 both-if false limit h k e = refl
 
-both : (limit : Float) (h k : Hit) → (counts limit (h .squared) && better h (kept k)) ≡ (counts limit (h .squared) && nearer h k)
-both limit h k = both-if (counts limit (h .squared)) limit h k refl
+both : (limit : Float) (h k : Hit) → (counts (below limit) (h .squared) && better h (kept k)) ≡ (counts (below limit) (h .squared) && nearer h k)
+both limit h k = both-if (counts (below limit) (h .squared)) limit h k refl
 
 first-true : (a b : Bool) → (a && b) ≡ true → a ≡ true
 first-true true b h = refl
@@ -86,9 +88,9 @@ unfolding kept
 found-kept h x l = simp (below-is-finite (h .squared) x l)
 
 -- a box is skipped by a kept hit exactly where it is skipped by the answer: no test for nothing is needed
-pub skipped-kept : (limit d : Float) (k : Hit) → (not (counts limit d) || lt (k .squared) d) ≡ isSkipped limit d (kept k)
+pub skipped-kept : (limit d : Float) (k : Hit) → (not (counts (below limit) d) || lt (k .squared) d) ≡ isSkipped (below limit) d (kept k)
 unfolding isSkipped kept
-skipped-kept limit d k = ap (λ (b : Bool). not (counts limit d) || b) (sym (above-if (eq (k .squared) (inf false)) d k refl))
+skipped-kept limit d k = ap (λ (b : Bool). not (counts (below limit) d) || b) (sym (above-if (eq (k .squared) (inf false)) d k refl))
 
 -- the flag of two tests that were computed is that of the tests in the definition
 pub both-said : (a b x y flag : Bool) → a ≡ x → b ≡ y → (a && b) ≡ flag → (x && y) ≡ flag
@@ -97,7 +99,7 @@ both-said a b x y flag p q h = rw (← p, ← q) h
 -- ---- what is kept once h is measured, by either query
 module _ (h k new : Hit) where
   -- sure query: a hit that counts and is nearer takes the place of what was kept
-  pub offer-taken : (limit : Float) → (counts limit (h .squared) && nearer h k) ≡ true → new ≡ h → kept new ≡ offered limit h (kept k)
+  pub offer-taken : (limit : Float) → (counts (below limit) (h .squared) && nearer h k) ≡ true → new ≡ h → kept new ≡ offered (below limit) h (kept k)
   unfolding offered counts
   offer-taken limit t e = rw (both limit h k, t, e) (found-kept h limit (first-true _ _ t))
 
@@ -108,7 +110,7 @@ module _ (h k new : Hit) where
 
 module _ (h k : Hit) where
   -- sure query: a hit that does not count or is not nearer leaves what was kept
-  pub offer-left : (limit : Float) → (counts limit (h .squared) && nearer h k) ≡ false → kept k ≡ offered limit h (kept k)
+  pub offer-left : (limit : Float) → (counts (below limit) (h .squared) && nearer h k) ≡ false → kept k ≡ offered (below limit) h (kept k)
   unfolding offered
   offer-left limit t = rw (both limit h k, t)
 

@@ -1,10 +1,14 @@
+pub mod Rules
 pub mod Scan
 pub mod Smallest
 pub mod Sure
 pub mod Nearest
+pub mod Touched
 pub mod Turns
 pub mod Walked
 pub mod Steps
 pub mod Calls
 pub mod Kept
+pub mod Alike
+pub mod Marked
 pub mod Worked

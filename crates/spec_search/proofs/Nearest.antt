@@ -2,7 +2,7 @@
 -- It is nothing exactly when no triangle counts.
 use mathlib.Core.Path.{_≡_, refl, sym, ap, subst, _∙_}
 use mathlib.Core.Bool.{Bool, true, false, not, _&&_, _||_}
-use mathlib.Core.Logic.{_⊎_, inl, inr, ⊎-elim}
+use mathlib.Core.Logic.{_⊎_, ⊎-elim}
 use mathlib.Core.List.{List, [], _∷_}
 use Prim.Native.Nat.{ℕ, zero, suc, _<_}
 use native.Mathlib.Nat.{eq-or-lt-of-le, le-of-suc-le-suc, le-refl}
@@ -12,30 +12,22 @@ use lib.Dec.{T, T-not}
 use lib.Ieee.{Float, Format, lt, le, eq}
 use lib.Ieee.Bits.{is-true}
 use Rattle.spec_numbers.specs.Values.{Number}
-use Rattle.spec_numbers.proofs.Tests.{passed, failed, or-r}
-use Rattle.spec_numbers.proofs.Order.{reflexive, lt→le, lt→not-le, lt-le-transitive, le-lt-transitive, not-lt→le}
+use Rattle.spec_numbers.proofs.Tests.{either, passed, failed, or-r}
+use Rattle.spec_numbers.proofs.Order.{reflexive, lt→le, lt→not-le, lt-le-transitive, not-lt→le}
 use Rattle.spec_shapes.specs.Points.{Point}
 use Rattle.spec_lists.specs.Reading.{triangleCount}
 use Rattle.spec_tree.specs.Order.{range}
 use Rattle.spec_search.specs.Answers.{Hit, Answer, nothing, found}
 use Rattle.spec_search.specs.Walk.{fold}
-use Rattle.spec_search.specs.Sure.{counts, better, offered, hit, tookSure, scan}
+use Rattle.spec_search.specs.Rules.{Limit, counts}
+use Rattle.spec_search.specs.Sure.{better, offered, hit, tookSure, scan}
 use Rattle.spec_search.specs.Nearest.{IsNearest, NoneCounts, Nearest}
 use Rattle.spec_search.proofs.Scan.{kept-append}
-use Rattle.spec_search.proofs.Smallest.{counts-number}
+use Rattle.spec_search.proofs.Rules.{counts-number, counts-equal}
 
-either : (b : Bool) → (b ≡ true) ⊎ (b ≡ false)
-either true = inl refl
-either false = inr refl
-
-module _ (hit : ℕ → Hit) (named : (t : ℕ) → hit t .triangle ≡ t) (limit : Float) where
+module _ (hit : ℕ → Hit) (named : (t : ℕ) → hit t .triangle ≡ t) (limit : Limit) where
   number : (x : Float) → T (counts limit x) → Number x
   number x h = counts-number limit x (is-true (counts limit x) h)
-
-  -- what equals a distance that counts, counts
-  equal-counts : (x y : Float) → T (eq x y) → T (counts limit y) → T (counts limit x)
-  unfolding counts le
-  equal-counts x y e h = le-lt-transitive x y limit (or-r (lt x y) (eq x y) e) h
 
   -- ---- one triangle more
   one-more : (n t : ℕ) → t < suc n → (t ≡ n) ⊎ (t < n)
@@ -53,7 +45,7 @@ module _ (hit : ℕ → Hit) (named : (t : ℕ) → hit t .triangle ≡ t) (limi
         counted = m .counted;
         smallest = λ t l k. ⊎-elim (λ (e : t ≡ n). absurd (no-counting t e k)) (λ (b : t < n). m .smallest t b k) (one-more n t l);
         lowest = λ t l k.
-            ⊎-elim (λ (e : t ≡ n). absurd (no-counting t e (equal-counts (hit t .squared) (h .squared) k (m .counted)))) (λ (b : t < n). m .lowest t b k)
+            ⊎-elim (λ (e : t ≡ n). absurd (no-counting t e (counts-equal limit (hit t .squared) (h .squared) k (m .counted)))) (λ (b : t < n). m .lowest t b k)
             (one-more n t l);
       }
 
@@ -70,7 +62,7 @@ module _ (hit : ℕ → Hit) (named : (t : ℕ) → hit t .triangle ≡ t) (limi
             (one-more n t l);
         lowest = λ t l k.
             ⊎-elim (λ (e : t ≡ n). rw (named n, e) (le-refl n))
-            (λ (b : t < n). absurd (nothing-before t b (equal-counts (hit t .squared) (hit n .squared) k c))) (one-more n t l);
+            (λ (b : t < n). absurd (nothing-before t b (counts-equal limit (hit t .squared) (hit n .squared) k c))) (one-more n t l);
       }
 
   -- the last one counts, and is smaller than the best so far
@@ -88,7 +80,7 @@ module _ (hit : ℕ → Hit) (named : (t : ℕ) → hit t .triangle ≡ t) (limi
             (λ (s : t < n). lt→le (hit n .squared) (hit t .squared) (below t s k)) (one-more n t b);
         lowest = λ t b k.
             ⊎-elim (λ (e : t ≡ n). rw (named n, e) (le-refl n))
-            (λ (s : t < n). absurd (lt→not-le (hit n .squared) (hit t .squared) (below t s (equal-counts (hit t .squared) (hit n .squared) k c))
+            (λ (s : t < n). absurd (lt→not-le (hit n .squared) (hit t .squared) (below t s (counts-equal limit (hit t .squared) (hit n .squared) k c))
             (equal-at-most (hit t .squared) (hit n .squared) k)))
             (one-more n t b);
       }
@@ -150,7 +142,7 @@ module _ (hit : ℕ → Hit) (named : (t : ℕ) → hit t .triangle ≡ t) (limi
   kept-nearest (suc n) = rw (kept-append (λ t k. offered limit (hit t) k) (range n) (n ∷ []) nothing) (taken n _ (kept-nearest n))
 
 -- ---- the scan
-module _ (f : Format) (triangles : List Float) (p : Point) (limit : Float) where
+module _ (f : Format) (triangles : List Float) (p : Point) (limit : Limit) where
   -- what the sure query promises of its answer: the nearest triangle that counts, the lowest number among equals
   pub scan-nearest : Nearest (hit f triangles p) limit (triangleCount triangles) (scan f triangles p limit)
   unfolding scan tookSure hit

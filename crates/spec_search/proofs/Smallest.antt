@@ -11,9 +11,12 @@ use borrow.Author.Tests.{ltb-true, ltb-false, lt-ltb}
 use lib.Dec.{ltb}
 use lib.Ieee.{Float, lt}
 use Rattle.spec_numbers.specs.Values.{Number}
+use Rattle.spec_numbers.proofs.Tests.{either}
 use Rattle.spec_numbers.proofs.Comparisons.{less-number, less-asymmetric, less-between, equal-is}
 use Rattle.spec_search.specs.Answers.{Hit, Answer, nothing, found}
-use Rattle.spec_search.specs.Sure.{counts, better, above, offered, isSkipped}
+use Rattle.spec_search.specs.Rules.{Limit, counts}
+use Rattle.spec_search.specs.Sure.{better, above, offered, isSkipped}
+use Rattle.spec_search.proofs.Rules.{counts-number, counts-nearer}
 
 -- what is kept has a number for its distance
 abbrev pub Good : Answer → Type 0
@@ -22,20 +25,6 @@ Good (found h) = Number (h .squared)
 
 both-ways : {A : Type 0} (b : Bool) → b ≡ true → b ≡ false → A
 both-ways b p q = absurd (true≢false (sym p ∙ q))
-
--- ---- what counts is a number, and a number that is no farther than one that counts, counts
--- what counts is a number: a NaN is never kept
-pub counts-number : (limit x : Float) → counts limit x ≡ true → Number x
-unfolding counts
-counts-number limit x h = less-number x limit h
-
-counts-nearer : (limit x y : Float) → Number y → lt x y ≡ false → counts limit x ≡ true → counts limit y ≡ true
-unfolding counts
-counts-nearer limit x y n far h = ⊎-elim (λ c. both-ways (lt x y) c far) (λ c. c) (less-between x y limit n h)
-
-either : (b : Bool) → (b ≡ true) ⊎ (b ≡ false)
-either true = inl refl
-either false = inr refl
 
 -- h is smaller than k, or level with it at a lower number
 Less : Hit → Hit → Type 0
@@ -109,7 +98,7 @@ better-one h k ne hn kn =
         let up = ltb-false (h .triangle) (k .triangle) r in let down = ltb-false (k .triangle) (h .triangle) s in absurd (ne (omega (arith, up, down)))
 
 -- ---- the laws, for any hits that bear their triangles' numbers
-module _ (limit : Float) (hit : ℕ → Hit) (named : (t : ℕ) → hit t .triangle ≡ t) where
+module _ (limit : Limit) (hit : ℕ → Hit) (named : (t : ℕ) → hit t .triangle ≡ t) where
   abbrev pub took : ℕ → Answer → Answer
   took t k = offered limit (hit t) k
 

@@ -20,6 +20,7 @@ use Rattle.spec_tree.proofs.Standing.{slice-length}
 use Rattle.spec_tree.proofs.Trees.{levels-least}
 use Rattle.spec_search.specs.Walk.{Search, Sought, isLeaf, tookAll, nodeWalk, pairWalk, rootWalk}
 use Rattle.spec_search.specs.Answers.{Answer}
+use Rattle.spec_search.specs.Rules.{Limit}
 use Rattle.spec_search.specs.Sure.{isSkipped, nodeSquared, skippedSure, rightNearer, hit, tookSure}
 use Rattle.spec_search.specs.Safe.{NodeSafe, PairSafe, LinksAre}
 use Rattle.spec_search.proofs.Smallest.{still-skipped}
@@ -190,8 +191,8 @@ module _ {S : Type 0} (how : Search S) (stays : (node t : ℕ) (k : S) → how .
 -- ---- what the tests of the sure walk say, of distances that were measured
 module _ (f : Format) (boxes : List Float) (p : Point) where
   -- whether a node is skipped, decided by its box's distance that was computed before
-  pub skipped-here : (limit squared : Float) (node : ℕ) (k : Answer) (b flag : Bool) → squared ≡ nodeSquared f boxes p node → b ≡ isSkipped limit squared k
-      → b ≡ flag → skippedSure f boxes p limit node k ≡ flag
+  pub skipped-here : (limit : Limit) (squared : Float) (node : ℕ) (k : Answer) (b flag : Bool) → squared ≡ nodeSquared f boxes p node
+      → b ≡ isSkipped limit squared k → b ≡ flag → skippedSure f boxes p limit node k ≡ flag
   unfolding skippedSure
   skipped-here limit squared node k b flag s e h = ap (λ (d : Float). isSkipped limit d k) (sym s) ∙ sym e ∙ h
 
@@ -202,7 +203,7 @@ module _ (f : Format) (boxes : List Float) (p : Point) where
   right-first-here l r toLeft toRight flag s t h = rw (← s, ← t) h
 
 -- the sure search is one in which what is skipped stays so
-pub sure-stays : (f : Format) (triangles boxes : List Float) (p : Point) (limit : Float) (node t : ℕ) (k : Answer)
+pub sure-stays : (f : Format) (triangles boxes : List Float) (p : Point) (limit : Limit) (node t : ℕ) (k : Answer)
     → skippedSure f boxes p limit node k ≡ true → skippedSure f boxes p limit node (tookSure f triangles p limit t k) ≡ true
 unfolding skippedSure tookSure hit
 sure-stays f triangles boxes p limit node t k = still-skipped limit (hit f triangles p) (λ u. refl) (nodeSquared f boxes p node) t k

@@ -1,4 +1,4 @@
--- For all triangles, points and trees that pass, and any limit: the walk of the tree answers what the scan of all triangles answers.
+-- For all triangles, points and trees that pass, any limit and either rule: the walk of the tree answers what the scan of all triangles answers.
 -- This is demand 3 of the scope.
 use mathlib.Core.Path.{_≡_, refl, sym, ap, subst, _∙_}
 use mathlib.Core.Bool.{true, false}
@@ -26,6 +26,7 @@ use Rattle.spec_tree.proofs.Accepted.{accepted-listed}
 use Rattle.spec_tree.proofs.Hangs.{listing-hangs}
 use Rattle.spec_tree.proofs.Boxes.{Holds, box-over-holds}
 use Rattle.spec_search.specs.Answers.{Answer, nothing}
+use Rattle.spec_search.specs.Rules.{Limit}
 use Rattle.spec_search.specs.Walk.{Sought, isLeaf, nodeWalk, fold}
 use Rattle.spec_search.specs.Sure.{hit, tookSure, scan, nodeSquared, skippedSure, rightNearer, sureSearch, sureWalk, atFirst}
 use Rattle.spec_search.proofs.Scan.{walk-scans, kept-permuted}
@@ -34,7 +35,7 @@ use Rattle.spec_search.proofs.Smallest.{Good, stays, swaps, skips}
 two-is-not-one : _≡_ {A = ℕ} 2 1 → ⊥
 two-is-not-one e = omega arith
 
-module _ (f : Format) (triangles : List Float) (good : GoodTriangles triangles) (p : Point) (P : Finite (at p)) (limit : Float) where
+module _ (f : Format) (triangles : List Float) (good : GoodTriangles triangles) (p : Point) (P : Finite (at p)) (limit : Limit) where
   abbrev n : ℕ
   n = triangleCount triangles
 

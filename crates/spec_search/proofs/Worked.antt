@@ -10,14 +10,18 @@ use lib.Ieee.{Float, Format, binary32, binary64, fin, add, sub, mul, div, lt, le
 use Rattle.spec_shapes.specs.Points.{Point, minus, plus, scale, dot, smallest, largest, isUnder, isFinite, plusZero, squaredDistance}
 use Rattle.spec_shapes.specs.Boxes.{union, withExcess, withOutside, boxSquared, containsPoint, heldIn, heldSquared}
 use Rattle.spec_shapes.specs.Triangles.{boxOf, dots, crossed, part, along, facePoint, pointOn, closestPoint, finiteOr, heldPoint, measured}
-use Rattle.spec_lists.specs.Reading.{numberAt, pointAt, triangleAt, boxAt, triangleCount}
+use Rattle.spec_lists.specs.Refusals.{passes, refused, firstRefusal, isCoordinate, firstBad, raggedRefusal, noneRefusal, tooManyRefusal, coordinateRefusal, trianglesRefusal, roomRefusal}
+use Rattle.spec_lists.specs.Reading.{numberAt, pointAt, triangleAt, boxAt, triangleCount, pointCount}
 use Rattle.spec_tree.specs.Trees.{Tree, leaf, branch, numbers, nodeCount, joinedTo, joined, boxOver, rootFrom, linksFrom, boxesOf}
 use Rattle.spec_tree.specs.Order.{range}
-use Rattle.spec_search.specs.Answers.{Hit, Answer, nothing, found}
+use Rattle.spec_search.specs.Answers.{sure, source, Answer, nothing, found}
 use Rattle.spec_search.specs.Walk.{Sought, tookAll, nodeWalk, pairWalk, rootWalk, fold}
-use Rattle.spec_search.specs.Sure.{limitOf, counts, offered, isSkipped, hit, tookSure, scan, nodeSquared, skippedSure, rightNearer, sureWalk}
+use Rattle.spec_search.specs.Rules.{Rule, strictlyBelow, belowOrEqual, ruleOf, ruleRefusal, limitSquared, limitOf, counts}
+use Rattle.spec_search.specs.Sure.{offered, isSkipped, hit, tookSure, scan, nodeSquared, skippedSure, rightNearer, sureWalk}
 use Rattle.spec_search.specs.Source.{sourceHit, keepSmaller, tookSource, enters, sourceWalk}
-use Rattle.spec_search.specs.Calls.{sureAnswer, sourceAnswer}
+use Rattle.spec_search.specs.Kept.{kept}
+use Rattle.spec_search.specs.Marked.{markedWalk, unmarked}
+use Rattle.spec_search.specs.Calls.{queryRefusal, sureAnswer, sourceAnswer}
 
 module _ (f : Format) where
   abbrev n : ℤ → Float
@@ -45,11 +49,16 @@ module _ (f : Format) where
   abbrev sourceIn : List Float → Tree → Float → Float → Answer
   sourceIn triangles t x distance = sourceAnswer f triangles (numbers t) (linksFrom 0 0 t) (boxesOf (boxAt triangles) t) (nodeCount t) distance (onX x)
 
-  abbrev sureIn : List Float → Float → Float → Answer
-  sureIn triangles x distance = sureAnswer f triangles distance (onX x)
+  abbrev sureIn : Rule → List Float → Float → Float → Answer
+  sureIn rule triangles x distance = sureAnswer f rule triangles distance (onX x)
 
-  abbrev walkIn : Float → Float → Sought Answer
-  walkIn x distance = sureWalk f t0t1 (numbers two) (linksFrom 0 0 two) (boxesOf (boxAt t0t1) two) (nodeCount two) (onX x) (limitOf f distance)
+  abbrev walkIn : Rule → Float → Float → Sought Answer
+  walkIn rule x distance = sureWalk f t0t1 (numbers two) (linksFrom 0 0 two) (boxesOf (boxAt t0t1) two) (nodeCount two) (onX x) (limitOf f rule distance)
+
+  abbrev markedIn : Rule → Float → Float → Sought Answer
+  markedIn rule x distance =
+      let walked = markedWalk f t0t1 (numbers two) (linksFrom 0 0 two) (boxesOf (boxAt t0t1) two) (nodeCount two) (onX x) (limitOf f rule distance) in
+      record { best = unmarked (walked .best); measured = walked .measured }
 
   abbrev foundAt : ℕ → ℤ → Float → Answer
   foundAt triangle x squared = found (record { point = onX (n x); squared = squared; triangle = triangle })
@@ -73,31 +82,73 @@ pub source-worked : (f : Format)
 unfolding add sub mul div lt le eq round ofInt minus plus scale dot smallest largest isUnder isFinite plusZero squaredDistance union withExcess
     withOutside boxSquared containsPoint heldIn heldSquared boxOf dots crossed part along facePoint pointOn closestPoint finiteOr heldPoint measured
     numberAt pointAt triangleAt boxAt triangleCount numbers nodeCount joinedTo joined boxOver rootFrom linksFrom boxesOf range tookAll nodeWalk
-    pairWalk rootWalk fold limitOf counts offered isSkipped hit tookSure scan nodeSquared skippedSure rightNearer sureWalk sourceHit keepSmaller
+    pairWalk rootWalk fold limitSquared counts offered isSkipped hit tookSure scan nodeSquared skippedSure rightNearer sureWalk sourceHit keepSmaller
     tookSource enters sourceWalk sureAnswer sourceAnswer
 source-worked binary32 = refl
 source-worked binary64 = refl
 
--- the sure query has the lower number, and nothing at the limit or beyond it
+-- the sure query has the lower number; at 4.5, which is as far as both are, and at no distance from what it touches, nothing by the first rule and
+-- what is there by the second; nothing beyond the limit by either
 pub sure-worked : (f : Format)
-    → (sureIn f (t0t1 f) (between f) (n f (pos 5)) ∷ sureIn f (t0t1 f) (between f) (reach f) ∷ sureIn f (t0 f) (n f (pos 100)) (n f (pos 1)) ∷ [])
-    ≡ (foundAt f 0 (pos 1) (level f) ∷ nothing ∷ nothing ∷ [])
+    → (sureIn f strictlyBelow (t0t1 f) (between f) (n f (pos 5)) ∷ sureIn f strictlyBelow (t0t1 f) (between f) (reach f)
+    ∷ sureIn f belowOrEqual (t0t1 f) (between f) (reach f) ∷ sureIn f strictlyBelow (t0 f) (n f (pos 1)) (n f (pos 0))
+    ∷ sureIn f belowOrEqual (t0 f) (n f (pos 1)) (n f (pos 0)) ∷ sureIn f belowOrEqual (t0 f) (n f (pos 100)) (n f (pos 1)) ∷ [])
+    ≡ (foundAt f 0 (pos 1) (level f) ∷ nothing ∷ foundAt f 0 (pos 1) (level f) ∷ nothing ∷ foundAt f 0 (pos 1) (n f (pos 0)) ∷ nothing ∷ [])
 unfolding add sub mul div lt le eq round ofInt minus plus scale dot smallest largest isUnder isFinite plusZero squaredDistance union withExcess
     withOutside boxSquared containsPoint heldIn heldSquared boxOf dots crossed part along facePoint pointOn closestPoint finiteOr heldPoint measured
     numberAt pointAt triangleAt boxAt triangleCount numbers nodeCount joinedTo joined boxOver rootFrom linksFrom boxesOf range tookAll nodeWalk
-    pairWalk rootWalk fold limitOf counts offered isSkipped hit tookSure scan nodeSquared skippedSure rightNearer sureWalk sourceHit keepSmaller
+    pairWalk rootWalk fold limitSquared counts offered isSkipped hit tookSure scan nodeSquared skippedSure rightNearer sureWalk sourceHit keepSmaller
     tookSource enters sourceWalk sureAnswer sourceAnswer
 sure-worked binary32 = refl
 sure-worked binary64 = refl
 
--- a level box is looked into, the nearer box goes first, and the farther one is skipped
+-- a box that is level with what is kept is looked into, and by the second rule one at the limit; the nearer box goes first, and the farther one is
+-- skipped
 pub walk-worked : (f : Format)
-    → (walkIn f (between f) (n f (pos 5)) ∷ walkIn f (n f (pos 9)) (n f (pos 50)) ∷ [])
-    ≡ (record { best = foundAt f 0 (pos 1) (level f); measured = 2 } ∷ record { best = foundAt f 1 (pos 10) (n f (pos 1)); measured = 1 } ∷ [])
+    → (walkIn f strictlyBelow (between f) (n f (pos 5)) ∷ walkIn f strictlyBelow (n f (pos 9)) (n f (pos 50))
+    ∷ walkIn f strictlyBelow (between f) (reach f) ∷ walkIn f belowOrEqual (between f) (reach f) ∷ [])
+    ≡ (record { best = foundAt f 0 (pos 1) (level f); measured = 2 } ∷ record { best = foundAt f 1 (pos 10) (n f (pos 1)); measured = 1 }
+    ∷ record { best = nothing; measured = 0 } ∷ record { best = foundAt f 0 (pos 1) (level f); measured = 2 } ∷ [])
 unfolding add sub mul div lt le eq round ofInt minus plus scale dot smallest largest isUnder isFinite plusZero squaredDistance union withExcess
     withOutside boxSquared containsPoint heldIn heldSquared boxOf dots crossed part along facePoint pointOn closestPoint finiteOr heldPoint measured
     numberAt pointAt triangleAt boxAt triangleCount numbers nodeCount joinedTo joined boxOver rootFrom linksFrom boxesOf range tookAll nodeWalk
-    pairWalk rootWalk fold limitOf counts offered isSkipped hit tookSure scan nodeSquared skippedSure rightNearer sureWalk sourceHit keepSmaller
+    pairWalk rootWalk fold limitSquared counts offered isSkipped hit tookSure scan nodeSquared skippedSure rightNearer sureWalk sourceHit keepSmaller
     tookSource enters sourceWalk sureAnswer sourceAnswer
 walk-worked binary32 = refl
 walk-worked binary64 = refl
+
+-- the walk as the code makes it, from the marker or not: the same answers and counts
+pub marked-worked : (f : Format)
+    → (markedIn f strictlyBelow (between f) (n f (pos 5)) ∷ markedIn f strictlyBelow (between f) (reach f)
+    ∷ markedIn f belowOrEqual (between f) (reach f) ∷ markedIn f belowOrEqual (n f (pos 100)) (n f (pos 1)) ∷ [])
+    ≡ (record { best = foundAt f 0 (pos 1) (level f); measured = 2 } ∷ record { best = nothing; measured = 0 }
+    ∷ record { best = foundAt f 0 (pos 1) (level f); measured = 2 } ∷ record { best = nothing; measured = 0 } ∷ [])
+unfolding add sub mul div lt le eq round ofInt minus plus scale dot smallest largest isUnder isFinite plusZero squaredDistance union withExcess
+    withOutside boxSquared containsPoint heldIn heldSquared boxOf dots crossed part along facePoint pointOn closestPoint finiteOr heldPoint measured
+    numberAt pointAt triangleAt boxAt triangleCount numbers nodeCount joinedTo joined boxOver rootFrom linksFrom boxesOf range tookAll nodeWalk
+    pairWalk rootWalk fold limitSquared counts offered isSkipped hit tookSure scan nodeSquared skippedSure rightNearer sureWalk sourceHit keepSmaller
+    tookSource enters sourceWalk sureAnswer sourceAnswer kept markedWalk
+marked-worked binary32 = refl
+marked-worked binary64 = refl
+
+-- the numbers of the rules, and of none
+pub rules-worked : (ruleOf 1 ∷ ruleOf 2 ∷ []) ≡ (strictlyBelow ∷ belowOrEqual ∷ [])
+unfolding ruleOf
+rules-worked = refl
+
+-- 5 at 0 of any other number
+pub rule-refusals-worked : (ruleRefusal 0 ∷ ruleRefusal 1 ∷ ruleRefusal 2 ∷ ruleRefusal 3 ∷ []) ≡ (refused 5 0 ∷ passes ∷ passes ∷ refused 5 0 ∷ [])
+unfolding ruleRefusal
+rule-refusals-worked = refl
+
+-- 5 comes behind the triangles' tests and before the room's, and the source query has none: one point and no room, under no rule
+pub query-refusals-worked : (f : Format)
+    → (queryRefusal (sure 3) [] [] [] [] 0 (n f (pos 0) ∷ n f (pos 0) ∷ n f (pos 0) ∷ []) (n f (pos 1)) 0
+    ∷ queryRefusal (sure 3) (t0 f) [] [] [] 0 (n f (pos 0) ∷ n f (pos 0) ∷ n f (pos 0) ∷ []) (n f (pos 1)) 0
+    ∷ queryRefusal (sure 2) (t0 f) [] [] [] 0 (n f (pos 0) ∷ n f (pos 0) ∷ n f (pos 0) ∷ []) (n f (pos 1)) 0
+    ∷ queryRefusal source (t0 f) [] [] [] 0 (n f (pos 0) ∷ n f (pos 0) ∷ n f (pos 0) ∷ []) (n f (pos 1)) 0 ∷ [])
+    ≡ (refused 2 0 ∷ refused 5 0 ∷ refused 6 0 ∷ refused 6 0 ∷ [])
+unfolding lt le eq round ofInt triangleCount pointCount firstRefusal isCoordinate firstBad raggedRefusal noneRefusal tooManyRefusal coordinateRefusal
+    trianglesRefusal roomRefusal ruleRefusal queryRefusal
+query-refusals-worked binary32 = refl
+query-refusals-worked binary64 = refl

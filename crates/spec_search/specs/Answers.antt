@@ -4,9 +4,9 @@ use Prim.Native.Nat.{ℕ}
 use lib.Ieee.{Float, Format, toBits}
 use Rattle.spec_shapes.specs.Points.{Point}
 
--- the query that was added, or the one that is carried over
+-- the query that was added, with the number of its measuring rule, or the one that is carried over, which has none
 pub data Query : Type 0 where
-  sure : Query
+  sure : (rule : ℕ) → Query
   source : Query
 
 pub record Hit : Type 0 where

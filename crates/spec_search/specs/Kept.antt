@@ -6,7 +6,8 @@ use Prim.Native.Nat.{ℕ}
 use lib.Dec.{ltb}
 use lib.Ieee.{Float, Format, inf, lt, eq}
 use Rattle.spec_shapes.specs.Points.{Point}
-use Rattle.spec_search.specs.Answers.{Query, sure, source, Hit, Answer, nothing, found}
+use Rattle.spec_search.specs.Answers.{Hit, Answer, nothing, found}
+use Rattle.spec_search.specs.Rules.{strictlyBelow, Limit}
 use Rattle.spec_search.specs.Sure.{tookSure}
 use Rattle.spec_search.specs.Source.{tookSource}
 
@@ -22,7 +23,16 @@ kept h = keptIf (eq (h .squared) (inf false)) h
 unfoldable pub nearer : Hit → Hit → Bool
 nearer h k = lt (h .squared) (k .squared) || (eq (h .squared) (k .squared) && ltb (h .triangle) (k .triangle))
 
--- what measuring a triangle does to what is kept, by the query that is made
-abbrev pub tookBy : Query → Format → List Float → Point → Float → ℕ → Answer → Answer
-tookBy sure f triangles p limit = tookSure f triangles p limit
-tookBy source f triangles p limit = tookSource f triangles p
+-- the limit of a walk's code, which knows the first rule alone
+abbrev pub below : Float → Limit
+below squared = record { rule = strictlyBelow; squared = squared }
+
+-- which point of a triangle is measured: the sure query's, or the source's
+pub data Measures : Type 0 where
+  held : Measures
+  computed : Measures
+
+-- what measuring a triangle does to what is kept
+abbrev pub tookBy : Measures → Format → List Float → Point → Float → ℕ → Answer → Answer
+tookBy held f triangles p limit = tookSure f triangles p (below limit)
+tookBy computed f triangles p limit = tookSource f triangles p

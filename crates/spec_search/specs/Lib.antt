@@ -1,4 +1,5 @@
 pub mod Answers
+pub mod Rules
 pub mod Walk
 pub mod Sure
 pub mod Nearest
@@ -6,3 +7,4 @@ pub mod Source
 pub mod Safe
 pub mod Calls
 pub mod Kept
+pub mod Marked
