@@ -6,9 +6,12 @@ ghost use lib.Ieee.{binary32};
 ghost use Rattle.spec_lists.specs.Reading as Reading;
 ghost use Rattle.lists.specs.Values as Verdicts;
 ghost use Rattle.spec_tables.specs.Tables as Tables;
+ghost use Rattle.spec_search.specs.Answers as Answers;
+ghost use Rattle.spec_search.specs.Rules as Rules;
 ghost use Rattle.spec_search.specs.Calls as Calls;
 ghost use Rattle.walks.specs.Values as Values;
 use crate::query::answer_at;
+use crate::rules::rule_refusal_by;
 use lists::reading::point_at;
 use lists::tests::distance_refusal;
 use lists::tests::point_count;
@@ -20,8 +23,9 @@ use tree::calls::tree_refusal;
 use walks::answer::Query;
 use walks::words::put_answer;
 
-// The first of the tests 1 to 4, 6, 71 to 75, 8 and 9 that refuses.
+// The first of the tests 1 to 6, 71 to 75, 8 and 9 that refuses.
 fn query_refusal(
+    query: Query,
     triangles: &[f32],
     order: &[u32],
     links: &[u32],
@@ -32,10 +36,14 @@ fn query_refusal(
     room: usize,
 ) -> Verdict
     ensures { λ r. ⌜ Verdicts.asVerdict r
-        ≡ Calls.queryRefusal (now (triangles .entry)) (now (order .entry)) (now (links .entry)) (now (boxes .entry)) nodes
+        ≡ Calls.queryRefusal (Values.asQuery query) (now (triangles .entry)) (now (order .entry)) (now (links .entry)) (now (boxes .entry)) nodes
         (now (points .entry)) distance room ⌝ }
 {
-    let early = triangles_refusal(triangles).or(room_refusal(room / 6, point_count(points)));
+    let drawing = triangles_refusal(triangles);
+    if drawing.refuses() {
+        return drawing;
+    }
+    let early = rule_refusal_by(query).or(room_refusal(room / 6, point_count(points)));
     if early.refuses() {
         return early;
     }
@@ -56,7 +64,7 @@ fn put_answers(
     distance: f32,
     answers: &mut [u32],
 )
-    requires { ⌜ Calls.Askable (now triangles) (now order) (now links) (now boxes) nodes (now points) ⌝ }
+    requires { ⌜ Calls.Askable (now triangles) (now order) (now links) (now boxes) nodes (now points) distance ⌝ }
     requires { ⌜ 6 * Reading.pointCount (now points) ≤ length (now answers) ⌝ }
     ensures { λ _. ⌜ now (answers .exit)
         ≡ Tables.overwrite 0 (Calls.answerWords binary32 (Calls.answerBy binary32 (Values.asQuery query) (now (triangles .entry)) (now (order .entry))
@@ -94,13 +102,14 @@ fn ask(
     answers: &mut [u32],
 ) -> Verdict
     ensures verdict { λ r. ⌜ Verdicts.asVerdict r
-        ≡ Calls.queryRefusal (now (triangles .entry)) (now (order .entry)) (now (links .entry)) (now (boxes .entry)) nodes (now (points .entry)) distance
-        (length (now (answers .entry))) ⌝ }
+        ≡ Calls.queryRefusal (Values.asQuery query) (now (triangles .entry)) (now (order .entry)) (now (links .entry)) (now (boxes .entry)) nodes
+        (now (points .entry)) distance (length (now (answers .entry))) ⌝ }
     ensures answers { λ r. ⌜ now (answers .exit)
         ≡ Calls.afterQuery binary32 (Calls.answerBy binary32 (Values.asQuery query) (now (triangles .entry)) (now (order .entry)) (now (links .entry))
         (now (boxes .entry)) nodes distance) (now (points .entry)) (Verdicts.asVerdict r) (now (answers .entry)) ⌝ }
 {
     let verdict = query_refusal(
+        query,
         triangles,
         order,
         links,
@@ -128,7 +137,8 @@ fn ask(
 }
 
 // For each point the nearest held surface point within the search distance, the lowest triangle number among equals:
-// what a scan of all triangles finds. `answers` holds six words a point at its front. A refusal changes nothing.
+// what a scan of all triangles finds. By rule 1 what is exactly at the distance is not within it, by rule 2 it is.
+// `answers` holds six words a point at its front. A refusal changes nothing.
 pub fn sure_query(
     triangles: &[f32],
     order: &[u32],
@@ -137,17 +147,18 @@ pub fn sure_query(
     nodes: usize,
     points: &[f32],
     distance: f32,
+    rule: u32,
     answers: &mut [u32],
 ) -> Verdict
     ensures verdict { λ r. ⌜ Verdicts.asVerdict r
-        ≡ Calls.queryRefusal (now (triangles .entry)) (now (order .entry)) (now (links .entry)) (now (boxes .entry)) nodes (now (points .entry)) distance
-        (length (now (answers .entry))) ⌝ }
+        ≡ Calls.queryRefusal (Answers.sure rule) (now (triangles .entry)) (now (order .entry)) (now (links .entry)) (now (boxes .entry)) nodes
+        (now (points .entry)) distance (length (now (answers .entry))) ⌝ }
     ensures answers { λ r. ⌜ now (answers .exit)
-        ≡ Calls.afterQuery binary32 (Calls.sureAnswer binary32 (now (triangles .entry)) distance) (now (points .entry)) (Verdicts.asVerdict r)
-        (now (answers .entry)) ⌝ }
+        ≡ Calls.afterQuery binary32 (Calls.sureAnswer binary32 (Rules.ruleOf rule) (now (triangles .entry)) distance) (now (points .entry))
+        (Verdicts.asVerdict r) (now (answers .entry)) ⌝ }
 {
     ask(
-        Query::Sure,
+        Query::Sure { rule },
         triangles,
         order,
         links,
@@ -172,8 +183,8 @@ pub fn source_query(
     answers: &mut [u32],
 ) -> Verdict
     ensures verdict { λ r. ⌜ Verdicts.asVerdict r
-        ≡ Calls.queryRefusal (now (triangles .entry)) (now (order .entry)) (now (links .entry)) (now (boxes .entry)) nodes (now (points .entry)) distance
-        (length (now (answers .entry))) ⌝ }
+        ≡ Calls.queryRefusal Answers.source (now (triangles .entry)) (now (order .entry)) (now (links .entry)) (now (boxes .entry)) nodes
+        (now (points .entry)) distance (length (now (answers .entry))) ⌝ }
     ensures answers { λ r. ⌜ now (answers .exit)
         ≡ Calls.afterQuery binary32 (Calls.sourceAnswer binary32 (now (triangles .entry)) (now (order .entry)) (now (links .entry))
         (now (boxes .entry)) nodes distance) (now (points .entry)) (Verdicts.asVerdict r) (now (answers .entry)) ⌝ }

@@ -4,6 +4,7 @@ ghost use lib.Ieee.{binary32};
 ghost use Rattle.shapes.specs.Values.{asPoint};
 ghost use Rattle.spec_numbers.specs.Axes.{Finite};
 ghost use Rattle.spec_shapes.specs.Points as Points;
+ghost use Rattle.spec_lists.specs.Passed.{GoodDistance};
 ghost use Rattle.spec_search.specs.Calls.{Searchable, answerBy};
 ghost use Rattle.walks.specs.Values.{asQuery, asAnswer};
 use shapes::vec3::Vec3;
@@ -25,6 +26,7 @@ pub fn answer_at(
 ) -> Answer
     requires { ⌜ Searchable (now triangles) (now order) (now links) (now boxes) nodes ⌝ }
     requires { ⌜ Finite (Points.at (asPoint p)) ⌝ }
+    requires { ⌜ GoodDistance distance ⌝ }
     ensures { λ r. ⌜ asAnswer r ≡ answerBy binary32 (asQuery query) (now (triangles .entry)) (now (order .entry)) (now (links .entry))
         (now (boxes .entry)) nodes distance (asPoint p) ⌝ }
 {
@@ -33,8 +35,8 @@ pub fn answer_at(
         limit: distance * distance,
     };
     match query {
-        Query::Sure => {
-            let found = sure::search(triangles, order, links, boxes, nodes, probe);
+        Query::Sure { rule } => {
+            let found = sure::search(triangles, order, links, boxes, nodes, probe, rule);
             let best = found.best;
             best
         }

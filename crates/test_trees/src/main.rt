@@ -303,6 +303,7 @@ fn answered(
         head.nodes,
         points,
         head.distance,
+        1,
         sure,
     );
     tally

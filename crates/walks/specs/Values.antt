@@ -6,18 +6,25 @@ use lib.Ieee.{Float, nan}
 use Rattle.shapes.specs.Values.{asPoint}
 use Rattle.spec_shapes.specs.Points.{Point}
 use Rattle.spec_search.specs.Answers as Answers
+use Rattle.spec_search.specs.Kept as Kept
 use Rattle.spec_search.specs.Kept.{kept}
 use Rattle.spec_search.specs.Walk as Walk
 use Rattle.walks.specs.declared.answer.Query.{Query}
 use Rattle.walks.specs.declared.answer.Query.the-variants.{Sure, Source}
+use Rattle.walks.specs.declared.answer.Measures.{Measures}
+use Rattle.walks.specs.declared.answer.Measures.the-variants.{Held, Computed}
 use Rattle.walks.specs.declared.answer.Hit.{Hit}
 use Rattle.walks.specs.declared.answer.Sought.{Sought}
 use Rattle.walks.specs.declared.answer.Answer.{Answer}
 use Rattle.walks.specs.declared.answer.Answer.the-variants.{Nothing, Found}
 
 abbrev pub asQuery : Query → Answers.Query
-asQuery Sure = Answers.sure
+asQuery (Sure rule) = Answers.sure rule
 asQuery Source = Answers.source
+
+abbrev pub asMeasures : Measures → Kept.Measures
+asMeasures Held = Kept.held
+asMeasures Computed = Kept.computed
 
 abbrev pub asHit : Hit → Answers.Hit
 asHit h = record { point = asPoint (h .point); squared = h .squared; triangle = h .triangle }

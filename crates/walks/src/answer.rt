@@ -1,10 +1,16 @@
 // What a walk is given, and what it answers; which query is made.
 use shapes::vec3::Vec3;
 
-// The query that was added, or the one that is carried over.
+// The query that was added, with the number of its measuring rule, or the one that is carried over, which has none.
 pub enum Query {
-    Sure,
+    Sure { rule: u32 },
     Source,
+}
+
+// Which point of a triangle is measured: the sure query's, or the source's.
+pub enum Measures {
+    Held,
+    Computed,
 }
 
 // The probe: a point, and the square of the search distance as its limit.

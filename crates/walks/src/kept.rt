@@ -3,12 +3,17 @@
 ghost use mathlib.Core.Path.{_≡_};
 ghost use Rattle.shapes.specs.Values as Shapes;
 ghost use Rattle.spec_search.specs.Kept as Kept;
+ghost use Rattle.spec_search.specs.Marked as Marked;
+ghost use Rattle.spec_search.specs.Rules as Rules;
 ghost use Rattle.spec_search.specs.Sure as Sure;
 ghost use Rattle.spec_search.specs.Source as Source;
 ghost use Rattle.walks.specs.Values as Values;
 use crate::answer::Answer;
 use crate::answer::Hit;
 use shapes::vec3::Vec3;
+
+// The number of a marker: no triangle has it.
+pub const NO_TRIANGLE: u32 = 4294967295;
 
 // The point in the first three of four numbers.
 pub fn point_of(four: &[f32; 4]) -> Vec3
@@ -31,7 +36,7 @@ fn keep(hit: Hit, best: &mut [f32; 4], number: &mut u32)
 
 // Whether a squared distance counts: it is strictly below the limit.
 fn does_count(limit: f32, squared: f32) -> bool
-    ensures { λ r. ⌜ r ≡ Sure.counts limit squared ⌝ }
+    ensures { λ r. ⌜ r ≡ Rules.counts (Kept.below limit) squared ⌝ }
 {
     squared < limit
 }
@@ -45,7 +50,7 @@ fn is_nearer(hit: Hit, best: &[f32; 4], number: u32) -> bool
 
 // Whether a box at this squared distance is skipped: the distance does not count, or is above the best so far.
 pub fn is_skipped(limit: f32, squared: f32, best: &[f32; 4], number: u32) -> bool
-    ensures { λ r. ⌜ r ≡ Sure.isSkipped limit squared (Kept.kept (Values.hitOf (now (best .entry)) number)) ⌝ }
+    ensures { λ r. ⌜ r ≡ Sure.isSkipped (Kept.below limit) squared (Kept.kept (Values.hitOf (now (best .entry)) number)) ⌝ }
 {
     !does_count(limit, squared) | (best[3] < squared)
 }
@@ -53,7 +58,7 @@ pub fn is_skipped(limit: f32, squared: f32, best: &[f32; 4], number: u32) -> boo
 // Keeps the hit where it counts and is nearer. The sure query uses it.
 pub fn offer(limit: f32, hit: Hit, best: &mut [f32; 4], number: &mut u32)
     ensures { λ _. ⌜ Kept.kept (Values.hitOf (now (best .exit)) (now (number .exit)))
-        ≡ Sure.offered limit (Values.asHit hit) (Kept.kept (Values.hitOf (now (best .entry)) (now (number .entry)))) ⌝ }
+        ≡ Sure.offered (Kept.below limit) (Values.asHit hit) (Kept.kept (Values.hitOf (now (best .entry)) (now (number .entry)))) ⌝ }
 {
     if does_count(limit, hit.squared) & is_nearer(hit, best, *number) {
         keep(hit, best, number);
@@ -77,6 +82,22 @@ pub fn answer_of(best: &[f32; 4], number: u32) -> Answer
     ensures { λ r. ⌜ Values.asAnswer r ≡ Kept.kept (Values.hitOf (now (best .entry)) number) ⌝ }
 {
     if best[3] == 1.0 / 0.0 {
+        return Answer::Nothing;
+    }
+    Answer::Found {
+        x: best[0],
+        y: best[1],
+        z: best[2],
+        squared: best[3],
+        triangle: number,
+    }
+}
+
+// What is kept at the end of a sure query, as an answer: where it is still the marker, nothing.
+pub fn unmarked_answer(best: &[f32; 4], number: u32) -> Answer
+    ensures { λ r. ⌜ Values.asAnswer r ≡ Marked.unmarked (Kept.kept (Values.hitOf (now (best .entry)) number)) ⌝ }
+{
+    if (best[3] == 1.0 / 0.0) | (number == NO_TRIANGLE) {
         return Answer::Nothing;
     }
     Answer::Found {

@@ -12,7 +12,7 @@ ghost use Rattle.spec_search.specs.Walk as Walk;
 ghost use Rattle.spec_search.specs.Kept as Kept;
 ghost use Rattle.walks.specs.Values as Values;
 use crate::answer::Hit;
-use crate::answer::Query;
+use crate::answer::Measures;
 use crate::kept::keep_smaller;
 use crate::kept::offer;
 use crate::kept::point_of;
@@ -37,20 +37,20 @@ fn measure(
     triangles: &[f32],
     t: u32,
     probe: &[f32; 4],
-    query: Query,
+    measures: Measures,
     best: &mut [f32; 4],
     number: &mut u32,
 )
     requires { ⌜ 9 * t + 9 ≤ length (now triangles) ⌝ }
     ensures { λ _. ⌜ Kept.kept (Values.hitOf (now (best .exit)) (now (number .exit)))
-        ≡ Kept.tookBy (Values.asQuery query) binary32 (now (triangles .entry)) (Values.pointOf (now (probe .entry))) (Values.fourthOf (now (probe .entry))) t
-        (Kept.kept (Values.hitOf (now (best .entry)) (now (number .entry)))) ⌝ }
+        ≡ Kept.tookBy (Values.asMeasures measures) binary32 (now (triangles .entry)) (Values.pointOf (now (probe .entry)))
+        (Values.fourthOf (now (probe .entry))) t (Kept.kept (Values.hitOf (now (best .entry)) (now (number .entry)))) ⌝ }
 {
     let p = point_of(probe);
     let triangle = triangle_at(triangles, wide(t));
     let computed = triangle.closest_point(p);
-    match query {
-        Query::Sure => {
+    match measures {
+        Measures::Held => {
             offer(
                 probe[3],
                 hit_at(triangle.held(computed), p, t),
@@ -58,7 +58,7 @@ fn measure(
                 number,
             );
         }
-        Query::Source => {
+        Measures::Computed => {
             keep_smaller(hit_at(computed, p, t), best, number);
         }
     }
@@ -69,7 +69,7 @@ fn measure_slice(
     triangles: &[f32],
     slice: &[u32],
     probe: &[f32; 4],
-    query: Query,
+    measures: Measures,
     measured: usize,
     best: &mut [f32; 4],
     number: &mut u32,
@@ -77,12 +77,12 @@ fn measure_slice(
     requires { ⌜ Order.EntriesBelow (Reading.triangleCount (now triangles)) (now slice) ⌝ }
     requires { ⌜ measured + length (now slice) < 2 ^ 64 ⌝ }
     ensures { λ r. ⌜ Values.soughtOf (now (best .exit)) (now (number .exit)) r
-        ≡ Walk.tookAll (Kept.tookBy (Values.asQuery query) binary32 (now (triangles .entry)) (Values.pointOf (now (probe .entry)))
+        ≡ Walk.tookAll (Kept.tookBy (Values.asMeasures measures) binary32 (now (triangles .entry)) (Values.pointOf (now (probe .entry)))
         (Values.fourthOf (now (probe .entry)))) (now (slice .entry)) (Values.soughtOf (now (best .entry)) (now (number .entry)) measured) ⌝ }
 {
     let mut i = 0;
     while i < slice.len() {
-        measure(triangles, slice[i], probe, query, best, number);
+        measure(triangles, slice[i], probe, measures, best, number);
         i += 1;
     }
     measured + i
@@ -95,7 +95,7 @@ pub fn measure_leaf(
     first: usize,
     last: usize,
     probe: &[f32; 4],
-    query: Query,
+    measures: Measures,
     measured: usize,
     best: &mut [f32; 4],
     number: &mut u32,
@@ -104,7 +104,7 @@ pub fn measure_leaf(
     requires { ⌜ (first ≤ last) × (last ≤ length (now order)) ⌝ }
     requires { ⌜ measured + (last - first) < 2 ^ 64 ⌝ }
     ensures { λ r. ⌜ Values.soughtOf (now (best .exit)) (now (number .exit)) r
-        ≡ Walk.tookAll (Kept.tookBy (Values.asQuery query) binary32 (now (triangles .entry)) (Values.pointOf (now (probe .entry)))
+        ≡ Walk.tookAll (Kept.tookBy (Values.asMeasures measures) binary32 (now (triangles .entry)) (Values.pointOf (now (probe .entry)))
         (Values.fourthOf (now (probe .entry)))) (Tables.slice (now (order .entry)) first (last - first))
         (Values.soughtOf (now (best .entry)) (now (number .entry)) measured) ⌝ }
 {
@@ -112,7 +112,7 @@ pub fn measure_leaf(
         triangles,
         &order[first..last],
         probe,
-        query,
+        measures,
         measured,
         best,
         number,

@@ -10,8 +10,8 @@ ghost use Rattle.spec_search.specs.Source as Source;
 ghost use Rattle.spec_search.specs.Safe as Safe;
 ghost use Rattle.spec_search.specs.Calls as Calls;
 ghost use Rattle.walks.specs.Values as Values;
+use crate::answer::Measures;
 use crate::answer::Probe;
-use crate::answer::Query;
 use crate::answer::Sought;
 use crate::kept::answer_of;
 use crate::kept::point_of;
@@ -56,7 +56,7 @@ pub fn look(
             here.left,
             here.right,
             probe,
-            Query::Source,
+            Measures::Computed,
             measured,
             best,
             number,

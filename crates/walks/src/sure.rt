@@ -1,22 +1,28 @@
 // The sure query's walk: the nearer child first. A box is skipped where it does not count or is above the best so far.
-// The probe is lent as four numbers, the point and the limit.
+// The probe is lent as four numbers, the point and the limit. The walk knows no rule, and keeps what is strictly below the limit. By the second rule it
+// starts from a marker, a hit at the limit squared under a number that no triangle has: whatever counts is nearer. So a box costs no test of the rule.
 // Each list is lent by a reference to it: that is one word, handed on as it is, where a list's own reference is copied at each call.
 ghost use mathlib.Core.Path.{_≡_};
-ghost use lib.Ieee.{binary32};
+ghost use mathlib.Core.Bool.{true, false};
+ghost use lib.Ieee.{binary32, inf, lt};
 ghost use Prim.Native.Nat.{_+_, _*_, _≤_};
 ghost use lib.ListN.{length};
 ghost use Rattle.shapes.specs.Values as Shapes;
 ghost use Rattle.spec_search.specs.Walk as Walk;
+ghost use Rattle.spec_search.specs.Rules as Rules;
 ghost use Rattle.spec_search.specs.Sure as Sure;
+ghost use Rattle.spec_search.specs.Kept as Kept;
+ghost use Rattle.spec_search.specs.Marked as Marked;
 ghost use Rattle.spec_search.specs.Safe as Safe;
 ghost use Rattle.spec_search.specs.Calls as Calls;
 ghost use Rattle.walks.specs.Values as Values;
+use crate::answer::Measures;
 use crate::answer::Probe;
-use crate::answer::Query;
 use crate::answer::Sought;
-use crate::kept::answer_of;
+use crate::kept::NO_TRIANGLE;
 use crate::kept::is_skipped;
 use crate::kept::point_of;
+use crate::kept::unmarked_answer;
 use crate::leaf::measure_leaf;
 use crate::links::links_of;
 use lists::limits;
@@ -48,7 +54,7 @@ pub fn node_walk(
     requires { ⌜ squared ≡ Sure.nodeSquared binary32 (now (now boxes)) (Values.pointOf (now probe)) node ⌝ }
     ensures { λ r. ⌜ Values.soughtOf (now (best .exit)) (now (number .exit)) r
         ≡ Walk.nodeWalk (Sure.sureSearch binary32 (now (now (triangles .entry))) (now (now (boxes .entry))) (Values.pointOf (now (probe .entry)))
-        (Values.fourthOf (now (probe .entry)))) (now (now (order .entry))) (now (now (links .entry))) depth node
+        (Kept.below (Values.fourthOf (now (probe .entry))))) (now (now (order .entry))) (now (now (links .entry))) depth node
         (Values.soughtOf (now (best .entry)) (now (number .entry)) measured) ⌝ }
 {
     if is_skipped(probe[3], squared, best, *number) {
@@ -62,7 +68,7 @@ pub fn node_walk(
             here.left,
             here.right,
             probe,
-            Query::Sure,
+            Measures::Held,
             measured,
             best,
             number,
@@ -102,7 +108,7 @@ pub fn pair_walk(
     requires { ⌜ Safe.PairSafe (now (now triangles)) (now (now order)) (now (now links)) (now (now boxes)) depth left right measured ⌝ }
     ensures { λ r. ⌜ Values.soughtOf (now (best .exit)) (now (number .exit)) r
         ≡ Walk.pairWalk (Sure.sureSearch binary32 (now (now (triangles .entry))) (now (now (boxes .entry))) (Values.pointOf (now (probe .entry)))
-        (Values.fourthOf (now (probe .entry)))) (now (now (order .entry))) (now (now (links .entry))) depth left right
+        (Kept.below (Values.fourthOf (now (probe .entry))))) (now (now (order .entry))) (now (now (links .entry))) depth left right
         (Values.soughtOf (now (best .entry)) (now (number .entry)) measured) ⌝ }
 {
     let to_left = node_squared(*boxes, left, probe);
@@ -193,7 +199,27 @@ pub fn pair_walk(
     )
 }
 
-// The whole walk from the root, which is the last node.
+// The limit squared of the walk: what it keeps is strictly below.
+fn walk_limit(rule: u32, limit: f32) -> f32
+    ensures { λ r. ⌜ r ≡ Marked.walkLimit (Rules.ruleOf rule) limit ⌝ }
+{
+    if rule == 2 {
+        return 1.0 / 0.0;
+    }
+    limit
+}
+
+// The squared distance that the walk starts from: by the first rule an infinite one, which stands for nothing.
+fn start_squared(rule: u32, limit: f32) -> f32
+    ensures { λ r. ⌜ r ≡ Marked.startSquared (Rules.ruleOf rule) limit ⌝ }
+{
+    if rule == 2 {
+        return limit;
+    }
+    1.0 / 0.0
+}
+
+// The whole walk from the root, which is the last node, by the rule.
 pub fn search(
     triangles: &[f32],
     order: &[u32],
@@ -201,17 +227,24 @@ pub fn search(
     boxes: &[f32],
     nodes: usize,
     probe: Probe,
+    rule: u32,
 ) -> Sought
     requires { ⌜ Calls.Searchable (now triangles) (now order) (now links) (now boxes) nodes ⌝ }
+    requires { ⌜ lt (probe .limit) (inf false) ≡ true ⌝ }
     ensures { λ r. ⌜ Values.asSought r
         ≡ Sure.sureWalk binary32 (now (triangles .entry)) (now (order .entry)) (now (links .entry)) (now (boxes .entry)) nodes (Shapes.asPoint (probe .point))
-        (probe .limit) ⌝ }
+        (record { rule = Rules.ruleOf rule; squared = probe .limit }) ⌝ }
 {
     let root = nodes - 1;
-    let four = [probe.point.x, probe.point.y, probe.point.z, probe.limit];
+    let four = [
+        probe.point.x,
+        probe.point.y,
+        probe.point.z,
+        walk_limit(rule, probe.limit),
+    ];
     let squared = node_squared(boxes, root, &four);
-    let mut best = [0.0, 0.0, 0.0, 1.0 / 0.0];
-    let mut number: u32 = 0;
+    let mut best = [0.0, 0.0, 0.0, start_squared(rule, probe.limit)];
+    let mut number = NO_TRIANGLE;
     let measured = node_walk(
         &triangles,
         &order,
@@ -225,7 +258,7 @@ pub fn search(
         &mut best,
         &mut number,
     );
-    let found = answer_of(&best, number);
+    let found = unmarked_answer(&best, number);
     Sought {
         best: found,
         measured,

@@ -28,7 +28,8 @@ put-answers-requires c κs =
     let known4 = after-query-refusal .before .before .before in
     let start = known4 .before .before .before .before in
     let a = start .args in
-    query-passed (a .triangles .now) (a .order .now) (a .links .now) (a .boxes .now) (a .nodes) (a .points .now) (a .distance) (length (a .answers .now))
+    query-passed (asQuery (a .query)) (a .triangles .now) (a .order .now) (a .links .now) (a .boxes .now) (a .nodes) (a .points .now)
+    (a .distance) (length (a .answers .now))
     (did-pass _ _ _ (after-query-refusal .query-refusal .ensures) (after-refuses .refuses .ensures) (c .before .if1 .left))
 
 returns-2 : tie.Need-returns-2

@@ -38,8 +38,11 @@ answer-at-requires c κs =
     let known4 = after-point-count .before .before .before in
     let start = known4 .before .before .before .before in (
       start .pre .0 .searchable,
-      rw (c .point-at .ensures) (point-finite _ (start .pre .0 .points-good .coordinates) _
-          (omega (arith, point-inside _ _ (rw (after-point-count .point-count .ensures) at (c .before .loop-test .taken))))),
+      (
+        rw (c .point-at .ensures) (point-finite _ (start .pre .0 .points-good .coordinates) _
+            (omega (arith, point-inside _ _ (rw (after-point-count .point-count .ensures) at (c .before .loop-test .taken))))),
+        start .pre .0 .distance-good,
+      ),
     )
 
 put-answer-requires : tie.Need-put-answer-requires Inv-loop μ-loop

@@ -1,5 +1,5 @@
--- `queries::calls::query_refusal` meets its contract: two tests and then, for triangles that passed, three more.
-use Rattle.spec_lists.proofs.Verdicts.{ends, or-test, row-stops, row-goes-on, row-passed}
+-- `queries::calls::query_refusal` meets its contract: the triangles' tests, two more, and then, for triangles that passed, three more.
+use Rattle.spec_lists.proofs.Verdicts.{ends, or-test, row-stops, row-goes-on, did-pass}
 use Rattle.spec_lists.proofs.Passed.{triangles-passed}
 use Rattle.spec_search.specs.Calls.{queryRefusal}
 use borrow.Author.Needs.{needs}
@@ -8,39 +8,46 @@ use Rattle.queries.proofs.calls.query_refusal.Tie as tie
 
 returns : tie.Need-returns
 unfolding queryRefusal
-returns c =
-    let early = c .before .before in
-    let counted = early .before .before in
-    row-stops _ _ _ _
-    (or-test _ _ _ _ _ (ends _ _ (counted .before .triangles-refusal .ensures))
-    (rw (counted .point-count .ensures) at (early .before .room-refusal .ensures)) (early .or .ensures))
-    (c .before .refuses .ensures) (c .if1 .taken)
-
-tree-refusal-requires : tie.Need-tree-refusal-requires
-tree-refusal-requires c κs =
-    let early = c .before .before in
-    let counted = early .before .before in
-    triangles-passed _ (row-passed _ _ _
-    (or-test _ _ _ _ _ (ends _ _ (counted .before .triangles-refusal .ensures))
-    (rw (counted .point-count .ensures) at (early .before .room-refusal .ensures)) (early .or .ensures))
-    (c .before .refuses .ensures) (c .if1 .left) .0) .few
+returns c = row-stops _ _ _ _ (ends _ _ (c .before .before .triangles-refusal .ensures)) (c .before .refuses .ensures) (c .if1 .taken)
 
 returns-2 : tie.Need-returns-2
 unfolding queryRefusal
 returns-2 c =
-    let late = c .before .before in
-    let tested = late .before .before .before in
-    let early = tested .before .before in
+    let early = c .before .before in
     let counted = early .before .before in
-    row-goes-on _ _ _ _ _
-    (or-test _ _ _ _ _ (ends _ _ (counted .before .triangles-refusal .ensures))
+    let chosen = counted .before .before in
+    row-goes-on _ _ _ _ _ (ends _ _ (chosen .before .before .triangles-refusal .ensures)) (chosen .before .refuses .ensures) (chosen .if1 .left)
+    (row-stops _ _ _ _
+    (or-test _ _ _ _ _ (ends _ _ (counted .before .rule-refusal-by .ensures))
     (rw (counted .point-count .ensures) at (early .before .room-refusal .ensures)) (early .or .ensures))
-    (tested .before .refuses .ensures) (tested .if1 .left)
-    (or-test _ _ _ _ _ (or-test _ _ _ _ _ (ends _ _ (late .before .before .tree-refusal .ensures)) (late .before .points-refusal .ensures) (late .or2 .ensures))
-    (c .before .distance-refusal .ensures) (c .or3 .ensures))
+    (c .before .refuses2 .ensures) (c .if2 .taken))
+
+tree-refusal-requires : tie.Need-tree-refusal-requires
+tree-refusal-requires c κs =
+    let counted = c .before .before .before .before in
+    let chosen = counted .before .before in
+    triangles-passed _ (did-pass _ _ _ (chosen .before .before .triangles-refusal .ensures) (chosen .before .refuses .ensures) (chosen .if1 .left)) .few
+
+returns-3 : tie.Need-returns-3
+unfolding queryRefusal
+returns-3 c =
+    let late = c .before .before in
+    let passed = late .before .before .before in
+    let early = passed .before .before in
+    let counted = early .before .before in
+    let chosen = counted .before .before in
+    row-goes-on _ _ _ _ _ (ends _ _ (chosen .before .before .triangles-refusal .ensures)) (chosen .before .refuses .ensures) (chosen .if1 .left)
+    (row-goes-on _ _ _ _ _
+    (or-test _ _ _ _ _ (ends _ _ (counted .before .rule-refusal-by .ensures))
+    (rw (counted .point-count .ensures) at (early .before .room-refusal .ensures)) (early .or .ensures))
+    (passed .before .refuses2 .ensures) (passed .if2 .left)
+    (or-test _ _ _ _ _
+    (or-test _ _ _ _ _ (ends _ _ (late .before .before .tree-refusal .ensures)) (late .before .points-refusal .ensures) (late .or2 .ensures))
+    (c .before .distance-refusal .ensures) (c .or3 .ensures)))
 
 pub query-refusal-spec : {M : Type 1} → statement M
 query-refusal-spec =
     tie.close
-    (tie.spec (λ c κs. search needs) (λ c κs. search needs) (λ c κs. search needs) (λ c κs. search needs) (λ c κs. search needs) returns
-    tree-refusal-requires (λ c κs. search needs) (λ c κs. search needs) (λ c κs. search needs) (λ c κs. search needs) returns-2)
+    (tie.spec (λ c κs. search needs) (λ c κs. search needs) returns (λ c κs. search needs) (λ c κs. search needs) (λ c κs. search needs)
+    (λ c κs. search needs) (λ c κs. search needs) returns-2 tree-refusal-requires (λ c κs. search needs) (λ c κs. search needs)
+    (λ c κs. search needs) (λ c κs. search needs) returns-3)

@@ -1,6 +1,6 @@
 -- `walks::kept::does_count` meets its contract: the comparison is the definition.
 use mathlib.Core.Path.{refl}
-use Rattle.spec_search.specs.Sure.{counts}
+use Rattle.spec_search.specs.Rules.{counts}
 use Rattle.walks.proofs.kept.does_count.Statement.{statement}
 use Rattle.walks.proofs.kept.does_count.Tie as tie
 

@@ -9,7 +9,7 @@ use Rattle.spec_lists.specs.Reading.{triangleAt}
 use Rattle.spec_search.specs.Answers.{Hit}
 use Rattle.spec_search.specs.Sure.{hit, offered, tookSure}
 use Rattle.spec_search.specs.Source.{sourceHit, keepSmaller, tookSource}
-use Rattle.spec_search.specs.Kept.{kept}
+use Rattle.spec_search.specs.Kept.{kept, below}
 use Rattle.walks.specs.Values.{asHit, pointOf, fourthOf, hitOf}
 use borrow.Author.Needs.{needs}
 use Rattle.walks.proofs.leaf.measure.Statement.{statement}
@@ -40,7 +40,7 @@ returns c =
     after-hit-at .hit-at .ensures ∙ ap (λ (x : Point). seen (asPoint (after-held .held .result)) x (a .t)) (after-point-of .point-of .ensures)
     ∙ ap (λ (q : Point). seen q p (a .t)) point in
     rw (told .enum-told .given .1)
-    (c .offer .ensures ∙ ap (λ (h : Hit). offered (fourthOf (a .probe .now)) h (kept (hitOf (a .best .now) (a .number .now)))) is)
+    (c .offer .ensures ∙ ap (λ (h : Hit). offered (below (fourthOf (a .probe .now))) h (kept (hitOf (a .best .now) (a .number .now)))) is)
 
 returns-2 : tie.Need-returns-2
 unfolding tookSource sourceHit

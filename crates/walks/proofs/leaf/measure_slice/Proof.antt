@@ -9,7 +9,7 @@ use Rattle.spec_lists.proofs.Reading.{triangle-inside}
 use Rattle.spec_search.specs.Walk.{tookAll}
 use Rattle.spec_search.specs.Kept.{tookBy}
 use Rattle.spec_search.proofs.Turns.{one-more, none-remaining}
-use Rattle.walks.specs.Values.{asQuery, pointOf, fourthOf, soughtOf}
+use Rattle.walks.specs.Values.{asMeasures, pointOf, fourthOf, soughtOf}
 use borrow.Author.Needs.{needs}
 use Rattle.walks.proofs.leaf.measure_slice.Statement.{statement}
 use Rattle.walks.proofs.leaf.measure_slice.Tie as tie
@@ -21,20 +21,20 @@ one-more-counted : (n i : ℕ) → n + (i + 1) ≡ n + i + 1
 one-more-counted n i = omega arith
 
 abbrev Inv-loop : tie.InvT-loop
-Inv-loop triangles slice probe query measured best₀ number₀ i₀ best number i =
+Inv-loop triangles slice probe measures measured best₀ number₀ i₀ best number i =
     (i ≤ length slice)
-    × (tookAll (tookBy (asQuery query) binary32 triangles (pointOf probe) (fourthOf probe)) (drop i slice) (soughtOf best number (measured + i))
-    ≡ tookAll (tookBy (asQuery query) binary32 triangles (pointOf probe) (fourthOf probe)) slice (soughtOf best₀ number₀ measured))
+    × (tookAll (tookBy (asMeasures measures) binary32 triangles (pointOf probe) (fourthOf probe)) (drop i slice) (soughtOf best number (measured + i))
+    ≡ tookAll (tookBy (asMeasures measures) binary32 triangles (pointOf probe) (fourthOf probe)) slice (soughtOf best₀ number₀ measured))
 
 abbrev μ-loop : tie.MeasureT-loop
-μ-loop triangles slice probe query measured best₀ number₀ i₀ best number i = length slice - i
+μ-loop triangles slice probe measures measured best₀ number₀ i₀ best number i = length slice - i
 
 loop-holds : tie.Need-loop-holds Inv-loop μ-loop
 loop-holds c =
     let a = c .before .before .args in (
       omega arith,
-      ap (λ (n : ℕ). tookAll (tookBy (asQuery (a .query)) binary32 (a .triangles .now) (pointOf (a .probe .now)) (fourthOf (a .probe .now))) (a .slice .now)
-          (soughtOf (a .best .now) (a .number .now) n)) (plus-none (a .measured)),
+      ap (λ (n : ℕ). tookAll (tookBy (asMeasures (a .measures)) binary32 (a .triangles .now) (pointOf (a .probe .now)) (fourthOf (a .probe .now)))
+          (a .slice .now) (soughtOf (a .best .now) (a .number .now) n)) (plus-none (a .measured)),
     )
 
 measure-requires : tie.Need-measure-requires Inv-loop μ-loop
@@ -53,7 +53,7 @@ loop-again c =
     let loop = turn .loop in
     let next = one-more-counted (a .measured) (loop .i) in (
       omega arith,
-      one-more (tookBy (asQuery (a .query)) binary32 (a .triangles .now) (pointOf (a .probe .now)) (fourthOf (a .probe .now))) (a .slice .now) (loop .i)
+      one-more (tookBy (asMeasures (a .measures)) binary32 (a .triangles .now) (pointOf (a .probe .now)) (fourthOf (a .probe .now))) (a .slice .now) (loop .i)
           (soughtOf (loop .best) (loop .number) (a .measured + loop .i)) _
           (soughtOf (a .best .now) (a .number .now) (a .measured)) (tested .loop-test .taken)
           (λ j. record { best = c .measure .ensures j; measured = next j }) (loop .inv .1),
@@ -63,8 +63,8 @@ returns : tie.Need-returns Inv-loop μ-loop
 returns c =
     let a = c .before .before .before .before .args in
     let loop = c .before .loop in
-    none-remaining (tookBy (asQuery (a .query)) binary32 (a .triangles .now) (pointOf (a .probe .now)) (fourthOf (a .probe .now))) (a .slice .now) (loop .i)
-    (soughtOf (loop .best) (loop .number) (a .measured + loop .i))
+    none-remaining (tookBy (asMeasures (a .measures)) binary32 (a .triangles .now) (pointOf (a .probe .now)) (fourthOf (a .probe .now))) (a .slice .now)
+    (loop .i) (soughtOf (loop .best) (loop .number) (a .measured + loop .i))
     (soughtOf (a .best .now) (a .number .now) (a .measured)) (loop .inv .0) (c .loop-test .left) (loop .inv .1)
 
 pub measure-slice-spec : {M : Type 1} → statement M
