@@ -45,11 +45,14 @@ fn bytes(records: &[Record]) -> Vec<u8> {
     out
 }
 
-/// The sizes of the bodies, or where the first wrong record starts.
-fn layout(case: &[u8], wanted: [(u16, Test); 4]) -> Result<Vec<usize>, usize> {
+/// The sizes of the bodies, or where the first wrong record starts. What comes behind the first four may be left out.
+fn layout<const N: usize>(case: &[u8], wanted: [(u16, Test); N]) -> Result<Vec<usize>, usize> {
     let mut bodies: Vec<Vec<u8>> = Vec::new();
     let mut rest = case;
     for (kind, test) in wanted {
+        if bodies.len() == 4 && rest.is_empty() {
+            break;
+        }
         let start = case.len() - rest.len();
         let Some((header, tail)) = rest.split_at_checked(6) else { return Err(start) };
         let size = u32::from_le_bytes(header[..4].try_into().unwrap()) as usize;
@@ -72,9 +75,10 @@ fn is_triangles(b: &[Vec<u8>]) -> bool {
     b[1].len() % 36 == 0 && (b[0][0] == 2) == (b[1].len() / 36 > 4096)
 }
 
-fn line(out: &mut String, layout: Result<[usize; 2], usize>) {
+/// Triangles, nodes or points, and how many rules there are.
+fn line(out: &mut String, layout: Result<[usize; 3], usize>) {
     match layout {
-        Ok([triangles, others]) => writeln!(out, "triangles {triangles} nodes {others} depth 0"),
+        Ok([triangles, others, rules]) => writeln!(out, "triangles {triangles} nodes {others} depth {rules}"),
         Err(at) => writeln!(out, "refused 10 {at}"),
     }
     .unwrap();
@@ -174,9 +178,9 @@ fn rewriting(case: &[u8], sizes: &[usize]) -> String {
 
 fn expected(out: &mut String, case: &[u8]) {
     let as_image = layout(case, [(1, is_settings), (2, is_triangles), (3, |b| 18 * b[2].len() == b[1].len()), (4, |b| b[3].len() % 30 == 0)]);
-    let as_input = layout(case, [(1, is_settings), (2, is_triangles), (5, |b| b[2].len() % 12 == 0), (6, |b| b[3].len() == 4)]);
-    line(out, as_image.as_ref().map(|s| [s[1] / 36, s[3] / 30]).map_err(|at| *at));
-    line(out, as_input.map(|s| [s[1] / 36, s[2] / 12]));
+    let as_input = layout(case, [(1, is_settings), (2, is_triangles), (5, |b| b[2].len() % 12 == 0), (6, |b| b[3].len() == 4), (7, |b| b[4].len() == 2)]);
+    line(out, as_image.as_ref().map(|s| [s[1] / 36, s[3] / 30, 0]).map_err(|at| *at));
+    line(out, as_input.map(|s| [s[1] / 36, s[2] / 12, s.len() - 4]));
     match as_image {
         Err(at) => writeln!(out, "refused 10 {at}"),
         Ok(s) if s[1] > 4 * 36 || s[3] > 7 * 30 => writeln!(out, "refused 6 0"),
@@ -219,6 +223,26 @@ fn trees(two: &[u32], all: &mut Vec<Vec<u8>>) {
         all.push(changed);
     }
     all.push(right);
+}
+
+/// An input with a rule: cut, of another length, of another kind, twice, with a byte behind it, before the distance.
+fn rules(all: &mut Vec<Vec<u8>>) {
+    let good = input(&[], &[]);
+    let with = |more: &[Record]| bytes(&[good.clone(), more.to_vec()].concat());
+    let rule: Record = (7, vec![2, 0]);
+    let right = with(&[rule.clone()]);
+    all.extend((bytes(&good).len()..=right.len()).map(|n| right[..n].to_vec()));
+    for size in [0, 1, 3, 4] {
+        all.push(with(&[(7, vec![1; size])]));
+    }
+    for kind in [6, 8, 0x0107] {
+        all.push(with(&[(kind, vec![2, 0])]));
+    }
+    all.push(with(&[rule.clone(), rule.clone()]));
+    all.push([right, b"\n".to_vec()].concat());
+    let mut before = good.clone();
+    before.insert(3, rule);
+    all.push(bytes(&before));
 }
 
 fn cases() -> Vec<Vec<u8>> {
@@ -278,6 +302,7 @@ fn cases() -> Vec<Vec<u8>> {
     none[0] = settings(2);
     all.push(bytes(&none));
     trees(&corners, &mut all);
+    rules(&mut all);
     all
 }
 

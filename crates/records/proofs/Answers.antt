@@ -5,9 +5,9 @@ use mathlib.Core.Bool.{Bool, true, false}
 use Prim.Native.Nat.{ℕ, _+_, _/_, _%_}
 use Rattle.spec_records.specs.Little.{littleAt}
 use Rattle.spec_records.specs.Records.{Wants, wrong, done, one, exactly, whole, sizeAt, isRecord, isRight, laidOut}
-use Rattle.spec_records.specs.Layouts.{versionFor, nodeSize, settingsRight, trianglesRight, opening, imageWants, imageSpans}
-use Rattle.spec_records.proofs.Records.{RightRecord, right-parts, Reached, reach-start, reach-wrong}
-use Rattle.spec_records.proofs.Layouts.{version-triangle, settings-right, triangles-wrong, triangles-whole, tree-wanted, image-spans}
+use Rattle.spec_records.specs.Layouts.{versionFor, nodeSize, settingsRight, trianglesRight, opening, imageWants, ruleWants, queryWants, gaugeWants, imageSpans}
+use Rattle.spec_records.proofs.Records.{RightRecord, right-parts, Reached, reach-start, reach-on, reach-wrong}
+use Rattle.spec_records.proofs.Layouts.{version-triangle, exactly-right, settings-right, triangles-wrong, triangles-whole, opened, tree-wanted, image-spans}
 use Rattle.records.specs.Values.{bodyIf, openingIf, openingOf, TreeNext}
 use Rattle.records.specs.declared.layout.Opening.the-variants as front
 use Rattle.records.specs.declared.bodies.Body.{Body}
@@ -98,3 +98,15 @@ module _ {s : List ℕ} {size order node : ℕ} (next : TreeNext s size order no
       let f : nodes % nodeSize (versionFor t) ≡ 0 = rw (← next .node-is) e in
       rw (next .order-is, next .node-is)
       (image-spans (versionFor t) size nodes (version-triangle t) (triangles-whole (littleAt 2 s 6) s 14 (o .triangles)) f)
+
+-- ---- behind the points of an input of `gauge`
+-- where the distance is right too, a rule may come next
+pub rule-next : {s : List ℕ} {size points : ℕ} → openingOf s ≡ front.Right size → RightRecord 5 (whole 12) s (20 + size) points
+    → isRight 6 (exactly 4) s (20 + size + 6 + points) ≡ true
+    → Reached gaugeWants s
+    (record { start = 6; size = 8 } ∷ record { start = 20; size = size } ∷ record { start = 20 + size + 6; size = points }
+    ∷ record { start = 20 + size + 6 + points + 6; size = 4 } ∷ [])
+    ruleWants (20 + size + 6 + points + 6 + 4)
+rule-next {s} {size} {points} e touched distance =
+    let o = is-opened s e in
+    reach-on (reach-on (opened queryWants (o .settings) (o .triangles)) touched) (exactly-right 6 4 s (20 + size + 6 + points) distance)

@@ -1,11 +1,13 @@
 -- No two layouts of the code stand for the same of the definitions.
-use mathlib.Core.Path.{_≡_, refl, sym, ap, ap₂, _∙_}
+use mathlib.Core.Path.{_≡_, refl, sym, ap, _∙_}
 use mathlib.Core.List.{List, [], _∷_}
+use mathlib.Core.Bool.{Bool, true, false}
 use Prim.Native.Nat.{ℕ, zero, suc, _*_, _/_}
 use native.Mathlib.Nat.{mul-div-cancel-left}
 use native.Mathlib.Omega.{arith}
+use lib.Dec.{ltb}
 use Rattle.spec_records.specs.Records.{Span, Layout, wrong, bodies}
-use Rattle.spec_records.specs.Layouts.{Shape, versionFor, nodeSize, imageSpans, gaugeSpans}
+use Rattle.spec_records.specs.Layouts.{Shape, versionFor, nodeSize, imageSpans, ruleSpans, gaugeSpans}
 use Rattle.spec_records.proofs.Layouts.{version-triangle}
 use Rattle.records.specs.declared.layout.ImageLayout.{ImageLayout}
 use Rattle.records.specs.declared.layout.ImageLayout.the-variants as image
@@ -40,16 +42,21 @@ pub image-unique : (a b : ImageLayout) → imageLaid a ≡ imageLaid b → a ≡
 image-unique a b e = sym (image-is a) ∙ ap backImage e ∙ image-is b
 
 -- ---- an input of `gauge`
+-- a rule's body is not empty, and there is none of size 0
 abbrev backGauge : Layout → GaugeLayout
 backGauge (wrong at) = gauge.Wrong at
-backGauge (bodies ss) = gauge.Right (sizeAt ss 1 / 36) (sizeAt ss 2 / 12)
+backGauge (bodies ss) = gauge.Right (sizeAt ss 1 / 36) (sizeAt ss 2 / 12) (ltb 0 (sizeAt ss 4))
 
 gauge-is : (a : GaugeLayout) → backGauge (gaugeLaid a) ≡ a
 unfolding gaugeSpans
-gauge-is (gauge.Right triangles points) = ap₂ gauge.Right (trianglesCounted triangles) (pointsCounted points)
+gauge-is (gauge.Right triangles points ruled) = rw (trianglesCounted triangles, pointsCounted points) (ap (gauge.Right triangles points) (told ruled))
   where
     pointsCounted : (n : ℕ) → 12 * n / 12 ≡ n
     pointsCounted n = omega arith
+
+    told : (ruled : Bool) → ltb 0 (sizeAt (ruleSpans triangles points ruled) 0) ≡ ruled
+    told true = refl
+    told false = refl
 gauge-is (gauge.Wrong at) = refl
 
 -- what the layout of an input stands for fixes it

@@ -37,5 +37,5 @@ imageLaid (image.Right triangles nodes) = bodies (imageSpans (versionFor triangl
 imageLaid (image.Wrong at) = wrong at
 
 abbrev pub gaugeLaid : GaugeLayout → Layout
-gaugeLaid (gauge.Right triangles points) = bodies (gaugeSpans triangles points)
+gaugeLaid (gauge.Right triangles points ruled) = bodies (gaugeSpans triangles points ruled)
 gaugeLaid (gauge.Wrong at) = wrong at

@@ -1,4 +1,5 @@
 // The records of an image and of an input of `gauge`, one behind the other, with nothing behind the last.
+// The last of an input, its measuring rule, may be left out.
 ghost use mathlib.Core.Path.{_≡_};
 ghost use Rattle.spec_records.specs.Records.{laidOut};
 ghost use Rattle.spec_records.specs.Layouts.{imageWants, gaugeWants};
@@ -19,9 +20,13 @@ pub enum ImageLayout {
     Wrong(usize),
 }
 
-// How many triangles and points there are, or the offset of the first wrong record.
+// How many triangles and points there are and whether there is a rule, or the offset of the first wrong record.
 pub enum GaugeLayout {
-    Right { triangles: usize, points: usize },
+    Right {
+        triangles: usize,
+        points: usize,
+        ruled: bool,
+    },
     Wrong(usize),
 }
 
@@ -94,13 +99,25 @@ fn query_layout(bytes: &[u8], triangles: usize) -> GaugeLayout
     if !has_body(bytes, fourth, 6, 4) {
         return GaugeLayout::Wrong(fourth);
     }
-    let end = fourth + 6 + 4;
+    let fifth = fourth + 6 + 4;
+    if fifth == bytes.len() {
+        return GaugeLayout::Right {
+            triangles: triangles / 36,
+            points: points / 12,
+            ruled: false,
+        };
+    }
+    if !has_body(bytes, fifth, 7, 2) {
+        return GaugeLayout::Wrong(fifth);
+    }
+    let end = fifth + 6 + 2;
     if end != bytes.len() {
         return GaugeLayout::Wrong(end);
     }
     GaugeLayout::Right {
         triangles: triangles / 36,
         points: points / 12,
+        ruled: true,
     }
 }
 

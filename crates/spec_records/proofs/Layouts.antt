@@ -310,10 +310,17 @@ unfolding imageSpans
 image-spans sh triangles nodes size a b =
     rw (size, whole-entries 36 triangles a, whole-entries (nodeSize sh) nodes b)
 
--- the bodies of gauge's input, by the sizes in its headers, are where its triangle and point counts put them
-pub gauge-spans : (triangles points : ℕ) → triangles % 36 ≡ 0 → points % 12 ≡ 0
-    → gaugeSpans (triangles / 36) (points / 12)
-    ≡ record { start = 6; size = 8 } ∷ record { start = 20; size = triangles } ∷ record { start = 20 + triangles + 6; size = points }
-    ∷ record { start = 20 + triangles + 6 + points + 6; size = 4 } ∷ []
-unfolding gaugeSpans
-gauge-spans triangles points a b = rw (whole-entries 36 triangles a, whole-entries 12 points b)
+module _ (triangles points : ℕ) (a : triangles % 36 ≡ 0) (b : points % 12 ≡ 0) where
+  -- the bodies of gauge's input, by the sizes in its headers, are where its triangle and point counts put them
+  pub gauge-spans : gaugeSpans (triangles / 36) (points / 12) false
+      ≡ record { start = 6; size = 8 } ∷ record { start = 20; size = triangles } ∷ record { start = 20 + triangles + 6; size = points }
+      ∷ record { start = 20 + triangles + 6 + points + 6; size = 4 } ∷ []
+  unfolding gaugeSpans
+  gauge-spans = rw (whole-entries 36 triangles a, whole-entries 12 points b)
+
+  -- and where there is a rule, its body stands behind them
+  pub ruled-spans : gaugeSpans (triangles / 36) (points / 12) true
+      ≡ record { start = 6; size = 8 } ∷ record { start = 20; size = triangles } ∷ record { start = 20 + triangles + 6; size = points }
+      ∷ record { start = 20 + triangles + 6 + points + 6; size = 4 } ∷ record { start = 20 + triangles + 6 + points + 6 + 4 + 6; size = 2 } ∷ []
+  unfolding gaugeSpans
+  ruled-spans = rw (whole-entries 36 triangles a, whole-entries 12 points b)

@@ -10,7 +10,7 @@ use lib.Dec.{leb, eqb}
 use Rattle.spec_tables.specs.Tables.{slice, Put}
 use Rattle.spec_tables.proofs.Tables.{put-same, put-then}
 use Rattle.spec_records.specs.Little.{littleAt}
-use Rattle.spec_records.specs.Records.{Span, Layout, wrong, bodies, Wants, done, one, sizeAt, bodyAt, isRecord, isRight, header, recordOf, behind, laidOut}
+use Rattle.spec_records.specs.Records.{Span, Layout, wrong, bodies, Wants, done, one, optional, sizeAt, bodyAt, isRecord, isRight, header, recordOf, behind, recordLaid, laidOut}
 use Rattle.spec_records.proofs.Little.{length-little}
 
 -- a test of two that passed is two tests that passed
@@ -94,6 +94,18 @@ laid-extra : (s : List ℕ) (at : ℕ) → (at ≡ length s → ⊥) → laidOut
 unfolding laidOut
 laid-extra s at more = rw (ne-eqb at (length s) more)
 
+-- at the end of the input an optional record is left out
+laid-left-out : (kind : ℕ) (test : List ℕ → Bool) (next : List ℕ → Wants) (s : List ℕ) (at : ℕ) → at ≡ length s
+    → laidOut (optional kind test next) s at ≡ bodies []
+unfolding laidOut
+laid-left-out kind test next s at e = rw (eq-eqb at (length s) e)
+
+-- anywhere else it is wanted as any other
+laid-wanted : (kind : ℕ) (test : List ℕ → Bool) (next : List ℕ → Wants) (s : List ℕ) (at : ℕ) → (at ≡ length s → ⊥)
+    → laidOut (optional kind test next) s at ≡ laidOut (one kind test next) s at
+unfolding laidOut
+laid-wanted kind test next s at more = rw (ne-eqb at (length s) more)
+
 -- ---- the records read so far
 -- the bodies read so far, in front of how the rest is laid out; a wrong rest stays wrong
 pub allBehind : List Span → Layout → Layout
@@ -143,6 +155,16 @@ module _ {all : Wants} {s : List ℕ} {passed : List Span} {at : ℕ} where
   pub reach-extra : Reached all s passed done at → (at ≡ length s → ⊥) → laidOut all s 0 ≡ wrong at
   reach-extra r more = r .so ∙ ap (allBehind passed) (laid-extra s at more) ∙ behind-wrong passed at
 
+  -- end: an optional record is left out where the input ends
+  pub reach-left-out : {kind : ℕ} {test : List ℕ → Bool} {next : List ℕ → Wants} → Reached all s passed (optional kind test next) at → at ≡ length s
+      → laidOut all s 0 ≡ bodies passed
+  reach-left-out {kind} {test} {next} r e = r .so ∙ ap (allBehind passed) (laid-left-out kind test next s at e) ∙ behind-none passed
+
+  -- bytes where an optional record may stand have to be that record
+  pub reach-wanted : {kind : ℕ} {test : List ℕ → Bool} {next : List ℕ → Wants} → Reached all s passed (optional kind test next) at → (at ≡ length s → ⊥)
+      → Reached all s passed (one kind test next) at
+  reach-wanted {kind} {test} {next} r more = record { so = r .so ∙ ap (allBehind passed) (laid-wanted kind test next s at more) }
+
 -- ---- the same backwards
 cond-back : (b : Bool) (l : Layout) (at : ℕ) (bs : List Span) → cond b l (wrong at) ≡ bodies bs → (b ≡ true) × (l ≡ bodies bs)
 cond-back true l at bs e = (refl, e)
@@ -173,6 +195,29 @@ one-back kind test next s at b rest e =
 pub done-back : (s : List ℕ) (at : ℕ) (bs : List Span) → laidOut done s at ≡ bodies bs → at ≡ length s
 unfolding laidOut
 done-back s at bs e = eqb-true at (length s) (cond-back (eqb at (length s)) (bodies []) at bs e .0)
+
+module _ (kind : ℕ) (test : List ℕ → Bool) (next : List ℕ → Wants) (s : List ℕ) (at : ℕ) where
+  -- a layout in which an optional record is left out is at the end of the input
+  pub left-out-back : laidOut (optional kind test next) s at ≡ bodies [] → at ≡ length s
+  unfolding laidOut
+  left-out-back e =
+      eqb-true at (length s) (go (eqb at (length s)) (isRight kind test s at) (laidOut (next (bodyAt s at)) s (at + 6 + sizeAt s at)) e)
+    where
+      go : (ended right : Bool) (l : Layout) → cond ended (bodies []) (recordLaid right s at l) ≡ bodies [] → ended ≡ true
+      go true right l e = refl
+      go false true (wrong _) e = cc
+      go false true (bodies bs) e = cc
+      go false false l e = cc
+
+  -- a layout that has it has a right record there, as any other
+  pub optional-back : (b : Span) (rest : List Span) → laidOut (optional kind test next) s at ≡ bodies (b ∷ rest)
+      → OneBack kind test next s at (b .size) rest
+  unfolding laidOut
+  optional-back b rest e = one-back kind test next s at b rest (go (eqb at (length s)) _ e)
+    where
+      go : (ended : Bool) (l : Layout) → cond ended (bodies []) l ≡ bodies (b ∷ rest) → l ≡ bodies (b ∷ rest)
+      go true l e = cc
+      go false l e = e
 
 -- ---- lengths
 length-header : (size kind : ℕ) → length (header size kind) ≡ 6

@@ -8,7 +8,7 @@ use lib.Dec.{ltb, eqb}
 use lib.Ieee.{Format, binary32}
 use Rattle.spec_records.specs.Little.{littleAt}
 use Rattle.spec_records.specs.Entries.{floatSize}
-use Rattle.spec_records.specs.Records.{Span, Wants, done, one, exactly, whole}
+use Rattle.spec_records.specs.Records.{Span, Wants, done, one, optional, exactly, whole}
 
 -- ---- versions
 -- a version of the image: how many bytes an order entry and a node's left and right take, the format of its floats,
@@ -74,9 +74,13 @@ treeWants sh t = one 3 (exactly (sh .entry * t)) (λ _. one 4 (whole (nodeSize s
 abbrev pub imageWants : Wants
 imageWants = opening (λ triangles. treeWants (versionFor (trianglesOf triangles)) (trianglesOf triangles))
 
+-- 7: the measuring rule, which may be left out
+abbrev pub ruleWants : Wants
+ruleWants = optional 7 (exactly 2) (λ _. done)
+
 -- 5 and 6: points, and the search distance
 abbrev pub queryWants : List ℕ → Wants
-queryWants triangles = one 5 (whole 12) (λ _. one 6 (exactly 4) (λ _. done))
+queryWants triangles = one 5 (whole 12) (λ _. one 6 (exactly 4) (λ _. ruleWants))
 
 abbrev pub gaugeWants : Wants
 gaugeWants = opening queryWants
@@ -106,10 +110,18 @@ pointsStart t = 20 + 36 * t + 6
 abbrev pub distanceStart : ℕ → ℕ → ℕ
 distanceStart t p = pointsStart t + 12 * p + 6
 
-unfoldable pub gaugeSpans : ℕ → ℕ → List Span
-gaugeSpans t p =
+abbrev pub ruleStart : ℕ → ℕ → ℕ
+ruleStart t p = distanceStart t p + 4 + 6
+
+-- the rule's body, where there is one
+abbrev pub ruleSpans : ℕ → ℕ → (ruled : Bool) → List Span
+ruleSpans t p false = []
+ruleSpans t p true = record { start = ruleStart t p; size = 2 } ∷ []
+
+unfoldable pub gaugeSpans : ℕ → ℕ → (ruled : Bool) → List Span
+gaugeSpans t p ruled =
     record { start = 6; size = 8 }
     ∷ record { start = 20; size = 36 * t }
     ∷ record { start = pointsStart t; size = 12 * p }
     ∷ record { start = distanceStart t p; size = 4 }
-    ∷ []
+    ∷ ruleSpans t p ruled

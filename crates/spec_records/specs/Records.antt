@@ -18,10 +18,11 @@ pub data Layout : Type 0 where
   wrong : ℕ → Layout
   bodies : List Span → Layout
 
--- the end of the input; or a record of a kind whose body passes a test, and what is wanted behind that body
+-- the end of the input; or a record of a kind whose body passes a test, and what is wanted behind that body; or either of the two
 pub data Wants : Type 0 where
   done : Wants
   one : ℕ → (List ℕ → Bool) → (List ℕ → Wants) → Wants
+  optional : ℕ → (List ℕ → Bool) → (List ℕ → Wants) → Wants
 
 -- ---- tests of a body
 abbrev pub exactly : ℕ → List ℕ → Bool
@@ -59,10 +60,15 @@ abbrev pub behind : Span → Layout → Layout
 behind b (wrong at) = wrong at
 behind b (bodies bs) = bodies (b ∷ bs)
 
+-- the body of a right record in front of how the rest is laid out; a record that is not right is the first wrong one
+abbrev pub recordLaid : (right : Bool) → List ℕ → ℕ → Layout → Layout
+recordLaid right s at rest = cond right (behind (record { start = at + 6; size = sizeAt s at }) rest) (wrong at)
+
 -- the records from a place on, up to the end of the input: extra bytes are wrong too
 unfoldable pub laidOut : Wants → List ℕ → ℕ → Layout
 laidOut done s at = cond (eqb at (length s)) (bodies []) (wrong at)
-laidOut (one kind test next) s at =
-    cond (isRight kind test s at)
-    (behind (record { start = at + 6; size = sizeAt s at }) (laidOut (next (bodyAt s at)) s (at + 6 + sizeAt s at)))
-    (wrong at)
+laidOut (one kind test next) s at = recordLaid (isRight kind test s at) s at (laidOut (next (bodyAt s at)) s (at + 6 + sizeAt s at))
+laidOut (optional kind test next) s at =
+    cond (eqb at (length s))
+    (bodies [])
+    (recordLaid (isRight kind test s at) s at (laidOut (next (bodyAt s at)) s (at + 6 + sizeAt s at)))

@@ -31,16 +31,22 @@ fn image_line(bytes: &[u8], line: &mut [u8; 96]) -> usize {
     }
 }
 
+fn one_if(told: bool) -> usize {
+    if told {
+        return 1;
+    }
+    0
+}
+
+// The third count is 1 where there is a measuring rule.
 fn gauge_line(bytes: &[u8], line: &mut [u8; 96]) -> usize {
     match records::layout::gauge_layout(bytes) {
         GaugeLayout::Wrong(at) => printing::lines::put_refused(line, 0, 10, at),
-        GaugeLayout::Right { triangles, points } => printing::lines::put_counts(
-            line,
-            0,
+        GaugeLayout::Right {
             triangles,
             points,
-            0,
-        ),
+            ruled,
+        } => printing::lines::put_counts(line, 0, triangles, points, one_if(ruled)),
     }
 }
 
