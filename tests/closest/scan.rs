@@ -1,7 +1,7 @@
 //! The sure query as a plain scan, written from the scope document alone, std only: for each triangle
 //! the computed closest point, corner a where a coordinate is not finite, held into the triangle's
-//! box, zeros plus zero; the smallest squared distance strictly below the limit squared, the lowest
-//! number among equals.
+//! box, zeros plus zero; the smallest squared distance that counts by the rule, the lowest number
+//! among equals.
 
 pub type V = [f32; 3];
 
@@ -67,16 +67,30 @@ pub fn held(t: &[V; 3], p: V) -> V {
     q
 }
 
-/// The triangle's number, the point and its squared distance.
-pub fn scan(tris: &[[V; 3]], p: V, distance: f32) -> Option<(u32, V, f32)> {
-    let limit = distance * distance;
-    let mut best: Option<(u32, V, f32)> = None;
+/// Whether a squared distance counts: by rule 1 strictly below the limit squared, by rule 2 below or equal.
+fn counts(d: f32, limit: f32, rule: u32) -> bool {
+    match rule {
+        1 => d < limit,
+        2 => d <= limit,
+        _ => panic!("there is no rule {}", rule),
+    }
+}
+
+/// The triangle's number, the point and its squared distance, for each search distance with its rule.
+pub fn scan_each<const N: usize>(tris: &[[V; 3]], p: V, asked: [(f32, u32); N]) -> [Option<(u32, V, f32)>; N] {
+    let mut best: [Option<(u32, V, f32)>; N] = [None; N];
     for (k, t) in tris.iter().enumerate() {
         let q = held(t, p);
         let d = dot(sub(q, p), sub(q, p));
-        if d < limit && best.map_or(true, |b| d < b.2) {
-            best = Some((k as u32, q, d));
+        for (best, (distance, rule)) in best.iter_mut().zip(asked) {
+            if counts(d, distance * distance, rule) && best.map_or(true, |b| d < b.2) {
+                *best = Some((k as u32, q, d));
+            }
         }
     }
     best
+}
+
+pub fn scan(tris: &[[V; 3]], p: V, distance: f32, rule: u32) -> Option<(u32, V, f32)> {
+    scan_each(tris, p, [(distance, rule)])[0]
 }

@@ -2,6 +2,7 @@
 //! scope document:  rustc -O tests/gauge/main.rs -o target/cases && target/cases CASES ANSWERS
 //! CASES holds each input behind its length (u32, little-endian), ANSWERS the printed text.
 
+#[allow(dead_code)]
 #[path = "../closest/scan.rs"]
 mod scan;
 mod reading;
@@ -218,6 +219,111 @@ fn long(cases: &mut Vec<Vec<u8>>, random: &mut Random) {
     cases.push(document().input().into_iter().cycle().take(32769).collect());
 }
 
+fn rule(number: u16) -> Vec<u8> {
+    record(7, number.to_le_bytes().to_vec())
+}
+
+/// The same run without a rule and with each.
+fn each_rule(cases: &mut Vec<Vec<u8>>, run: &Run) {
+    cases.push(run.input());
+    for number in [1, 2] {
+        cases.push([run.input(), rule(number)].concat());
+    }
+}
+
+/// What tells a rule, and what stands where one may be told.
+fn rules(cases: &mut Vec<Vec<u8>>) {
+    let good = document().input();
+    for number in [0, 1, 2, 3, 4, 255, 256, 257, 258, 512, 65535] {
+        cases.push([good.clone(), rule(number)].concat());
+    }
+    // as far as the document's first point is from both triangles, and a step more and less
+    for distance in [4.5f32, f32::from_bits(4.5f32.to_bits() + 1), f32::from_bits(4.5f32.to_bits() - 1)] {
+        each_rule(cases, &Run { distance, ..document() });
+    }
+    // on the surface, at a corner, on an edge, beside it and at the least distance that a square holds
+    let points = vec![0.25, 0.25, 0.0, 1.0, 0.0, 0.0, 0.5, 0.0, 0.0, 0.5, -1e-20, 0.0, 0.5, -1e-22, 0.0, 0.5, -1e-30, 0.0, -0.0, -0.0, 1.0];
+    for distance in [0.0, -0.0, 1e-20, 1e-22, 1e-30, f32::from_bits(1), 1.0] {
+        each_rule(cases, &Run { points: points.clone(), distance, ..document() });
+    }
+    // as far as it may be told
+    let far = vec![1048576.0, 0.0, 0.0, -1048576.0, 1048576.0, -1048576.0];
+    for distance in [1048565.0, 4194304.0] {
+        each_rule(cases, &Run { points: far.clone(), distance, ..document() });
+    }
+    // a body of another length, with its length and without
+    for size in [0, 1, 3, 4, 6, 12] {
+        cases.push([good.clone(), record(7, vec![1; size])].concat());
+        let mut told = rule(1);
+        told[..4].copy_from_slice(&(size as u32).to_le_bytes());
+        cases.push([good.clone(), told].concat());
+    }
+    for size in [0x100u32, 0x0200, 0x7fff_ffff, 0xffff_fffa, 0xffff_ffff] {
+        let mut told = rule(1);
+        told[..4].copy_from_slice(&size.to_le_bytes());
+        cases.push([good.clone(), told].concat());
+    }
+    // of another kind
+    for kind in [0u16, 1, 2, 3, 4, 5, 6, 8, 0x0107, 0x0700, 65535] {
+        cases.push([good.clone(), record(kind, vec![1, 0])].concat());
+    }
+    // cut at every byte, and with bytes behind it
+    for n in 1..8 {
+        cases.push([good.clone(), rule(2)[..n].to_vec()].concat());
+        cases.push([good.clone(), rule(2), rule(2)[..n].to_vec()].concat());
+        cases.push([good.clone(), rule(2), vec![0; n]].concat());
+    }
+    cases.push([good.clone(), rule(2), vec![10]].concat());
+    cases.push([good.clone(), rule(2), good.clone()].concat());
+    // twice, and before another record
+    cases.push([good.clone(), rule(1), rule(1)].concat());
+    cases.push([good.clone(), rule(1), rule(2)].concat());
+    for i in 0..4 {
+        let mut turned = document().records();
+        turned.insert(i, rule(2));
+        cases.push(turned.concat());
+        let mut instead = document().records();
+        instead[i] = rule(2);
+        cases.push(instead.concat());
+    }
+}
+
+/// A rule that there is not, with each other refusal.
+fn rules_with_others(cases: &mut Vec<Vec<u8>>) {
+    let mut corner = document();
+    corner.triangles[7] = f32::NAN;
+    let mut touched = document();
+    touched.points[4] = f32::INFINITY;
+    for number in [0, 1, 2, 3] {
+        for run in [
+            Run { triangles: vec![], ..document() },
+            Run { triangles: vec![], version: 2, ..document() },
+            Run { triangles: corner.triangles.clone(), ..document() },
+            Run { triangles: corner.triangles.clone(), settings: [3, 1, 40], points: touched.points.clone(), distance: -1.0, ..document() },
+            Run { settings: [3, 1, 40], ..document() },
+            Run { settings: [1, 4097, 40], ..document() },
+            Run { settings: [1, 1, 65], points: touched.points.clone(), ..document() },
+            Run { points: touched.points.clone(), ..document() },
+            Run { points: touched.points.clone(), distance: f32::NAN, ..document() },
+            Run { points: vec![], ..document() },
+            Run { distance: -1.0, ..document() },
+        ] {
+            cases.push([run.input(), rule(number)].concat());
+        }
+    }
+}
+
+/// As long as they may be with a rule, and longer.
+fn long_with_rules(cases: &mut Vec<Vec<u8>>, random: &mut Random) {
+    for (triangles, points) in [(909, 0), (1, 2724)] {
+        let whole = random.run(triangles, points).input();
+        assert_eq!(whole.len() + 8, 32768);
+        cases.push([whole.clone(), rule(2)].concat());
+        cases.push([whole.clone(), rule(3)].concat());
+        cases.push([whole.clone(), rule(2), vec![0]].concat());
+    }
+}
+
 fn main() {
     let paths: Vec<String> = std::env::args().skip(1).collect();
     let mut cases = Vec::new();
@@ -231,6 +337,18 @@ fn main() {
         cases.push(random.run(triangles, points).input());
     }
     long(&mut cases, &mut random);
+    rules(&mut cases);
+    rules_with_others(&mut cases);
+    long_with_rules(&mut cases, &mut random);
+    // on a grid of whole numbers many points are exactly at the distance
+    for _ in 0..100 {
+        let (triangles, points) = (1 + random.next(8), 1 + random.next(6));
+        let mut run = random.run(triangles, points);
+        run.triangles = (0..9 * triangles).map(|_| random.coordinate(0)).collect();
+        run.points = (0..3 * points).map(|_| random.coordinate(0)).collect();
+        run.distance = random.next(4) as f32;
+        each_rule(&mut cases, &run);
+    }
     let mut inputs = std::fs::File::create(&paths[0]).unwrap();
     let mut answers = std::fs::File::create(&paths[1]).unwrap();
     for case in &cases {

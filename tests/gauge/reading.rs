@@ -17,11 +17,15 @@ fn f32s(body: &[u8]) -> Vec<f32> {
     body.chunks(4).map(|b| f32::from_bits(u32_at(b, 0))).collect()
 }
 
-/// The four bodies, or the offset of the first wrong record.
+/// The four bodies, and the rule's if it is told; or the offset of the first wrong record.
 fn records(s: &[u8]) -> Result<Vec<&[u8]>, usize> {
     let mut at = 0;
     let mut bodies: Vec<&[u8]> = Vec::new();
-    for kind in [1, 2, 5, 6] {
+    for kind in [1, 2, 5, 6, 7] {
+        // the rule may be left out
+        if kind == 7 && at == s.len() {
+            break;
+        }
         if s.len() - at < 6 {
             return Err(at);
         }
@@ -35,7 +39,8 @@ fn records(s: &[u8]) -> Result<Vec<&[u8]>, usize> {
             // version 1 keeps up to 4,096 triangles, version 2 more
             2 => size % 36 == 0 && (size / 36 <= 4096) == (u16_at(bodies[0], 0) == 1),
             5 => size % 12 == 0,
-            _ => size == 4,
+            6 => size == 4,
+            _ => size == 2,
         };
         if !right {
             return Err(at);
@@ -166,6 +171,7 @@ pub fn printed(s: &[u8]) -> String {
     let numbers = f32s(bodies[1]);
     let coordinates = f32s(bodies[2]);
     let distance = f32s(bodies[3])[0];
+    let rule = if bodies.len() == 5 { u16_at(bodies[4], 0) } else { 1 };
     let (strategy, leaf_minimum, maximum_depth) = (u16_at(bodies[0], 2), u16_at(bodies[0], 4), u16_at(bodies[0], 6));
     if numbers.is_empty() {
         return refused(2, 0);
@@ -174,6 +180,9 @@ pub fn printed(s: &[u8]) -> String {
         return refused(4, i);
     }
     if !(1..=2).contains(&strategy) || !(1..=4096).contains(&leaf_minimum) || maximum_depth > 64 {
+        return refused(5, 0);
+    }
+    if rule != 1 && rule != 2 {
         return refused(5, 0);
     }
     if let Some(i) = first_bad(&coordinates) {
@@ -188,7 +197,7 @@ pub fn printed(s: &[u8]) -> String {
     let (nodes, depth) = grown(&mut boxes, strategy, leaf_minimum, maximum_depth, 1);
     let mut out = format!("triangles {} nodes {} depth {}\n", triangles.len(), nodes, depth);
     for (k, c) in coordinates.chunks(3).enumerate() {
-        match scan(&triangles, point(c), distance) {
+        match scan(&triangles, point(c), distance, rule as u32) {
             None => out += &format!("{k} nothing\n"),
             Some((t, q, d)) => {
                 out += &format!("{k} found {t} {:08x} {:08x} {:08x} {:08x}\n", q[0].to_bits(), q[1].to_bits(), q[2].to_bits(), d.to_bits())

@@ -9,6 +9,7 @@ use lists::tests::distance_refusal;
 use lists::tests::points_refusal;
 use lists::tests::triangles_refusal;
 use lists::verdict::Verdict;
+use queries::rules::rule_refusal;
 
 // The first of the tests 1 to 5, 8 and 9 that refuses.
 pub fn request_refusal(
@@ -16,13 +17,20 @@ pub fn request_refusal(
     settings: Settings,
     points: &[f32],
     distance: f32,
+    rule: u32,
 ) -> Verdict
-    ensures { λ r. ⌜ asVerdict r
-        ≡ requestRefusal (record { settings = asSettings settings; triangles = now (triangles .entry); points = now (points .entry); distance = distance }) ⌝ }
+    ensures { λ r. ⌜ asVerdict r ≡ requestRefusal (record {
+      settings = asSettings settings;
+      triangles = now (triangles .entry);
+      points = now (points .entry);
+      distance = distance;
+      rule = rule;
+    }) ⌝ }
 {
     triangles_refusal(triangles)
         .or(settings_refusal(settings))
         .or(leaf_refusal(false, settings))
+        .or(rule_refusal(rule))
         .or(points_refusal(points))
         .or(distance_refusal(distance))
 }

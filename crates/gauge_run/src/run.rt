@@ -7,8 +7,9 @@ ghost use Rattle.spec_tables.specs.Tables.{Put};
 ghost use Rattle.spec_lists.specs.Reading.{pointCount};
 ghost use Rattle.spec_lists.specs.Refusals.{passes};
 ghost use Rattle.lists.specs.Values.{asSettings};
+ghost use Rattle.spec_search.specs.Answers.{sure};
 ghost use Rattle.spec_search.specs.Calls.{queryRefusal};
-ghost use Rattle.spec_gauge.specs.Printed.{Fits, maxBytes, maxPrinted, requestIn, requestRefusal, treeLine, answerLines, printedRun, printed};
+ghost use Rattle.spec_gauge.specs.Printed.{Fits, maxBytes, inputSize, maxPrinted, ruleIn, requestIn, requestRefusal, treeLine, answerLines, printedRun, printed};
 use crate::answer_lines::put_answer_lines;
 use crate::request::request_refusal;
 use build::calls::Built;
@@ -25,6 +26,7 @@ use queries::calls::sure_query;
 use records::entries::read_f32s;
 use records::layout::GaugeLayout;
 use records::layout::gauge_layout;
+use records::numbers::u16_at;
 use records::numbers::u32_at;
 
 // Writes one line a point, by sure queries over a tree that passes the tree check.
@@ -36,12 +38,13 @@ fn put_answers(
     nodes: usize,
     points: &[f32],
     distance: f32,
+    rule: u32,
     out: &mut [u8],
     at: usize,
 ) -> usize
-    requires { ⌜ queryRefusal (now triangles) (now order) (now links) (now boxes) nodes (now points) distance 16380 ≡ passes ⌝ }
+    requires { ⌜ queryRefusal (sure rule) (now triangles) (now order) (now links) (now boxes) nodes (now points) distance 16380 ≡ passes ⌝ }
     requires { ⌜ at + 84 * pointCount (now points) ≤ length (now out) ⌝ }
-    ensures { λ r. ⌜ Put at (answerLines (now (triangles .entry)) (now (points .entry)) distance) (now (out .entry)) (now (out .exit)) r ⌝ }
+    ensures { λ r. ⌜ Put at (answerLines (now (triangles .entry)) (now (points .entry)) distance rule) (now (out .entry)) (now (out .exit)) r ⌝ }
 {
     let mut answers = [0u32; 16380];
     sure_query(
@@ -52,6 +55,7 @@ fn put_answers(
         nodes,
         points,
         distance,
+        rule,
         &mut answers,
     );
     put_answer_lines(&answers, point_count(points), out, at)
@@ -63,11 +67,19 @@ fn put_run(
     settings: Settings,
     points: &[f32],
     distance: f32,
+    rule: u32,
     out: &mut [u8],
 ) -> usize
-    requires { ⌜ requestRefusal (record { settings = asSettings settings; triangles = now triangles; points = now points; distance = distance }) ≡ passes ⌝ }
+    requires { ⌜ requestRefusal (record {
+      settings = asSettings settings;
+      triangles = now triangles;
+      points = now points;
+      distance = distance;
+      rule = rule;
+    }) ≡ passes ⌝ }
     requires { ⌜ Fits (now triangles) (now points) (now out) ⌝ }
-    ensures { λ r. ⌜ Put 0 (treeLine (now (triangles .entry)) (asSettings settings) ++ answerLines (now (triangles .entry)) (now (points .entry)) distance)
+    ensures { λ r. ⌜ Put 0
+        (treeLine (now (triangles .entry)) (asSettings settings) ++ answerLines (now (triangles .entry)) (now (points .entry)) distance rule)
         (now (out .entry)) (now (out .exit)) r ⌝ }
 {
     let mut order = [0u32; 909];
@@ -100,6 +112,7 @@ fn put_run(
         nodes,
         points,
         distance,
+        rule,
         out,
         next,
     )
@@ -111,25 +124,43 @@ fn print_request(
     settings: Settings,
     points: &[f32],
     distance: f32,
+    rule: u32,
     out: &mut [u8],
 ) -> usize
     requires { ⌜ Fits (now triangles) (now points) (now out) ⌝ }
-    ensures { λ r. ⌜ Put 0
-        (printedRun (record { settings = asSettings settings; triangles = now (triangles .entry); points = now (points .entry); distance = distance }))
+    ensures { λ r. ⌜ Put 0 (printedRun (record {
+      settings = asSettings settings;
+      triangles = now (triangles .entry);
+      points = now (points .entry);
+      distance = distance;
+      rule = rule;
+    }))
         (now (out .entry)) (now (out .exit)) r ⌝ }
 {
-    let verdict = request_refusal(triangles, settings, points, distance);
+    let verdict = request_refusal(triangles, settings, points, distance, rule);
     if let Verdict::Refused { number, place } = verdict {
         return put_refused(out, 0, number, place);
     }
-    put_run(triangles, settings, points, distance, out)
+    put_run(triangles, settings, points, distance, rule, out)
 }
 
-// Writes what is printed for records of `count` triangles and `touched` points.
-fn print_sized(input: &[u8], count: usize, touched: usize, out: &mut [u8]) -> usize
-    requires { ⌜ (36 + 36 * count + 12 * touched ≡ length (now input)) × (length (now input) ≤ maxBytes) ⌝ }
+// The number of the rule of records of `count` triangles and `touched` points: 1 where none is told.
+fn rule_of(input: &[u8], count: usize, touched: usize, ruled: bool) -> u32
+    requires { ⌜ inputSize count touched ruled ≡ length (now input) ⌝ }
+    ensures { λ r. ⌜ r ≡ ruleIn (now (input .entry)) count touched ruled ⌝ }
+{
+    if ruled {
+        let fifth = 20 + 36 * count + 6 + 12 * touched + 6 + 4 + 6;
+        return u16_at(input, fifth);
+    }
+    1
+}
+
+// Writes what is printed for records of `count` triangles and `touched` points, with a rule or without.
+fn print_sized(input: &[u8], count: usize, touched: usize, ruled: bool, out: &mut [u8]) -> usize
+    requires { ⌜ (inputSize count touched ruled ≡ length (now input)) × (length (now input) ≤ maxBytes) ⌝ }
     requires { ⌜ maxPrinted ≤ length (now out) ⌝ }
-    ensures { λ r. ⌜ Put 0 (printedRun (requestIn (now (input .entry)) count touched)) (now (out .entry)) (now (out .exit)) r ⌝ }
+    ensures { λ r. ⌜ Put 0 (printedRun (requestIn (now (input .entry)) count touched ruled)) (now (out .entry)) (now (out .exit)) r ⌝ }
 {
     let third = 20 + 36 * count + 6;
     let fourth = third + 12 * touched + 6;
@@ -144,6 +175,7 @@ fn print_sized(input: &[u8], count: usize, touched: usize, out: &mut [u8]) -> us
         settings_of(input, false),
         &points[..coordinates],
         from_bits(u32_at(input, fourth)),
+        rule_of(input, count, touched, ruled),
         out,
     )
 }
@@ -161,6 +193,7 @@ pub fn print(input: &[u8], out: &mut [u8]) -> usize
         GaugeLayout::Right {
             triangles: count,
             points,
-        } => print_sized(input, count, points, out),
+            ruled,
+        } => print_sized(input, count, points, ruled, out),
     }
 }

@@ -14,6 +14,7 @@ use Rattle.spec_printing.specs.Printed.{foundLine, nothingLine}
 use Rattle.spec_shapes.specs.Points.{Point}
 use Rattle.spec_lists.specs.Reading.{pointAt, pointCount}
 use Rattle.spec_search.specs.Answers.{Answer, nothing, found, sixWords}
+use Rattle.spec_search.specs.Rules.{ruleOf}
 use Rattle.spec_search.specs.Calls.{answerWords, sureAnswer}
 use Rattle.spec_gauge.specs.Printed.{answerLine, answerLines}
 use Rattle.spec_gauge.specs.Lines.{wordsLine}
@@ -76,11 +77,11 @@ module _ (answer : Point → Answer) (points : List Float) (old words : List ℕ
       (rw zero-add at (remaining-concatMap pieces 6 (pointCount points) words 0 _ (λ j. six-long (answer (pointAt points (3 * j)))) words-remaining k l)))
 
 -- the lines made from the sure query's words are the lines of its answers, point by point
-pub sure-lines : (triangles points : List Float) (distance : Float) (old words : List ℕ)
-    → words ≡ overwrite 0 (answerWords binary32 (sureAnswer binary32 triangles distance) points) old
-    → concatMap (wordsLine words) (pointCount points) ≡ answerLines triangles points distance
+pub sure-lines : (triangles points : List Float) (distance : Float) (rule : ℕ) (old words : List ℕ)
+    → words ≡ overwrite 0 (answerWords binary32 (sureAnswer binary32 (ruleOf rule) triangles distance) points) old
+    → concatMap (wordsLine words) (pointCount points) ≡ answerLines triangles points distance rule
 unfolding answerLines
-sure-lines triangles points distance old words e = lines-of-words (sureAnswer binary32 triangles distance) points old words e
+sure-lines triangles points distance rule old words e = lines-of-words (sureAnswer binary32 (ruleOf rule) triangles distance) points old words e
 
 -- ---- the loop over the lines: k of n stand one behind the other, each in 84 bytes at most
 pub record Lined (f : ℕ → List ℕ) (at n : ℕ) (old out : List ℕ) (next k : ℕ) : Type 0 where

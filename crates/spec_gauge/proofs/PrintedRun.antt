@@ -23,7 +23,8 @@ use Rattle.spec_build.specs.Grown.{grown}
 use Rattle.spec_build.specs.Tries.{axisInserted, axesBySize, rule, triedOn, triedIn, triedWithin, tried}
 use Rattle.spec_build.specs.Build.{builtTree}
 use Rattle.spec_search.specs.Walk.{fold}
-use Rattle.spec_search.specs.Sure.{limitOf, counts, offered, hit, tookSure, scan}
+use Rattle.spec_search.specs.Rules.{ruleOf, ruleRefusal, limitSquared, counts}
+use Rattle.spec_search.specs.Sure.{offered, hit, tookSure, scan}
 use Rattle.spec_search.specs.Calls.{sureAnswer}
 use Rattle.spec_records.specs.Little.{littleAt, ofLittle}
 use Rattle.spec_records.specs.Records.{bodies, isRecord, isRight, laidOut}
@@ -55,12 +56,13 @@ scopeLines =
     ++ (49 ∷ 32 ∷ 110 ∷ 111 ∷ 116 ∷ 104 ∷ 105 ∷ 110 ∷ 103 ∷ 10 ∷ [])
 
 -- ---- what the bytes hold
-laid : laidOut gaugeWants scopeInput 0 ≡ bodies (gaugeSpans 2 2)
+-- its bodies are those of two triangles and two points, without a rule
+pub laid : laidOut gaugeWants scopeInput 0 ≡ bodies (gaugeSpans 2 2 false)
 unfolding laidOut isRight isRecord versionFor littleAt ofLittle gaugeSpans
 laid = refl
 
 -- 5.5 is 11 / 2
-abbrev request : Request
+abbrev pub request : Request
 request =
     let n : ℕ → Float = λ k. ofInt binary32 (pos k) in
     record {
@@ -68,16 +70,17 @@ request =
       triangles = n 0 ∷ n 0 ∷ n 0 ∷ n 1 ∷ n 0 ∷ n 0 ∷ n 0 ∷ n 1 ∷ n 0 ∷ n 10 ∷ n 0 ∷ n 0 ∷ n 11 ∷ n 0 ∷ n 0 ∷ n 10 ∷ n 1 ∷ n 0 ∷ [];
       points = fin false 11 (negsuc 0) ∷ n 0 ∷ n 0 ∷ n 100 ∷ n 0 ∷ n 0 ∷ [];
       distance = n 50;
+      rule = 1;
     }
 
-request-is : requestIn scopeInput 2 2 ≡ request
+request-is : requestIn scopeInput 2 2 false ≡ request
 unfolding requestIn concatMap littleAt ofLittle ofBits ofInt leafIn settingsIn
 request-is = refl
 
 -- ---- what is printed of it
 asked-passes : requestRefusal request ≡ passes
 unfolding requestRefusal firstRefusal isCoordinate isDistance firstBad raggedRefusal noneRefusal tooManyRefusal coordinateRefusal trianglesRefusal
-    areSettings settingsRefusal leafRefusal pointsRefusal distanceRefusal triangleCount ofInt le
+    areSettings settingsRefusal leafRefusal ruleRefusal pointsRefusal distanceRefusal triangleCount ofInt le
 asked-passes = refl
 
 tree-printed : treeLine (request .triangles) (request .settings) ≡ countsLine 2 3 2
@@ -86,12 +89,12 @@ unfolding treeLine sub mul div le ofInt minus plus dividedBy dot smallest larges
     medianSplit grown axisInserted axesBySize rule triedOn triedIn triedWithin tried builtTree
 tree-printed = refl
 
-abbrev first : Found
+abbrev pub first : Found
 first = record { triangle = 0; x = 0x3f80_0000; y = 0; z = 0; squared = 0x41a2_0000 }
 
-answers-printed : answerLines (request .triangles) (request .points) (request .distance) ≡ foundLine 0 first ++ nothingLine 1
+answers-printed : answerLines (request .triangles) (request .points) (request .distance) (request .rule) ≡ foundLine 0 first ++ nothingLine 1
 unfolding answerLines answerLine concatMap pointCount toBits sub mul le ofInt minus dot smallest largest isFinite plusZero squaredDistance heldIn boxOf
-    dots part pointOn closestPoint finiteOr heldPoint measured numberAt pointAt triangleAt triangleCount fold limitOf counts offered hit tookSure
+    dots part pointOn closestPoint finiteOr heldPoint measured numberAt pointAt triangleAt triangleCount fold ruleOf limitSquared counts offered hit tookSure
     scan sureAnswer range
 answers-printed = refl
 
@@ -99,6 +102,6 @@ answers-printed = refl
 pub scope-run-printed : printed scopeInput ≡ scopeLines
 unfolding printedRun
 scope-run-printed =
-    sym (right-printed scopeInput (omega arith) 2 2 laid)
+    sym (right-printed scopeInput (omega arith) 2 2 false laid)
     ∙ ap printedRun request-is
     ∙ rw (asked-passes, tree-printed, answers-printed, counts-printed, found-printed, nothing-printed)

@@ -1,6 +1,7 @@
 -- What passed the tests is built and searched without a refusal, and what is written are the lines of the run.
 use mathlib.Core.Path.{_≡_, ap, _∙_}
 use mathlib.Core.List.{List}
+use mathlib.Core.Bool.{Bool}
 use Prim.Native.Nat.{ℕ, _+_, _*_, _≤_}
 use native.Mathlib.Omega.{arith}
 use lib.ListN.{length, take}
@@ -9,7 +10,7 @@ use Rattle.spec_tables.specs.Tables.{overwrite}
 use Rattle.spec_tables.proofs.Pieces.{take-overwrite, length-singles}
 use Rattle.spec_records.specs.Little.{littleAt}
 use Rattle.spec_records.specs.Entries.{floatsIn}
-use Rattle.spec_records.specs.Layouts.{version1}
+use Rattle.spec_records.specs.Layouts.{version1, pointsStart, distanceStart}
 use Rattle.spec_image.specs.Image.{settingsIn}
 use Rattle.spec_printing.specs.Printed.{countsLine}
 use Rattle.spec_lists.specs.Reading.{triangleCount, pointCount}
@@ -19,8 +20,10 @@ use Rattle.spec_lists.proofs.Passed.{triangles-passed, settings-passed, room-pa
 use Rattle.spec_tree.proofs.Unchanged.{tree-passes}
 use Rattle.spec_build.specs.Build.{Lists, made, notMade, answerBy, builtTree, buildRefusal, BuildIs}
 use Rattle.spec_build.proofs.Build.{build-passes, made-nodes, made-depth, made-accepted}
+use Rattle.spec_search.specs.Rules.{ruleOf}
+use Rattle.spec_search.specs.Answers.{sure}
 use Rattle.spec_search.specs.Calls.{queryRefusal, answerWords, afterQuery, sureAnswer}
-use Rattle.spec_gauge.specs.Printed.{maxBytes, Request, requestIn, treeLine, maxGauged, maxPoints, maxPrinted, Fits}
+use Rattle.spec_gauge.specs.Printed.{maxBytes, Request, ruleIn, requestIn, treeLine, maxGauged, maxPoints, maxPrinted, Fits}
 use Rattle.spec_gauge.proofs.Printed.{AllPassed}
 
 -- the lists that the program lends to the build: as many triangles as fit have room
@@ -67,29 +70,30 @@ module _ (a : Request) (passed : AllPassed a) {nodes depth : ℕ} {old new : Lis
 
   -- the query of the tree that was built is never refused
   pub query-passes : (count : ℕ) → count ≡ triangleCount (a .triangles) → pointCount (a .points) ≤ maxPoints
-      → queryRefusal (a .triangles) (take count (new .order)) (new .links) (new .boxes) nodes (a .points) (a .distance) 16380 ≡ passes
+      → queryRefusal (sure (a .rule)) (a .triangles) (take count (new .order)) (new .links) (new .boxes) nodes (a .points) (a .distance) 16380 ≡ passes
   unfolding queryRefusal
   query-passes count e h =
       then-passes _ (
         passed .triangles,
         (
-          room-passes 2730 (pointCount (a .points)) h,
+          passed .rule,
           (
-            rw e (tree-passes (a .triangles) _ (new .links) (new .boxes) nodes (made-accepted binary32 (a .triangles) (a .settings) old new nodes depth b)),
+            room-passes 2730 (pointCount (a .points)) h,
             (
-              passed .points,
-              (passed .distance, tt),
+              rw e (tree-passes (a .triangles) _ (new .links) (new .boxes) nodes
+                  (made-accepted binary32 (a .triangles) (a .settings) old new nodes depth b)),
+              (passed .points, (passed .distance, tt)),
             ),
           ),
         ),
       )
 
 -- a query that is not refused answers all points
-pub is-answered : (triangles : List Float) (distance : Float) (points : List Float) (old new : List ℕ) (v w : Verdict) → v ≡ w → w ≡ passes
-    → new ≡ afterQuery binary32 (sureAnswer binary32 triangles distance) points v old
-    → new ≡ overwrite 0 (answerWords binary32 (sureAnswer binary32 triangles distance) points) old
+pub is-answered : (rule : ℕ) (triangles : List Float) (distance : Float) (points : List Float) (old new : List ℕ) (v w : Verdict) → v ≡ w → w ≡ passes
+    → new ≡ afterQuery binary32 (sureAnswer binary32 (ruleOf rule) triangles distance) points v old
+    → new ≡ overwrite 0 (answerWords binary32 (sureAnswer binary32 (ruleOf rule) triangles distance) points) old
 unfolding afterQuery
-is-answered triangles distance points old new v w e h n = rw (e ∙ h) at n
+is-answered rule triangles distance points old new v w e h n = rw (e ∙ h) at n
 
 -- ---- the lists as they are read
 -- an input up to the maximum size fits the program's lists
@@ -100,14 +104,16 @@ unfolding triangleCount pointCount
 fits t p triangles points out a b h room = record { triangles-few = rw a (omega arith); points-few = rw b (omega arith); room = room }
 
 -- what the program reads into its lists is the request as defined
-pub request-is : (s : List ℕ) (t p : ℕ) (settings : Settings) (triangles points old older : List Float) (distance : Float) → settings ≡ settingsIn version1 s
-    → triangles ≡ overwrite 0 (floatsIn binary32 s 20 (9 * t)) old → points ≡ overwrite 0 (floatsIn binary32 s (20 + 36 * t + 6) (3 * p)) older
-    → distance ≡ ofBits binary32 (littleAt 4 s (20 + 36 * t + 6 + 12 * p + 6))
-    → _≡_ {A = Request} (record { settings = settings; triangles = take (9 * t) triangles; points = take (3 * p) points; distance = distance })
-    (requestIn s t p)
+pub request-is : (s : List ℕ) (t p : ℕ) (ruled : Bool) (settings : Settings) (triangles points old older : List Float) (distance : Float) (rule : ℕ)
+    → settings ≡ settingsIn version1 s → triangles ≡ overwrite 0 (floatsIn binary32 s 20 (9 * t)) old
+    → points ≡ overwrite 0 (floatsIn binary32 s (pointsStart t) (3 * p)) older → distance ≡ ofBits binary32 (littleAt 4 s (distanceStart t p))
+    → rule ≡ ruleIn s t p ruled
+    → _≡_ {A = Request}
+    (record { settings = settings; triangles = take (9 * t) triangles; points = take (3 * p) points; distance = distance; rule = rule })
+    (requestIn s t p ruled)
 unfolding requestIn
-request-is s t p settings triangles points old older distance a b c d =
+request-is s t p ruled settings triangles points old older distance rule a b c d e =
     let b′ : take (9 * t) triangles ≡ floatsIn binary32 s 20 (9 * t) = ap (take (9 * t)) b ∙ take-overwrite (9 * t) _ old (length-singles _ (9 * t)) in
-    let c′ : take (3 * p) points ≡ floatsIn binary32 s (20 + 36 * t + 6) (3 * p) = ap (take (3 * p)) c
+    let c′ : take (3 * p) points ≡ floatsIn binary32 s (pointsStart t) (3 * p) = ap (take (3 * p)) c
     ∙ take-overwrite (3 * p) _ older (length-singles _ (3 * p)) in
-    λ i. record { settings = a i; triangles = b′ i; points = c′ i; distance = d i }
+    λ i. record { settings = a i; triangles = b′ i; points = c′ i; distance = d i; rule = e i }

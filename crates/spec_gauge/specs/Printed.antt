@@ -1,15 +1,15 @@
 -- What `gauge` prints, of the bytes that came in: a refusal, or the counts and a line a point.
 use Prim.Native.Nat.{ℕ, _+_, _*_, _/_, _≤_}
 use mathlib.Core.List.{List, [], _∷_, _++_}
-use mathlib.Core.Bool.{cond}
-use lib.Dec.{ltb}
+use mathlib.Core.Bool.{Bool, cond}
+use lib.Dec.{ltb, eqb}
 use lib.ListN.{length}
 use lib.Ieee.{Float, binary32, ofBits, toBits}
 use Rattle.spec_tables.specs.Tables.{concatMap}
 use Rattle.spec_records.specs.Little.{littleAt}
 use Rattle.spec_records.specs.Entries.{floatsIn}
 use Rattle.spec_records.specs.Records.{Layout, wrong, bodies, laidOut}
-use Rattle.spec_records.specs.Layouts.{version1, gaugeWants}
+use Rattle.spec_records.specs.Layouts.{version1, pointsStart, distanceStart, ruleStart, gaugeWants}
 use Rattle.spec_image.specs.Image.{settingsIn}
 use Rattle.spec_image.specs.Reading.{sizeOf}
 use Rattle.spec_image.specs.Writing.{leafRefusal}
@@ -19,11 +19,16 @@ use Rattle.spec_lists.specs.Refusals.{Verdict, passes, refused, firstRefusal, S
 use Rattle.spec_tree.specs.Trees.{nodeCount, levels}
 use Rattle.spec_build.specs.Build.{builtTree}
 use Rattle.spec_search.specs.Answers.{Answer, nothing, found}
+use Rattle.spec_search.specs.Rules.{ruleOf, ruleRefusal}
 use Rattle.spec_search.specs.Calls.{sureAnswer}
 
 -- more bytes than these are refused unread
 abbrev pub maxBytes : ℕ
 maxBytes = 32768
+
+-- how long an input of t triangles and p points is: a rule takes eight bytes with its header
+abbrev pub inputSize : ℕ → ℕ → (ruled : Bool) → ℕ
+inputSize t p ruled = 36 + 36 * t + 12 * p + cond ruled 8 0
 
 -- ---- what the records hold
 -- a request: what the records of an input hold
@@ -32,25 +37,36 @@ pub record Request : Type 0 where
   pub triangles : List Float
   pub points : List Float
   pub distance : Float
+  pub rule : ℕ
 
--- of an input of t triangles and p points, whose bodies start at 6, 20, 26 + 36t and 32 + 36t + 12p; of version 1, since no more than 909
--- triangles fit
-unfoldable pub requestIn : List ℕ → ℕ → ℕ → Request
-requestIn s t p = record {
+-- the rule of an input that tells none: parts that were gauged before there was another are gauged as they were
+abbrev pub ruleLeftOut : ℕ
+ruleLeftOut = 1
+
+-- the rule's number, as it is told or left out
+abbrev pub ruleIn : List ℕ → ℕ → ℕ → (ruled : Bool) → ℕ
+ruleIn s t p ruled = cond ruled (littleAt 2 s (ruleStart t p)) ruleLeftOut
+
+-- of an input of t triangles and p points, whose bodies start at 6, 20, 26 + 36t, 32 + 36t + 12p and, if it has a rule, 42 + 36t + 12p;
+-- of version 1, since no more than 909 triangles fit
+unfoldable pub requestIn : List ℕ → ℕ → ℕ → (ruled : Bool) → Request
+requestIn s t p ruled = record {
   settings = settingsIn version1 s;
   triangles = floatsIn binary32 s 20 (9 * t);
-  points = floatsIn binary32 s (20 + 36 * t + 6) (3 * p);
-  distance = ofBits binary32 (littleAt 4 s (20 + 36 * t + 6 + 12 * p + 6));
+  points = floatsIn binary32 s (pointsStart t) (3 * p);
+  distance = ofBits binary32 (littleAt 4 s (distanceStart t p));
+  rule = ruleIn s t p ruled;
 }
 
 -- ---- refusals 1 to 5, 8, 9; 1 and 3 cannot come up, since a body has whole triangles and no more than 909 fit
--- 5 also of a leaf minimum that version 1 does not keep: a request is of that version
+-- 5 also of a leaf minimum that version 1 does not keep: a request is of that version; and of a rule that there is not
 unfoldable pub requestRefusal : Request → Verdict
 requestRefusal a =
     firstRefusal
     (trianglesRefusal (a .triangles)
     ∷ settingsRefusal (a .settings)
     ∷ leafRefusal version1 (a .settings)
+    ∷ ruleRefusal (a .rule)
     ∷ pointsRefusal (a .points)
     ∷ distanceRefusal (a .distance)
     ∷ [])
@@ -67,10 +83,10 @@ answerLine k (found h) = foundLine k (record {
   squared = toBits binary32 (h .squared);
 })
 
--- a line a point, of the sure query's answers
-unfoldable pub answerLines : (triangles points : List Float) (distance : Float) → List ℕ
-answerLines triangles points distance =
-    concatMap (λ k. answerLine k (sureAnswer binary32 triangles distance (pointAt points (3 * k)))) (pointCount points)
+-- a line a point, of the sure query's answers under the rule
+unfoldable pub answerLines : (triangles points : List Float) (distance : Float) (rule : ℕ) → List ℕ
+answerLines triangles points distance rule =
+    concatMap (λ k. answerLine k (sureAnswer binary32 (ruleOf rule) triangles distance (pointAt points (3 * k)))) (pointCount points)
 
 -- the counts and the depth of the tree that is built
 unfoldable pub treeLine : List Float → Settings → List ℕ
@@ -87,13 +103,13 @@ byVerdict (refused number place) lines = refusedLine number place
 unfoldable pub printedRun : Request → List ℕ
 printedRun a =
     byVerdict (requestRefusal a)
-    (treeLine (a .triangles) (a .settings) ++ answerLines (a .triangles) (a .points) (a .distance))
+    (treeLine (a .triangles) (a .settings) ++ answerLines (a .triangles) (a .points) (a .distance) (a .rule))
 
 -- ---- the whole
--- by the layout: the second body is the triangles', the third the points'
+-- by the layout: the second body is the triangles', the third the points', and the fifth, if there is one, the rule's
 abbrev pub byLayout : List ℕ → Layout → List ℕ
 byLayout s (wrong at) = refusedLine 10 at
-byLayout s (bodies spans) = printedRun (requestIn s (sizeOf spans 1 / 36) (sizeOf spans 2 / 12))
+byLayout s (bodies spans) = printedRun (requestIn s (sizeOf spans 1 / 36) (sizeOf spans 2 / 12) (eqb (length spans) 5))
 
 -- what is printed of any bytes
 unfoldable pub printed : List ℕ → List ℕ

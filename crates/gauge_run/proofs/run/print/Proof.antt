@@ -21,7 +21,7 @@ print-sized-requires c κs =
     let after-gauge-layout = at-count .before .before in
     let chosen = after-gauge-layout .before in
     let start = chosen .before .before .before in
-    ((gauge-long _ _ _ (sym (after-gauge-layout .gauge-layout .ensures) ∙ ap gaugeLaid (at-count .count .given .1)), chosen .if1 .left), start .pre)
+    ((gauge-long _ _ _ _ (sym (after-gauge-layout .gauge-layout .ensures) ∙ ap gaugeLaid (at-count .count .given .1)), chosen .if1 .left), start .pre)
 
 returns-2 : tie.Need-returns-2
 returns-2 c =
@@ -38,7 +38,7 @@ returns-3 c =
     let at-count = after-print-sized .before .before .before in
     let after-gauge-layout = at-count .before .before in
     let chosen = after-gauge-layout .before in
-    put-same (right-printed _ (chosen .if1 .left) _ _ (sym (after-gauge-layout .gauge-layout .ensures) ∙ ap gaugeLaid (at-count .count .given .1)))
+    put-same (right-printed _ (chosen .if1 .left) _ _ _ (sym (after-gauge-layout .gauge-layout .ensures) ∙ ap gaugeLaid (at-count .count .given .1)))
     (after-print-sized .print-sized .ensures)
 
 pub print-spec : {M : Type 1} → statement M

@@ -27,7 +27,7 @@ slice-aggregate-print-request-2 c =
 
 print-request-requires : tie.Need-print-request-requires
 print-request-requires c κs =
-    let after-u32-at = c .before .before in
+    let after-u32-at = c .before .before .before in
     let at-points2 = after-u32-at .before .before .before .before in
     let at-triangles2 = at-points2 .before .before .before in
     let after-read-f32s = at-triangles2 .before in
@@ -40,16 +40,17 @@ print-request-requires c κs =
 returns : tie.Need-returns
 returns c =
     let after-print-request = c .before .before in
-    let after-from-bits = after-print-request .before .before in
+    let after-rule-of = after-print-request .before .before in
+    let after-from-bits = after-rule-of .before in
     let after-u32-at = after-from-bits .before in
     let after-settings-of = after-u32-at .before .before in
     let after-read-f32s2 = after-settings-of .before .before .before in
     let after-read-f32s = after-read-f32s2 .before .before .before in
     let start = after-read-f32s .before .before .before .before in
     put-same
-    (ap printedRun (request-is (now (start .args .input)) (start .args .count) (start .args .touched) _ _ _ _ _ _
+    (ap printedRun (request-is (now (start .args .input)) (start .args .count) (start .args .touched) (start .args .ruled) _ _ _ _ _ _ _
     (after-settings-of .settings-of .ensures) (after-read-f32s .read-f32s .ensures) (after-read-f32s2 .read-f32s2 .ensures)
-    (after-from-bits .from-bits .ensures ∙ ap (ofBits binary32) (after-u32-at .u32-at .ensures))))
+    (after-from-bits .from-bits .ensures ∙ ap (ofBits binary32) (after-u32-at .u32-at .ensures)) (after-rule-of .rule-of .ensures)))
     (after-print-request .print-request .ensures)
 
 pub print-sized-spec : {M : Type 1} → statement M
@@ -58,4 +59,4 @@ print-sized-spec =
     (tie.spec (λ c. search needs) (λ c. search needs) (λ c. search needs) (λ c. search needs) (λ c. search needs) (λ c. search needs)
     (λ c. search needs) (λ c. search needs) (λ c κs. search needs) (λ c. search needs) (λ c. search needs) (λ c κs. search needs) (λ c. search needs)
     slice-aggregate-print-request (λ c κs. search needs) (λ c. search needs) slice-aggregate-print-request-2 (λ c κs. search needs)
-    (λ c κs. search needs) print-request-requires (λ c. search needs) returns)
+    (λ c κs. search needs) (λ c κs. search needs) print-request-requires (λ c. search needs) returns)

@@ -2,6 +2,7 @@
 use denote.Ref.{now}
 use native.Mathlib.Omega.{arith}
 use Rattle.spec_tables.proofs.Tables.{put-same}
+use Rattle.spec_search.specs.Answers.{sure}
 use Rattle.spec_search.proofs.Calls.{query-passed}
 use Rattle.spec_gauge.proofs.Lines.{sure-lines}
 use Rattle.spec_gauge.proofs.Runs.{is-answered}
@@ -16,8 +17,8 @@ put-answer-lines-requires c κs =
     let known4 = after-sure-query .before .before .before .before in
     let start = known4 .before .before .before .before in
     let a = start .args in
-    let p = query-passed (now (a .triangles)) (now (a .order)) (now (a .links)) (now (a .boxes)) (a .nodes) (now (a .points)) (a .distance) 16380
-    (start .pre .0) in
+    let p = query-passed (sure (a .rule)) (now (a .triangles)) (now (a .order)) (now (a .links)) (now (a .boxes)) (a .nodes) (now (a .points))
+    (a .distance) 16380 (start .pre .0) in
     (omega (arith, p .1, c .before .point-count .ensures, at-answers2 .answers2 .given), omega (arith, start .pre .1, c .before .point-count .ensures))
 
 returns : tie.Need-returns
@@ -27,8 +28,9 @@ returns c =
     let after-sure-query = after-point-count .before .before .before in
     let known4 = after-sure-query .before .before .before .before in
     let start = known4 .before .before .before .before in
+    let asked = after-sure-query .sure-query .ensures in
     put-same
-    (sure-lines _ _ _ _ _ (is-answered _ _ _ _ _ _ _ (after-sure-query .sure-query .ensures .0) (start .pre .0) (after-sure-query .sure-query .ensures .1)))
+    (sure-lines _ _ _ _ _ _ (is-answered (start .args .rule) _ _ _ _ _ _ _ (asked .0) (start .pre .0) (asked .1)))
     (rw (after-point-count .point-count .ensures) at (after-put-answer-lines .put-answer-lines .ensures))
 
 pub put-answers-spec : {M : Type 1} → statement M

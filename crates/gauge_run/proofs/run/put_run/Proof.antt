@@ -20,7 +20,14 @@ returns c =
     let at-order = at-boxes .before .before in
     let start = at-order .before .before .before .before in
     let a = start .args in
-    let request : Request = record { settings = asSettings (a .settings); triangles = now (a .triangles); points = now (a .points); distance = a .distance } in
+    let request : Request =
+    record {
+      settings = asSettings (a .settings);
+      triangles = now (a .triangles);
+      points = now (a .points);
+      distance = a .distance;
+      rule = a .rule;
+    } in
     absurd (is-built request (all-passed request (start .pre .0)) (start .pre .1 .triangles-few)
     (record { order = refl; links = refl; boxes = refl; bounds = refl; centres = refl; scratch = refl })
     (rw (c .enum-told .given .1) at (after-build .build .ensures)))
@@ -51,7 +58,13 @@ put-answers-requires c κs =
     let start = at-order .before .before .before .before in
     let a = start .args in
     let request : Request =
-    record { settings = asSettings (a .settings); triangles = now (a .triangles); points = now (a .points); distance = a .distance } in (
+    record {
+      settings = asSettings (a .settings);
+      triangles = now (a .triangles);
+      points = now (a .points);
+      distance = a .distance;
+      rule = a .rule;
+    } in (
       query-passes request (all-passed request (start .pre .0)) (rw (at-nodes .nodes .given .1) at (after-build .build .ensures)) _
           (after-triangle-count .triangle-count .ensures) (start .pre .1 .points-few),
       omega (
@@ -76,7 +89,14 @@ returns-2 c =
     let at-order = at-boxes .before .before in
     let start = at-order .before .before .before .before in
     let a = start .args in
-    let request : Request = record { settings = asSettings (a .settings); triangles = now (a .triangles); points = now (a .points); distance = a .distance } in
+    let request : Request =
+    record {
+      settings = asSettings (a .settings);
+      triangles = now (a .triangles);
+      points = now (a .points);
+      distance = a .distance;
+      rule = a .rule;
+    } in
     put-then
     (put-same
     (tree-line request (all-passed request (start .pre .0)) (rw (at-nodes .nodes .given .1) at (after-build .build .ensures)) _
