@@ -50,7 +50,8 @@
  *     GAUGE_TOO_MANY      3  there are more than 65,536                          0
  *     GAUGE_COORDINATE    4  a coordinate of a triangle is no number, or         index of the first
  *                            beyond 1,048,576 either way                         among the numbers
- *     GAUGE_SETTING       5  a setting is out of range                           0
+ *     GAUGE_SETTING       5  a setting is out of range, or the rule of           0
+ *                            gauge_sure is neither 1 nor 2
  *     GAUGE_ROOM          6  a list or slice to write is too short               0
  *     GAUGE_TREE_ORDER   71  an entry of the order list is no triangle's         index of the first such
  *                            number, or stands there a second time;              entry;
@@ -94,7 +95,7 @@
 #include <stdint.h>
 
 /* Of this header: the first number changes when a host must change. */
-#define GAUGE_VERSION_MAJOR 3
+#define GAUGE_VERSION_MAJOR 4
 #define GAUGE_VERSION_MINOR 0
 
 #define GAUGE_MAX_TRIANGLES 65536
@@ -117,6 +118,10 @@
 /* Strategies of gauge_build. */
 #define GAUGE_MEDIAN 1
 #define GAUGE_AREA 2
+
+/* Measuring rules of gauge_sure: whether a point at exactly the search distance counts. */
+#define GAUGE_RULE_BELOW 1          /* it does not: for parts that were gauged so, before the rule was revised */
+#define GAUGE_RULE_BELOW_OR_EQUAL 2 /* it does: the rule as revised */
 
 #define GAUGE_RAGGED 1
 #define GAUGE_NONE 2
@@ -276,25 +281,38 @@ uint64_t gauge_write(size_t strategy, size_t leaf_minimum, size_t maximum_depth,
 uint64_t gauge_check(const float *triangles, size_t triangles_length, const uint32_t *order, size_t order_length,
                      const uint32_t *links, size_t links_length, const float *boxes, size_t boxes_length, size_t nodes);
 
-/* For each point the nearest point of the drawing, the lowest triangle number among equals, or
- * nothing where none is nearer than distance: what measuring every triangle would find, bit for bit.
+/* For each point the nearest point of the drawing, the lowest triangle number among equals, or nothing
+ * where none counts at that distance: what measuring every triangle would find, bit for bit.
  *
- * A hazard: of a triangle thinner than about 1:100, or without area, the computed point may be off,
- * mostly too far (docs/DIFFERENCES.md, "The hazard that stays").
+ *     distance   0 to 4,194,304: how far off a point of the drawing may be. Minus zero is 0
+ *     rule       GAUGE_RULE_BELOW: what is nearer than the distance counts, what is at exactly the
+ *                distance does not. GAUGE_RULE_BELOW_OR_EQUAL: both count
+ *
+ * A part that was gauged by one rule keeps it: ask by the same rule, and its readings stay as they were.
+ * GAUGE_RULE_BELOW answers what gauge_sure answered before it took a rule. The two differ at a point only
+ * where its nearest is at exactly the distance: there the first finds nothing, the second that nearest.
+ * The squares are compared, each a float: the answer's squared distance, and distance times itself, rounded.
+ *
+ * Hazards: at a distance of 0 GAUGE_RULE_BELOW finds nothing, and GAUGE_RULE_BELOW_OR_EQUAL only points on
+ * the surface, those whose squared distance is exactly 0. Corners are, save of triangles that are tiny, thin
+ * or without area; a point on a slanting edge or face is mostly a rounding away from it and is not found. A
+ * distance of 2^-75 or less is 0 when it is squared.
+ * Of a triangle thinner than about 1:100, or without area, the computed point may be off, mostly too far
+ * (docs/DIFFERENCES.md, "The hazard that stays").
  *
  * Counted: the points answered, from the front of answers.
- * Refused: GAUGE_RAGGED, GAUGE_NONE, GAUGE_TOO_MANY, GAUGE_COORDINATE, GAUGE_ROOM where answers has room
- * for fewer than points_length / 12 answers, GAUGE_TREE_ORDER to GAUGE_TREE_BOX as gauge_check,
- * GAUGE_POINT, GAUGE_DISTANCE. */
+ * Refused: GAUGE_RAGGED, GAUGE_NONE, GAUGE_TOO_MANY, GAUGE_COORDINATE, GAUGE_SETTING where rule is neither
+ * of the two, GAUGE_ROOM where answers has room for fewer than points_length / 12 answers, GAUGE_TREE_ORDER
+ * to GAUGE_TREE_BOX as gauge_check, GAUGE_POINT, GAUGE_DISTANCE. */
 uint64_t gauge_sure(const float *triangles, size_t triangles_length, const uint32_t *order, size_t order_length,
                     const uint32_t *links, size_t links_length, const float *boxes, size_t boxes_length, size_t nodes,
-                    const uint8_t *points, size_t points_length, float distance,
+                    const uint8_t *points, size_t points_length, float distance, uint32_t rule,
                     uint8_t *answers, size_t answers_length);
 
 /* The same question as the engine's source in Rust answers it, for comparing with it. Its answer may
  * lie beyond the distance, and is not always the nearest: for measuring use gauge_sure.
  *
- * Counted and refused as gauge_sure. */
+ * Counted and refused as gauge_sure, but it has no rule, and so no GAUGE_SETTING. */
 uint64_t gauge_source(const float *triangles, size_t triangles_length, const uint32_t *order, size_t order_length,
                       const uint32_t *links, size_t links_length, const float *boxes, size_t boxes_length, size_t nodes,
                       const uint8_t *points, size_t points_length, float distance,
@@ -453,13 +471,14 @@ static inline uint64_t gauge_drawing_check(const struct gauge_drawing *d)
 
 /* gauge_sure of so many points, three floats each, with as many answers. */
 static inline uint64_t gauge_drawing_sure(const struct gauge_drawing *d, const float *points, size_t count, float distance,
-                                          struct gauge_answer *answers)
+                                          uint32_t rule, struct gauge_answer *answers)
 {
     return gauge_sure(d->triangles, 9 * d->count, d->order, d->count, d->links, 6 * d->count, d->boxes, 12 * d->count, d->nodes,
-                      (const uint8_t *)points, GAUGE_POINT_BYTES * count, distance, (uint8_t *)answers, GAUGE_ANSWER_BYTES * count);
+                      (const uint8_t *)points, GAUGE_POINT_BYTES * count, distance, rule, (uint8_t *)answers,
+                      GAUGE_ANSWER_BYTES * count);
 }
 
-/* gauge_source, likewise. */
+/* gauge_source, likewise without a rule. */
 static inline uint64_t gauge_drawing_source(const struct gauge_drawing *d, const float *points, size_t count, float distance,
                                             struct gauge_answer *answers)
 {

@@ -3,8 +3,8 @@
  *
  *     fuzz CALLS [SEED]
  *
- * First each bad image, each bad STL, each bad tree and each small length in turn, then drawings, damages and
- * questions by chance, until so many calls are made. Each list and slice stands flush with a page that
+ * First each bad image, each bad STL, each bad tree, each small length, each rule and each step about the distance of
+ * a point in turn, then drawings, damages and questions by chance, until so many calls are made. Each list and slice stands flush with a page that
  * cannot be touched, before it or behind it, and has other bytes beside it: a byte read or written
  * outside ends the program or is counted as a difference, and so is a byte that a refused call writes.
  * The exit status is 0 where nothing differs and, of ENOUGH calls or more, each call was done and refused
@@ -116,7 +116,7 @@ static const int listed[CALLS][ENDS] = {
     {1, 1, 1, 1, 1, 1, 1, 0, 0, 0, 0, 0, 0, 0, 0, 0, 0}, /* gauge_build */
     {1, 1, 1, 1, 1, 1, 1, 1, 1, 1, 1, 1, 0, 0, 0, 0, 0}, /* gauge_write */
     {1, 1, 1, 1, 1, 0, 0, 1, 1, 1, 1, 1, 0, 0, 0, 0, 0}, /* gauge_check */
-    {1, 1, 1, 1, 1, 0, 1, 1, 1, 1, 1, 1, 1, 1, 0, 0, 0}, /* gauge_sure */
+    {1, 1, 1, 1, 1, 1, 1, 1, 1, 1, 1, 1, 1, 1, 0, 0, 0}, /* gauge_sure */
     {1, 1, 1, 1, 1, 0, 1, 1, 1, 1, 1, 1, 1, 1, 0, 0, 0}, /* gauge_source */
     {1, 1, 1, 1, 1, 0, 1, 0, 0, 0, 0, 0, 1, 0, 0, 0, 0}, /* gauge_winding */
     {1, 1, 1, 1, 1, 0, 1, 1, 1, 1, 1, 1, 0, 0, 0, 0, 0}, /* gauge_node_sums */
@@ -273,7 +273,8 @@ static void ask_check(Drawing d)
     compared(CHECK, returned);
 }
 
-static void ask_points(int call, Drawing d, Slice points, float distance, size_t room)
+/* The rule is the sure query's alone. Returns what is right. */
+static uint64_t ask_points(int call, Drawing d, Slice points, float distance, uint32_t rule, size_t room)
 {
     uint64_t returned[BOTH];
     lend_drawing(d);
@@ -281,12 +282,12 @@ static void ask_points(int call, Drawing d, Slice points, float distance, size_t
     lend(ANSWERS, NULL, room);
     for (int who = 0; who < BOTH; who++)
         if (call == SURE)
-            returned[who] = (who == PLAIN ? plain_sure : gauge_sure)(TREE, d.nodes, BYTES(POINTS), distance, BYTES(ANSWERS));
+            returned[who] = (who == PLAIN ? plain_sure : gauge_sure)(TREE, d.nodes, BYTES(POINTS), distance, rule, BYTES(ANSWERS));
         else if (call == SOURCE)
             returned[who] = (who == PLAIN ? plain_source : gauge_source)(TREE, d.nodes, BYTES(POINTS), distance, BYTES(ANSWERS));
         else
             returned[who] = (who == PLAIN ? plain_winding : gauge_winding)(FLOATS(TRIANGLES), BYTES(POINTS), BYTES(ANSWERS));
-    compared(call, returned);
+    return compared(call, returned);
 }
 
 /* The same bits for every NaN: which of them a call writes is left open. */
@@ -423,6 +424,20 @@ static float make_distance(void)
     return kind < 9 ? some[below(sizeof some / sizeof *some)] : ldexpf(between(1, 2), (int)below(60) - 38);
 }
 
+/* Numbers that are no rule, some of them one in fewer bits. */
+static const uint32_t no_rules[] = {0, 3, 4, 255, 256, 257, 258, 65535, 65536, 65537, 65538, 0x80000001, 0x80000002, 0xfffffffe, 0xffffffff};
+enum { NO_RULES = sizeof no_rules / sizeof *no_rules };
+
+static uint32_t good_rule(void)
+{
+    return 1 + below(2);
+}
+
+static uint32_t make_rule(void)
+{
+    return below(12) ? good_rule() : no_rules[below(NO_RULES)];
+}
+
 static float make_scale(void)
 {
     static const float some[] = {0, -0.0f, 1e-40f, 0.25f, 0.5f, 1, 1.5f, 2, 2, 2, 3, 10, 1000};
@@ -543,6 +558,45 @@ static size_t nodes_in(Slice image, size_t n)
     return (image.length - header_at(n, 3) - 6) / node_bytes(n);
 }
 
+/* ---- distances at which a point's nearest stands exactly */
+
+static uint64_t roots_sought, roots_met;
+
+/* The distance whose square, rounded, is this one; where there is none, one of the two floats next to it. */
+static float root_of(float squared)
+{
+    float near = sqrtf(squared), some[3] = {near, nextafterf(near, INFINITY), nextafterf(near, 0)};
+    roots_sought++;
+    for (int k = 0; k < 3; k++) {
+        float square = some[k] * some[k];
+        if (square == squared) {
+            roots_met++;
+            return some[k];
+        }
+    }
+    return some[below(3)];
+}
+
+/* How far a point is from a drawing, which has a tree. */
+static float nearest_root(Drawing d, const float *point)
+{
+    struct gauge_answer answer;
+    done(plain_sure(d.triangles, d.triangles_length, d.order, d.order_length, d.links, d.links_length, d.boxes, d.boxes_length, d.nodes,
+                    (const uint8_t *)point, 12, GAUGE_MAX_DISTANCE, 1, (uint8_t *)&answer, sizeof answer));
+    return root_of(answer.squared);
+}
+
+/* That, or one step of a float less or more. */
+static float level_distance(Drawing d, const float *point)
+{
+    for (int k = 0; k < 3; k++)
+        if (!(fabsf(point[k]) <= GAUGE_MAX_COORDINATE))
+            return make_distance();
+    float at = nearest_root(d, point);
+    unsigned step = below(4);
+    return step == 0 ? nextafterf(at, 0) : step == 1 ? nextafterf(at, INFINITY) : at;
+}
+
 /* ---- every question to one drawing, and to one image */
 
 static size_t exact_size(Drawing d)
@@ -555,9 +609,9 @@ static void ask_all(Settings s, Drawing d, Slice points, float distance)
 {
     size_t n = points.length / 12;
     ask_check(d);
-    ask_points(SURE, d, points, distance, 24 * n);
-    ask_points(SOURCE, d, points, distance, 24 * n);
-    ask_points(WINDING, d, points, distance, 4 * n);
+    ask_points(SURE, d, points, distance, good_rule(), 24 * n);
+    ask_points(SOURCE, d, points, distance, 0, 24 * n);
+    ask_points(WINDING, d, points, distance, 0, 4 * n);
     ask_write(s, d, exact_size(d));
     ask_sums(d, sums_length(d));
     ask_fast(d, make_sums(d), points, 2, 4 * n);
@@ -958,7 +1012,7 @@ static void each_length(Drawing d, Slice points)
     for (size_t length = 0; length <= 40; length++)
         for (size_t k = 0; k < sizeof some / sizeof *some; k++)
             for (int call = SURE; call <= WINDING; call++) {
-                ask_points(call, d, bytes_of(points.bytes, length), GAUGE_MAX_DISTANCE, some[k]);
+                ask_points(call, d, bytes_of(points.bytes, length), GAUGE_MAX_DISTANCE, good_rule(), some[k]);
                 if (call == WINDING)
                     ask_fast(d, make_sums(d), bytes_of(points.bytes, length), 2, some[k]);
             }
@@ -1086,6 +1140,105 @@ static void each_corner(size_t n)
     }
 }
 
+/* Each rule and each number that is none: alone, and beside whatever else is refused. */
+static void each_rule(Drawing d, Slice points)
+{
+    size_t n = points.length / 12;
+    for (size_t k = 0; k < 2 + NO_RULES; k++) {
+        uint32_t rule = k < 2 ? 1 + (uint32_t)k : no_rules[k - 2];
+        Drawing ragged = d, none = d, nodeless = d, corner = d;
+        static float point[3];
+        ragged.triangles_length--;
+        none.triangles_length = 0;
+        nodeless.nodes = 0;
+        memcpy(point, points.bytes, 12);
+        point[2] = NAN;
+        ask_points(SURE, d, points, GAUGE_MAX_DISTANCE, rule, 24 * n);
+        ask_points(SURE, d, bytes_of(NULL, 0), GAUGE_MAX_DISTANCE, rule, 0);
+        ask_points(SURE, ragged, points, GAUGE_MAX_DISTANCE, rule, 24 * n);
+        ask_points(SURE, none, points, GAUGE_MAX_DISTANCE, rule, 24 * n);
+        corner = copied(d);
+        bad_triangles[8] = INFINITY;
+        ask_points(SURE, corner, points, GAUGE_MAX_DISTANCE, rule, 24 * n);
+        ask_points(SURE, d, points, GAUGE_MAX_DISTANCE, rule, 24 * n - 1);
+        ask_points(SURE, with_order(d, 0, 65536), points, GAUGE_MAX_DISTANCE, rule, 24 * n);
+        ask_points(SURE, nodeless, points, GAUGE_MAX_DISTANCE, rule, 24 * n);
+        ask_points(SURE, with_link(d, 0, 3), points, GAUGE_MAX_DISTANCE, rule, 24 * n);
+        ask_points(SURE, with_side(d, 0, 0x7fc00000), points, GAUGE_MAX_DISTANCE, rule, 24 * n);
+        ask_points(SURE, d, bytes_of(points.bytes, points.length - 1), GAUGE_MAX_DISTANCE, rule, 24 * n);
+        ask_points(SURE, d, bytes_of(point, 12), GAUGE_MAX_DISTANCE, rule, 24);
+        ask_points(SURE, d, points, -1, rule, 24 * n);
+        ask_points(SURE, d, points, NAN, rule, 24 * n);
+        ask_points(SURE, nodeless, bytes_of(point, 11), -1, rule, 0); /* 71 to 75, 8 and 9 at once, and no room */
+    }
+}
+
+/* Both rules at a distance. */
+static void both_rules(Drawing d, Slice points, float distance)
+{
+    for (uint32_t rule = 1; rule <= 2; rule++)
+        ask_points(SURE, d, points, distance, rule, points.length * 2);
+}
+
+/* Each step about the distance of each point. */
+static void each_step(Drawing d, const float *points, size_t count)
+{
+    for (size_t i = 0; i < count; i++) {
+        Slice point = bytes_of(points + 3 * i, 12);
+        float at = nearest_root(d, points + 3 * i);
+        both_rules(d, point, at);
+        both_rules(d, point, nextafterf(at, INFINITY));
+        both_rules(d, point, nextafterf(at, 0));
+        both_rules(d, point, 0);
+        both_rules(d, bytes_of(points, 12 * count), at);
+        ask_points(SOURCE, d, point, at, 0, 24); /* it goes by no rule, and enters a box strictly below the distance */
+    }
+}
+
+/* A drawing with each of three trees: each step about the distance of these points, and of its corners and the middles of its sides; and
+ * all of them at a distance of 0, or of what is 0 when squared, or is not quite. */
+static void each_tree_level(const float *corners, size_t n, const float *points, size_t count)
+{
+    static const float none[] = {0, -0.0f, 1e-45f, 1e-30f, 0x1p-75f, 0x1.000002p-75f, 0x1p-74f};
+    static const Settings settings[] = {{1, 1, 40}, {2, 1, 40}, {1, 3, 40}};
+    float on[18 * 3];
+    memcpy(drawing, corners, 36 * n);
+    for (size_t i = 0; i < 9 * n; i++) {
+        const float *t = drawing + 9 * (i / 9);
+        on[i] = t[i % 9];
+        on[9 * n + i] = (t[i % 9] + t[(i % 9 + 3) % 9]) / 2;
+    }
+    for (size_t k = 0; k < sizeof settings / sizeof *settings; k++) {
+        Drawing d = make_tree(n, settings[k]);
+        each_step(d, points, count);
+        each_step(d, on, 6 * n);
+        for (size_t i = 0; i < sizeof none / sizeof *none; i++) {
+            both_rules(d, bytes_of(on, 72 * n), none[i]);
+            both_rules(d, bytes_of(points, 12 * count), none[i]);
+        }
+    }
+}
+
+/* Where the two rules differ, by hand. Two triangles ten apart, the first twice, and points whose distances are whole numbers, halves and
+ * quarters; a triangle whose slanting side is exactly 60 from a point in its box, another that is 50 from it, and a third that is 60. */
+static void each_level(void)
+{
+    static const float apart[] = {0, 0, 0, 1, 0, 0, 0, 1, 0, 10, 0, 0, 11, 0, 0, 10, 1, 0, 0, 0, 0, 1, 0, 0, 0, 1, 0};
+    static const float points[] = {5.5f, 0, 0, 100, 0, 0, 0.25f, 0.25f, 4, 0.25f, 0.25f, -4, -3, -4, 0, 10.5f, 0.25f, 0.5f, 13, 0, 0, 5.5f, 0, 1.5f};
+    static const float slanting[] = {0, 0, 0, 100, 0, 0, 0, 75, 0, 100, 125, 0, 100, 130, 0, 105, 130, 0, 160, 75, 0, 170, 75, 0, 160, 80, 0};
+    static const float in_box[] = {100, 75, 0, 64, 27, 0, 100, 75, 1}, distances[] = {50, 60, 0};
+    for (size_t n = 1; n <= 3; n++) {
+        each_tree_level(apart, n, points, sizeof points / 12);
+        each_tree_level(slanting, n, in_box, sizeof in_box / 12);
+        for (size_t k = 0; k < sizeof distances / sizeof *distances; k++) {
+            Drawing d = make_tree(n, usual);
+            both_rules(d, bytes_of(in_box, sizeof in_box), nextafterf(distances[k], 0));
+            both_rules(d, bytes_of(in_box, sizeof in_box), distances[k]);
+            both_rules(d, bytes_of(in_box, sizeof in_box), nextafterf(distances[k], INFINITY));
+        }
+    }
+}
+
 static void in_turn(size_t n)
 {
     Slice points = bytes_of(touched, 36);
@@ -1107,6 +1260,8 @@ static void in_turn(size_t n)
     each_setting(d);
     each_stl_size(n);
     each_corner(n);
+    each_rule(d, points);
+    each_step(d, touched, 4);
 }
 
 /* 64 levels are accepted, 65 are not, and that is told before a box that is wrong. */
@@ -1162,6 +1317,7 @@ static void ask_limits(void)
         Drawing d = {zeros, lengths[i], tree_order, 1, tree_links, 3, tree_boxes, 6, 1};
         ask_build(s, zeros, lengths[i], rooms_for(n, 2 * n));
         ask_all(usual, d, points, GAUGE_MAX_DISTANCE);
+        ask_points(SURE, d, points, GAUGE_MAX_DISTANCE, 3, points.length * 2);
     }
 }
 
@@ -1293,16 +1449,17 @@ static void ask_questions(Drawing d, size_t n, int times)
         if (many > 0 && below(10) == 0)
             points.length -= below(12);
         Drawing asked = below(3) ? d : damage(d);
-        float distance = make_distance();
+        float distance = many > 0 && below(2) ? level_distance(d, touched + 3 * below((unsigned)many)) : make_distance();
         size_t spare = below(3) ? 0 : below(60);
-        ask_points(SURE, asked, points, distance, 24 * many + spare);
-        ask_points(SOURCE, asked, points, distance, 24 * many + spare);
-        ask_points(WINDING, asked, points, distance, 4 * many + spare);
+        ask_points(SURE, asked, points, distance, make_rule(), 24 * many + spare);
+        ask_points(SURE, asked, points, distance, good_rule(), 24 * many + spare);
+        ask_points(SOURCE, asked, points, distance, 0, 24 * many + spare);
+        ask_points(WINDING, asked, points, distance, 0, 4 * many + spare);
         ask_fast(asked, any_sums(asked), points, make_scale(), 4 * many + spare);
         ask_check(asked);
         ask_sums(asked, below(8) ? sums_length(asked) + spare : below((unsigned)sums_length(asked) + 1));
         if (many > 0) {
-            ask_points((int)(SURE + below(3)), asked, points, distance, below(24 * (unsigned)many));
+            ask_points((int)(SURE + below(3)), asked, points, distance, make_rule(), below(24 * (unsigned)many));
             ask_fast(asked, make_sums(asked), points, make_scale(), below(5 * (unsigned)many));
         }
         if (below(4) == 0)
@@ -1350,6 +1507,10 @@ static int wrong_ends(void)
                         listed[call][k] ? "was never met" : "was met and is not listed");
                 wrong++;
             }
+    if (plain_level[0] == 0 || plain_level[1] == 0) {
+        fprintf(stderr, "fuzz: by one rule no point's nearest was at exactly the distance\n");
+        wrong++;
+    }
     if (calls >= ENOUGH && (plain_far == 0 || plain_far_not_finite == 0)) {
         fprintf(stderr, "fuzz: no node was far, or every far term was finite\n");
         wrong++;
@@ -1374,6 +1535,7 @@ int main(int argc, char **argv)
     if (wanted >= 100000)
         for (size_t n = 2; n <= 32; n *= 2)
             in_turn(n);
+    each_level();
     each_depth();
     each_max();
     ask_limits();
@@ -1399,6 +1561,8 @@ int main(int argc, char **argv)
             printf(" %9llu", (unsigned long long)ended[call][k]);
         printf("\n");
     }
+    printf("at exactly the distance: %llu points by rule 1, %llu by rule 2; of %llu squared distances that a distance was sought for, %llu have one\n",
+           (unsigned long long)plain_level[0], (unsigned long long)plain_level[1], (unsigned long long)roots_sought, (unsigned long long)roots_met);
     printf("seed %llu: %llu calls, %llu differences; %llu angles, %llu of them more than 2^-20 off; %llu far terms, %llu of them not finite\n",
            (unsigned long long)seed, (unsigned long long)calls, (unsigned long long)(differences + unknown), (unsigned long long)plain_angles,
            (unsigned long long)plain_angles_off, (unsigned long long)plain_far, (unsigned long long)plain_far_not_finite);

@@ -1,6 +1,6 @@
 /* include/gauge.h alone, compiled as C99 and as C++, each with every warning an error; what it states
- * of its numbers and of a drawing's block, and the worked example of two triangles, also with a damaged
- * tree and as an STL, from C and from C++ alike. */
+ * of its numbers and of a drawing's block, and the worked example of two triangles, also by both measuring
+ * rules, with a damaged tree and as an STL, from C and from C++ alike. */
 #include "gauge.h"
 #include "gauge.h"
 
@@ -27,7 +27,7 @@ static void expect_numbers(void)
 {
     const uint64_t point = (uint64_t)1 << 63 | 17, layout = (uint64_t)10 << 56 | 14;
     const uint64_t scale = (uint64_t)GAUGE_SCALE << 56, stl = (uint64_t)GAUGE_STL << 56 | 134, box = (uint64_t)GAUGE_TREE_BOX << 56 | 131070;
-    expect(GAUGE_VERSION_MAJOR == 3 && GAUGE_VERSION_MINOR == 0, "the header's version");
+    expect(GAUGE_VERSION_MAJOR == 4 && GAUGE_VERSION_MINOR == 0, "the header's version");
     expect(sizeof(struct gauge_answer) == GAUGE_ANSWER_BYTES && sizeof(float) == 4, "an answer has 24 bytes");
     expect(!gauge_refused(4096) && gauge_number(4096) == 0, "a count is no refusal");
     expect(gauge_refused(point) && gauge_number(point) == GAUGE_POINT && gauge_place(point) == 17, "a refusal of points");
@@ -98,7 +98,7 @@ static void expect_example(void)
            "what was written reads back equal");
     expect(gauge_number(gauge_image_triangles(NULL, 0)) == GAUGE_LAYOUT, "nothing at NULL is no image");
 
-    expect(gauge_drawing_sure(&back, points, 2, 50, answers) == 2, "two answers");
+    expect(gauge_drawing_sure(&back, points, 2, 50, GAUGE_RULE_BELOW, answers) == 2, "two answers");
     expect(memcmp(&answers[0], &near, 24) == 0 && memcmp(&answers[1], &nothing, 24) == 0, "the sure query's answers");
     expect(gauge_drawing_source(&back, points, 2, 50, answers) == 2, "two source answers");
     expect(memcmp(&answers[0], &far, 24) == 0, "the source's first answer");
@@ -110,6 +110,54 @@ static void expect_example(void)
     expect(gauge_drawing_fast_winding(&back, sums, points, 2, 2, windings) == 2, "two fast windings");
     expect(windings[0] == 0 && windings[1] == 0, "seen from the side a dipole covers no angle");
     expect(gauge_drawing_fast_winding(&back, sums, points, 2, GAUGE_MAX_SCALE * 2, windings) == (uint64_t)GAUGE_SCALE << 56, "a scale too large");
+}
+
+/* What a query of one point answers, the same by the drawing as by its lists. */
+static int answers_so(const struct gauge_drawing *d, const float *point, float distance, uint32_t rule, const struct gauge_answer *wanted)
+{
+    struct gauge_answer answer, listed;
+    memset(&answer, 0xff, sizeof answer);
+    memset(&listed, 0xff, sizeof listed);
+    return gauge_drawing_sure(d, point, 1, distance, rule, &answer) == 1 && memcmp(&answer, wanted, sizeof answer) == 0 &&
+           gauge_sure(d->triangles, 18, d->order, 2, d->links, 9, d->boxes, 18, 3, (const uint8_t *)point, 12, distance, rule, (uint8_t *)&listed,
+                      sizeof listed) == 1 &&
+           memcmp(&listed, wanted, sizeof listed) == 0;
+}
+
+/* The first point is exactly 4.5 from both triangles, the second lies on the first of them. */
+static void expect_rules(void)
+{
+    static const float corners[18] = {0, 0, 0, 1, 0, 0, 0, 1, 0, 10, 0, 0, 11, 0, 0, 10, 1, 0};
+    static const float between[3] = {5.5f, 0, 0}, on[3] = {0.5f, 0.25f, 0};
+    static const struct gauge_answer near = {1, 0, 1, 0, 0, 20.25f}, at = {1, 0, 0.5f, 0.25f, 0, 0}, nothing = {0, 0, 0, 0, 0, 0};
+    static const uint32_t none[] = {0, 3, 257, 65538, 0x80000001, 0xffffffff};
+    static float block[GAUGE_DRAWING_BYTES(2) / 4];
+    struct gauge_drawing d = gauge_lay(block, 2);
+    struct gauge_answer answer;
+    const uint64_t five = (uint64_t)GAUGE_SETTING << 56;
+    memcpy(d.triangles, corners, sizeof corners);
+    expect(gauge_drawing_build(&d, GAUGE_MEDIAN, 1, 40) == 3, "a tree");
+    expect(GAUGE_RULE_BELOW == 1 && GAUGE_RULE_BELOW_OR_EQUAL == 2, "the numbers of the rules");
+
+    expect(answers_so(&d, between, 4.5f, GAUGE_RULE_BELOW, &nothing), "at exactly the distance, below");
+    expect(answers_so(&d, between, 4.5f, GAUGE_RULE_BELOW_OR_EQUAL, &near), "at exactly the distance, below or equal");
+    expect(answers_so(&d, between, 4.4999995f, GAUGE_RULE_BELOW_OR_EQUAL, &nothing), "a step farther than the distance, below or equal");
+    expect(answers_so(&d, between, 4.5000005f, GAUGE_RULE_BELOW, &near), "a step nearer than the distance, below");
+    expect(answers_so(&d, on, 0, GAUGE_RULE_BELOW, &nothing), "on a triangle, at a distance of 0, below");
+    expect(answers_so(&d, on, 0, GAUGE_RULE_BELOW_OR_EQUAL, &at), "on a triangle, at a distance of 0, below or equal");
+    expect(answers_so(&d, on, -0.0f, GAUGE_RULE_BELOW_OR_EQUAL, &at), "on a triangle, at minus zero, below or equal");
+    expect(answers_so(&d, between, 0, GAUGE_RULE_BELOW_OR_EQUAL, &nothing), "off a triangle, at a distance of 0, below or equal");
+    expect(answers_so(&d, on, 1e-45f, GAUGE_RULE_BELOW, &nothing), "on a triangle, at a distance that is 0 when squared, below");
+
+    for (size_t i = 0; i < sizeof none / sizeof *none; i++)
+        expect(gauge_drawing_sure(&d, between, 1, 50, none[i], &answer) == five, "a number that is no rule");
+    expect(gauge_sure(d.triangles, 17, d.order, 2, d.links, 9, d.boxes, 18, 3, NULL, 0, 50, 3, NULL, 0) == (uint64_t)GAUGE_RAGGED << 56,
+           "no rule, and a ragged list");
+    expect(gauge_sure(d.triangles, 18, NULL, 0, d.links, 9, d.boxes, 18, 3, (const uint8_t *)between, 11, -1, 3, NULL, 0) == five,
+           "no rule, no tree, no whole point and no distance");
+    expect(gauge_sure(d.triangles, 18, d.order, 2, d.links, 9, d.boxes, 18, 3, (const uint8_t *)between, 12, 50, 3, NULL, 0) == five,
+           "no rule, and no room");
+    expect(gauge_drawing_source(&d, between, 1, 4.5f, &answer) == 1, "the source query has no rule");
 }
 
 /* Whether the check says this of the drawing. */
@@ -183,6 +231,7 @@ int main(void)
     expect_numbers();
     expect_block();
     expect_example();
+    expect_rules();
     expect_damage();
     expect_stl();
     return failed;

@@ -7,6 +7,7 @@
 #include "gauge.h"
 #include "plain.h"
 
+#include <math.h>
 #include <stdio.h>
 #include <stdlib.h>
 #include <string.h>
@@ -108,22 +109,39 @@ static void wound(const struct gauge_drawing *d, const float *points, const char
     free(plain_sums);
 }
 
+/* A distance whose square is this, where there is one. */
+static float root_of(float squared)
+{
+    float near = sqrtf(squared), some[3] = {near, nextafterf(near, INFINITY), nextafterf(near, 0)};
+    for (int i = 0; i < 3; i++) {
+        float square = some[i] * some[i];
+        if (square == squared)
+            return some[i];
+    }
+    return near;
+}
+
+/* Within 2.5, as far as can be, and as far as the nearest of the last point, by both rules. */
 static void asked(const struct gauge_drawing *d, const char *line)
 {
     float points[3 * POINTS];
     struct gauge_answer ours[POINTS], plain[POINTS];
+    float nearest = 0;
     uint64_t state = 7;
     for (int i = 0; i < 3 * POINTS; i++) {
         state = (state * 1103515245 + 12345) % ((uint64_t)1 << 31);
         points[i] = (float)(state / 256 % 4096) / 16.0f;
     }
     wound(d, points, line);
-    for (int reach = 0; reach < 2; reach++) {
-        float distance = reach == 0 ? 2.5f : GAUGE_MAX_DISTANCE;
-        expect(gauge_drawing_sure(d, points, POINTS, distance, ours) == POINTS, "the sure query's count", line);
+    for (uint32_t reach = 0; reach < 6; reach++) {
+        float distance = reach < 2 ? 2.5f : reach < 4 ? GAUGE_MAX_DISTANCE : root_of(nearest);
+        uint32_t rule = 1 + reach % 2;
+        expect(gauge_drawing_sure(d, points, POINTS, distance, rule, ours) == POINTS, "the sure query's count", line);
         plain_sure(d->triangles, 9 * d->count, d->order, d->count, d->links, 3 * d->nodes, d->boxes, 6 * d->nodes, d->nodes,
-                   (const uint8_t *)points, sizeof points, distance, (uint8_t *)plain, sizeof plain);
+                   (const uint8_t *)points, sizeof points, distance, rule, (uint8_t *)plain, sizeof plain);
         expect(memcmp(ours, plain, sizeof ours) == 0, "the sure answers", line);
+        if (reach < 4)
+            nearest = plain[POINTS - 1].squared;
     }
 }
 
@@ -171,8 +189,8 @@ static void limits(void)
     expect(gauge_build(GAUGE_AREA, 1, 40, more, 9 * (n + 1), lists, n + 1, lists + n + 1, 3 * n, many, 6 * n, many + 6 * n, 6 * n, many, 3 * n,
                        lists, n) == three, "a build is no refusal 3", "65,537");
     expect(gauge_check(more, 9 * (n + 1), lists, n + 1, lists, 3, many, 6, 1) == three, "a check is no refusal 3", "65,537");
-    expect(gauge_sure(more, 9 * (n + 1), lists, n + 1, lists, 3, many, 6, 1, (uint8_t *)more, 12, 1, (uint8_t *)&answer, sizeof answer) == three,
-           "a query is no refusal 3", "65,537");
+    expect(gauge_sure(more, 9 * (n + 1), lists, n + 1, lists, 3, many, 6, 1, (uint8_t *)more, 12, 1, 3, (uint8_t *)&answer, sizeof answer) == three,
+           "a query by no rule is no refusal 3", "65,537");
     expect(gauge_winding(more, 9 * (n + 1), (uint8_t *)more, 12, (uint8_t *)&answer, 4) == three, "winding is no refusal 3", "65,537");
     expect(gauge_node_sums(more, 9 * (n + 1), lists, n + 1, lists, 3, many, 6, 1, sums, 16) == three, "sums are no refusal 3", "65,537");
     expect(gauge_fast_winding(more, 9 * (n + 1), lists, n + 1, lists, 3, many, 6, 1, many, 16, (uint8_t *)more, 12, 2, (uint8_t *)&answer, 4) == three,
@@ -201,5 +219,6 @@ int main(int argc, char **argv)
     fclose(file);
     expect(lines > 0, "no line", argv[1]);
     limits();
+    expect(plain_level[0] > 0 && plain_level[1] > 0, "no point's nearest was at exactly the distance", argv[1]);
     return wrong;
 }

@@ -26,7 +26,7 @@ uint64_t plain_check(const float *triangles, size_t triangles_length, const uint
                      const uint32_t *links, size_t links_length, const float *boxes, size_t boxes_length, size_t nodes);
 uint64_t plain_sure(const float *triangles, size_t triangles_length, const uint32_t *order, size_t order_length,
                     const uint32_t *links, size_t links_length, const float *boxes, size_t boxes_length, size_t nodes,
-                    const uint8_t *points, size_t points_length, float distance,
+                    const uint8_t *points, size_t points_length, float distance, uint32_t rule,
                     uint8_t *answers, size_t answers_length);
 uint64_t plain_source(const float *triangles, size_t triangles_length, const uint32_t *order, size_t order_length,
                       const uint32_t *links, size_t links_length, const float *boxes, size_t boxes_length, size_t nodes,
@@ -57,6 +57,9 @@ size_t plain_chain(size_t levels, int leaves, const float *triangles, size_t cou
 
 /* How many angles the two winding calls have made, and how many of them were more than 2^-20 off atan2. */
 extern uint64_t plain_angles, plain_angles_off;
+
+/* At how many points the nearest was at exactly the search distance when plain_sure was asked by rule 1, and by rule 2. */
+extern uint64_t plain_level[2];
 
 /* How many nodes were far from a point, and of how many of them the far term was not finite. */
 extern uint64_t plain_far, plain_far_not_finite;

@@ -26,6 +26,7 @@ static float block[GAUGE_DRAWING_BYTES(N) / 4], other_block[GAUGE_DRAWING_BYTES(
 static struct gauge_drawing d, other;
 static uint8_t image[GAUGE_IMAGE_MAX(N)], stl[GAUGE_STL_BYTES(N)];
 static size_t image_length, strategy;
+static uint32_t rule = GAUGE_RULE_BELOW;
 static float points[3 * POINTS], winding, sums[GAUGE_SUMS(N)], scale;
 static struct gauge_answer answers[POINTS];
 static int failed;
@@ -72,7 +73,7 @@ static void *run(void *given)
         job->returned = gauge_drawing_check(&d);
         break;
     case SURE:
-        job->returned = gauge_drawing_sure(&d, points, POINTS, GAUGE_MAX_DISTANCE, answers);
+        job->returned = gauge_drawing_sure(&d, points, POINTS, GAUGE_MAX_DISTANCE, rule, answers);
         break;
     case SOURCE:
         job->returned = gauge_drawing_source(&d, points, POINTS, GAUGE_MAX_DISTANCE, answers);
@@ -144,7 +145,9 @@ static void ask_tree(const char *input)
     expect(WRITE_STL, GAUGE_STL_BYTES(d.count), input);
     expect(READ_STL, d.count, input);
     expect(CHECK, d.count, input);
-    expect(SURE, POINTS, input);
+    for (rule = GAUGE_RULE_BELOW_OR_EQUAL; rule >= GAUGE_RULE_BELOW; rule--)
+        expect(SURE, POINTS, input);
+    rule = GAUGE_RULE_BELOW;
     expect(SOURCE, POINTS, input);
     expect(WINDING, 1, input);
     expect(NODE_SUMS, d.nodes, input);

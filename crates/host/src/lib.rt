@@ -182,9 +182,10 @@ pub extern "C" fn gauge_sure(
     nodes: usize,
     points: &[u8],
     distance: f32,
+    rule: u32,
     answers: &mut [u8],
 ) -> u64
-    ensures { λ r. ⌜ QueryIs sure (now (triangles .entry)) (now (order .entry)) (now (links .entry)) (now (boxes .entry)) nodes
+    ensures { λ r. ⌜ QueryIs (sure rule) (now (triangles .entry)) (now (order .entry)) (now (links .entry)) (now (boxes .entry)) nodes
         (now (points .entry)) distance (now (answers .entry)) r (now (answers .exit)) ⌝ }
 {
     sure_points(
@@ -195,6 +196,7 @@ pub extern "C" fn gauge_sure(
         nodes,
         points,
         distance,
+        rule,
         answers,
     )
 }

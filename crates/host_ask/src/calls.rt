@@ -31,7 +31,7 @@ pub fn check_lists(
     encode(verdict, triangle_count(triangles))
 }
 
-// A query at each point, 24 bytes an answer: tests 1 to 4, 6, 71 to 75, 8 and 9. The status is the number of points.
+// A query at each point, 24 bytes an answer: tests 1 to 6, 71 to 75, 8 and 9. The status is the number of points.
 fn query_points(
     query: Query,
     triangles: &[f32],
@@ -61,6 +61,7 @@ fn query_points(
 }
 
 // Writes the sure query's answer at each point: the nearest surface point, the lowest triangle number among equals.
+// By rule 1 what is exactly at the distance does not count, by rule 2 it does.
 // The status is the number of points.
 pub fn sure_points(
     triangles: &[f32],
@@ -70,13 +71,14 @@ pub fn sure_points(
     nodes: usize,
     points: &[u8],
     distance: f32,
+    rule: u32,
     answers: &mut [u8],
 ) -> u64
-    ensures { λ r. ⌜ QueryIs sure (now (triangles .entry)) (now (order .entry)) (now (links .entry)) (now (boxes .entry)) nodes
+    ensures { λ r. ⌜ QueryIs (sure rule) (now (triangles .entry)) (now (order .entry)) (now (links .entry)) (now (boxes .entry)) nodes
         (now (points .entry)) distance (now (answers .entry)) r (now (answers .exit)) ⌝ }
 {
     query_points(
-        Query::Sure,
+        Query::Sure { rule },
         triangles,
         order,
         links,

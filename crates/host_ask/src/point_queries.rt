@@ -1,10 +1,10 @@
-// The answers of a query at all points: tests 1 to 4, 6, 71 to 75, 8 and 9, then 24 bytes a point.
+// The answers of a query at all points: tests 1 to 6, 71 to 75, 8 and 9, then 24 bytes a point.
 ghost use mathlib.Core.Path.{_≡_};
 ghost use Prim.Native.Nat.{_*_, _/_, _≤_};
 ghost use lib.ListN.{length};
 ghost use lib.Ieee.{binary32};
 ghost use Rattle.spec_tables.specs.Tables.{overwrite};
-ghost use Rattle.spec_lists.specs.Passed.{GoodPoints};
+ghost use Rattle.spec_lists.specs.Passed.{GoodPoints, GoodDistance};
 ghost use Rattle.lists.specs.Values.{asVerdict};
 ghost use Rattle.spec_search.specs.Calls.{Searchable, answerBy};
 ghost use Rattle.spec_host.specs.PointBytes.{numbersOf, answerBytes, afterBytes};
@@ -18,11 +18,13 @@ use lists::tests::triangles_refusal;
 use lists::verdict::Verdict;
 use lists::verdict::room_refusal;
 use queries::query::answer_at;
+use queries::rules::rule_refusal_by;
 use tree::calls::tree_refusal;
 use walks::answer::Query;
 
-// The first of the tests 1 to 4, 6, 71 to 75, 8 and 9 that refuses. The room is in bytes: 24 an answer, where a point has 12.
+// The first of the tests 1 to 6, 71 to 75, 8 and 9 that refuses. The room is in bytes: 24 an answer, where a point has 12.
 fn query_refusal(
+    query: Query,
     triangles: &[f32],
     order: &[u32],
     links: &[u32],
@@ -33,10 +35,14 @@ fn query_refusal(
     room: usize,
 ) -> Verdict
     ensures { λ r. ⌜ asVerdict r
-        ≡ queryBytesRefusal (now (triangles .entry)) (now (order .entry)) (now (links .entry)) (now (boxes .entry)) nodes (now (points .entry)) distance
-        room ⌝ }
+        ≡ queryBytesRefusal (asQuery query) (now (triangles .entry)) (now (order .entry)) (now (links .entry)) (now (boxes .entry)) nodes
+        (now (points .entry)) distance room ⌝ }
 {
-    let early = triangles_refusal(triangles).or(room_refusal(room / 24, points.len() / 12));
+    let drawing = triangles_refusal(triangles);
+    if drawing.refuses() {
+        return drawing;
+    }
+    let early = rule_refusal_by(query).or(room_refusal(room / 24, points.len() / 12));
     if early.refuses() {
         return early;
     }
@@ -60,6 +66,7 @@ fn put_answers(
     requires { ⌜ Searchable (now triangles) (now order) (now links) (now boxes) nodes ⌝ }
     requires { ⌜ GoodPoints (numbersOf (now points)) ⌝ }
     requires { ⌜ 24 * (length (now points) / 12) ≤ length (now answers) ⌝ }
+    requires { ⌜ GoodDistance distance ⌝ }
     ensures { λ _. ⌜ now (answers .exit)
         ≡ overwrite 0 (answerBytes (answerBy binary32 (asQuery query) (now (triangles .entry)) (now (order .entry)) (now (links .entry))
         (now (boxes .entry)) nodes distance) (now (points .entry))) (now (answers .entry)) ⌝ }
@@ -96,13 +103,14 @@ pub fn ask(
     answers: &mut [u8],
 ) -> Verdict
     ensures verdict { λ r. ⌜ asVerdict r
-        ≡ queryBytesRefusal (now (triangles .entry)) (now (order .entry)) (now (links .entry)) (now (boxes .entry)) nodes (now (points .entry)) distance
-        (length (now (answers .entry))) ⌝ }
+        ≡ queryBytesRefusal (asQuery query) (now (triangles .entry)) (now (order .entry)) (now (links .entry)) (now (boxes .entry)) nodes
+        (now (points .entry)) distance (length (now (answers .entry))) ⌝ }
     ensures answers { λ r. ⌜ now (answers .exit)
         ≡ afterBytes (asVerdict r) (answerBytes (answerBy binary32 (asQuery query) (now (triangles .entry)) (now (order .entry)) (now (links .entry))
         (now (boxes .entry)) nodes distance) (now (points .entry))) (now (answers .entry)) ⌝ }
 {
     let verdict = query_refusal(
+        query,
         triangles,
         order,
         links,

@@ -53,12 +53,12 @@ sums-decoded triangles order links boxes nodes room =
 
 module _ (triangles : List Float) (points : List ℕ) (fits : length points < 2 ^ 63) (few : length points / 12 < 2 ^ 56) (room : ℕ) where
   -- the status of a query is decoded without loss
-  pub query-decoded : (order links : List ℕ) (boxes : List Float) (nodes : ℕ) (distance : Float)
-      → Decoded (queryBytesRefusal triangles order links boxes nodes points distance room) (length points / 12)
-      (status (queryBytesRefusal triangles order links boxes nodes points distance room) (length points / 12))
-  query-decoded order links boxes nodes distance =
-      decoded (queryBytesRefusal triangles order links boxes nodes points distance room) (length points / 12)
-      (query-encodable triangles order links boxes nodes points distance room fits) (λ _. few)
+  pub query-decoded : (query : Query) (order links : List ℕ) (boxes : List Float) (nodes : ℕ) (distance : Float)
+      → Decoded (queryBytesRefusal query triangles order links boxes nodes points distance room) (length points / 12)
+      (status (queryBytesRefusal query triangles order links boxes nodes points distance room) (length points / 12))
+  query-decoded query order links boxes nodes distance =
+      decoded (queryBytesRefusal query triangles order links boxes nodes points distance room) (length points / 12)
+      (query-encodable triangles order links boxes nodes query points distance room fits) (λ _. few)
 
   -- the status of the winding call is decoded without loss
   pub winding-decoded : Decoded (windingBytesRefusal triangles points room) (length points / 12)
@@ -84,11 +84,11 @@ module _ (points : List ℕ) (whole : length points % 12 ≡ 0) where
       rw (ragged, raggedToo)
 
   -- on whole points a query is refused as the list query is, whose room is in words
-  pub queries-as-lists : (triangles : List Float) (order links : List ℕ) (boxes : List Float) (nodes : ℕ) (distance : Float) (room : ℕ)
-      → queryBytesRefusal triangles order links boxes nodes points distance room
-      ≡ queryRefusal triangles order links boxes nodes (numbersOf points) distance (room / 4)
+  pub queries-as-lists : (query : Query) (triangles : List Float) (order links : List ℕ) (boxes : List Float) (nodes : ℕ) (distance : Float) (room : ℕ)
+      → queryBytesRefusal query triangles order links boxes nodes points distance room
+      ≡ queryRefusal query triangles order links boxes nodes (numbersOf points) distance (room / 4)
   unfolding queryBytesRefusal queryRefusal
-  queries-as-lists triangles order links boxes nodes distance room =
+  queries-as-lists query triangles order links boxes nodes distance room =
       let rooms : room / 4 / 6 ≡ room / 24 = omega arith in
       rw (rooms, points-count points, points-as-lists)
 
@@ -96,16 +96,16 @@ module _ (points : List ℕ) (whole : length points % 12 ≡ 0) where
   pub answers-as-lists : {query : Query} {triangles : List Float} {order links : List ℕ} {boxes : List Float} {nodes : ℕ} {distance : Float} {new : List ℕ}
       {r : ℕ} (old : List ℕ) → QueryIs query triangles order links boxes nodes points distance (wordBytes old) r new
       → new ≡ wordBytes (afterQuery binary32 (answerBy binary32 query triangles order links boxes nodes distance) (numbersOf points)
-      (queryRefusal triangles order links boxes nodes (numbersOf points) distance (length old)) old)
+      (queryRefusal query triangles order links boxes nodes (numbersOf points) distance (length old)) old)
   answers-as-lists {query} {triangles} {order} {links} {boxes} {nodes} {distance} old q =
       let answer = answerBy binary32 query triangles order links boxes nodes distance in
       let long : length (wordBytes old) / 4 ≡ length old = rw (words-long old) (omega arith) in
-      let v = queryBytesRefusal triangles order links boxes nodes points distance (length (wordBytes old)) in
-      let same : v ≡ queryRefusal triangles order links boxes nodes (numbersOf points) distance (length old) =
-      queries-as-lists triangles order links boxes nodes distance (length (wordBytes old))
-      ∙ ap (queryRefusal triangles order links boxes nodes (numbersOf points) distance) long in
+      let v = queryBytesRefusal query triangles order links boxes nodes points distance (length (wordBytes old)) in
+      let same : v ≡ queryRefusal query triangles order links boxes nodes (numbersOf points) distance (length old) =
+      queries-as-lists query triangles order links boxes nodes distance (length (wordBytes old))
+      ∙ ap (queryRefusal query triangles order links boxes nodes (numbersOf points) distance) long in
       q .answers-are ∙ answers-after answer points old v
-      (λ e. omega (arith, words-long old, query-passed triangles order links boxes nodes points distance (length (wordBytes old)) e .1 .1))
+      (λ e. omega (arith, words-long old, query-passed triangles order links boxes nodes query points distance (length (wordBytes old)) e .1 .1 .0))
       ∙ ap (λ (w : Verdict). wordBytes (afterQuery binary32 answer (numbersOf points) w old)) same
 
   -- on whole points the winding call is refused as the list call is

@@ -1,6 +1,6 @@
 -- The status of a call is decoded without loss, number, place and count; and which verdicts can be encoded in it.
 use mathlib.Core.Path.{_≡_, refl, sym, ap, _∙_}
-use mathlib.Core.Bool.{Bool, true, false, cond, not}
+use mathlib.Core.Bool.{Bool, true, false, cond, not, _||_}
 use mathlib.Core.List.{List, [], _∷_}
 use Prim.Native.Nat.{ℕ, _+_, _*_, _-_, _/_, _%_, _^_, _≤_, _<_}
 use native.Mathlib.Omega.{arith}
@@ -17,6 +17,9 @@ use Rattle.spec_lists.proofs.Passed.{triangles-passed}
 use Rattle.spec_tree.specs.Refusals.{treeRefusal}
 use Rattle.spec_tree.proofs.Places.{InTree}
 use Rattle.spec_tree.proofs.Unchanged.{tree-placed}
+use Rattle.spec_search.specs.Answers.{Query, sure, source}
+use Rattle.spec_search.specs.Rules.{ruleRefusal}
+use Rattle.spec_search.specs.Calls.{ruleRefusalBy}
 use Rattle.spec_host.specs.Status.{status, refusalStatus, saturated, statusNumber, statusPlace, statusCount, Placed, InPlace, Encodable, Decoded}
 
 -- ---- decoding
@@ -162,6 +165,12 @@ triangles-encodable xs = told-encodable (trianglesRefusal xs) (triangles-told xs
 pub settings-encodable : (s : Settings) → InPlace (settingsRefusal s)
 unfolding settingsRefusal
 settings-encodable s = at-zero (not (areSettings s)) 5 (omega arith) (omega arith)
+
+-- the test of a query's rule can be encoded
+pub rule-encodable : (query : Query) → InPlace (ruleRefusalBy query)
+unfolding ruleRefusal
+rule-encodable (sure rule) = at-zero (not (eqb rule 1 || eqb rule 2)) 5 (omega arith) (omega arith)
+rule-encodable source = tt
 
 -- the place of the room's test is low
 pub room-told : (given need : ℕ) → Told (roomRefusal given need)

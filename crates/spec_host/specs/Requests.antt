@@ -9,17 +9,17 @@ use Rattle.spec_lists.specs.Refusals.{Verdict, firstRefusal, trianglesRefusal, 
 use Rattle.spec_tree.specs.Refusals.{treeRefusal}
 use Rattle.spec_dipoles.specs.Calls.{sumsRefusal, afterSums}
 use Rattle.spec_search.specs.Answers.{Query}
-use Rattle.spec_search.specs.Calls.{answerBy}
+use Rattle.spec_search.specs.Calls.{ruleRefusalBy, answerBy}
 use Rattle.spec_host.specs.Status.{status}
 use Rattle.spec_host.specs.PointBytes.{pointBytesRefusal, answerBytes, windingBytes, fastBytes, afterBytes}
 
--- 1 to 4, 6, 71 to 75, 8, 9
-unfoldable pub queryBytesRefusal : (triangles : List Float) (order links : List ℕ) (boxes : List Float) (nodes : ℕ) (points : List ℕ) (distance : Float)
-    (room : ℕ) → Verdict
-queryBytesRefusal triangles order links boxes nodes points distance room =
+-- 1 to 6, 71 to 75, 8, 9; 5 is of the sure query's rule
+unfoldable pub queryBytesRefusal : Query → (triangles : List Float) (order links : List ℕ) (boxes : List Float) (nodes : ℕ) (points : List ℕ)
+    (distance : Float) (room : ℕ) → Verdict
+queryBytesRefusal query triangles order links boxes nodes points distance room =
     firstRefusal
     (trianglesRefusal triangles
-    ∷ roomRefusal (room / 24) (length points / 12)
+    ∷ ruleRefusalBy query ∷ roomRefusal (room / 24) (length points / 12)
     ∷ treeRefusal triangles order links boxes nodes
     ∷ pointBytesRefusal points ∷ distanceRefusal distance ∷ [])
 
@@ -44,8 +44,8 @@ fastBytesRefusal triangles order links boxes nodes sums points accuracy room =
 -- a query answers r and leaves `new`
 pub record QueryIs (query : Query) (triangles : List Float) (order links : List ℕ) (boxes : List Float) (nodes : ℕ) (points : List ℕ) (distance : Float)
     (old : List ℕ) (r : ℕ) (new : List ℕ) : Type 0 where
-  pub status-is : r ≡ status (queryBytesRefusal triangles order links boxes nodes points distance (length old)) (length points / 12)
-  pub answers-are : new ≡ afterBytes (queryBytesRefusal triangles order links boxes nodes points distance (length old))
+  pub status-is : r ≡ status (queryBytesRefusal query triangles order links boxes nodes points distance (length old)) (length points / 12)
+  pub answers-are : new ≡ afterBytes (queryBytesRefusal query triangles order links boxes nodes points distance (length old))
       (answerBytes (answerBy binary32 query triangles order links boxes nodes distance) points) old
 
 -- the winding call answers r and leaves `new`

@@ -9,13 +9,15 @@ ghost use Rattle.spec_tree.specs.Depth as Depth;
 ghost use Rattle.spec_tree.specs.Refusals as Trees;
 ghost use Rattle.tree.specs.Values as Found;
 ghost use Rattle.spec_angles.specs.Windings as Windings;
-ghost use Rattle.spec_search.specs.Sure as Sure;
+ghost use Rattle.spec_search.specs.Answers as Answers;
+ghost use Rattle.spec_search.specs.Rules as Rules;
 ghost use Rattle.spec_search.specs.Calls as Calls;
 ghost use Rattle.spec_dipoles.specs.Calls as Dipoles;
 ghost use Rattle.test_exports.specs.Answered as Answered;
 use build::calls::Built;
 use lists::reading::point_at;
 use lists::reading::triangle_at;
+use lists::tests::distance_refusal;
 use lists::tests::triangles_refusal;
 use lists::verdict::Verdict;
 use shapes::vec3::Vec3;
@@ -172,14 +174,15 @@ pub extern "C" fn timing_sure(
     nodes: usize,
     points: &[f32],
     distance: f32,
+    rule: u32,
     answers: &mut [u32],
 ) -> u32
-    ensures passed { λ r. ⌜ r ≡ Answered.onePassed (Calls.queryRefusal (now (triangles .entry)) (now (order .entry)) (now (links .entry))
+    ensures passed { λ r. ⌜ r ≡ Answered.onePassed (Calls.queryRefusal (Answers.sure rule) (now (triangles .entry)) (now (order .entry)) (now (links .entry))
         (now (boxes .entry)) nodes (now (points .entry)) distance (length (now (answers .entry)))) ⌝ }
     ensures answers { λ _. ⌜ now (answers .exit)
-        ≡ Calls.afterQuery binary32 (Calls.sureAnswer binary32 (now (triangles .entry)) distance) (now (points .entry))
-        (Calls.queryRefusal (now (triangles .entry)) (now (order .entry)) (now (links .entry)) (now (boxes .entry)) nodes (now (points .entry)) distance
-        (length (now (answers .entry)))) (now (answers .entry)) ⌝ }
+        ≡ Calls.afterQuery binary32 (Calls.sureAnswer binary32 (Rules.ruleOf rule) (now (triangles .entry)) distance) (now (points .entry))
+        (Calls.queryRefusal (Answers.sure rule) (now (triangles .entry)) (now (order .entry)) (now (links .entry)) (now (boxes .entry)) nodes
+        (now (points .entry)) distance (length (now (answers .entry)))) (now (answers .entry)) ⌝ }
 {
     let verdict = queries::calls::sure_query(
         triangles,
@@ -189,6 +192,7 @@ pub extern "C" fn timing_sure(
         nodes,
         points,
         distance,
+        rule,
         answers,
     );
     one_passed(verdict)
@@ -206,12 +210,12 @@ pub extern "C" fn timing_source(
     distance: f32,
     answers: &mut [u32],
 ) -> u32
-    ensures passed { λ r. ⌜ r ≡ Answered.onePassed (Calls.queryRefusal (now (triangles .entry)) (now (order .entry)) (now (links .entry))
-        (now (boxes .entry)) nodes (now (points .entry)) distance (length (now (answers .entry)))) ⌝ }
+    ensures passed { λ r. ⌜ r ≡ Answered.onePassed (Calls.queryRefusal Answers.source (now (triangles .entry)) (now (order .entry))
+        (now (links .entry)) (now (boxes .entry)) nodes (now (points .entry)) distance (length (now (answers .entry)))) ⌝ }
     ensures answers { λ _. ⌜ now (answers .exit)
         ≡ Calls.afterQuery binary32 (Calls.sourceAnswer binary32 (now (triangles .entry)) (now (order .entry)) (now (links .entry))
-        (now (boxes .entry)) nodes distance) (now (points .entry)) (Calls.queryRefusal (now (triangles .entry)) (now (order .entry)) (now (links .entry))
-        (now (boxes .entry)) nodes (now (points .entry)) distance (length (now (answers .entry)))) (now (answers .entry)) ⌝ }
+        (now (boxes .entry)) nodes distance) (now (points .entry)) (Calls.queryRefusal Answers.source (now (triangles .entry)) (now (order .entry))
+        (now (links .entry)) (now (boxes .entry)) nodes (now (points .entry)) distance (length (now (answers .entry)))) (now (answers .entry)) ⌝ }
 {
     let verdict = queries::calls::source_query(
         triangles,
@@ -258,7 +262,7 @@ pub extern "C" fn timing_depth_read(
     depth_read(found)
 }
 
-// How many triangles the sure search measures for one point.
+// How many triangles the sure search measures for one point, 0 where the distance is refused.
 fn measured_at(
     triangles: &[f32],
     order: &[u32],
@@ -267,16 +271,21 @@ fn measured_at(
     nodes: usize,
     p: Vec3,
     distance: f32,
+    rule: u32,
 ) -> usize
     requires { ⌜ Calls.Searchable (now triangles) (now order) (now links) (now boxes) nodes ⌝ }
-    ensures { λ r. ⌜ r ≡ Sure.sureWalk binary32 (now (triangles .entry)) (now (order .entry)) (now (links .entry)) (now (boxes .entry)) nodes (Shapes.asPoint p)
-        (Sure.limitOf binary32 distance) .measured ⌝ }
+    ensures { λ r. ⌜ r ≡ Answered.measuredAt binary32 (now (triangles .entry)) (now (order .entry)) (now (links .entry)) (now (boxes .entry)) nodes
+        distance rule (Shapes.asPoint p) ⌝ }
 {
+    let bad_distance = distance_refusal(distance);
+    if bad_distance.refuses() {
+        return 0;
+    }
     let probe = Probe {
         point: p,
         limit: distance * distance,
     };
-    let sought = search(triangles, order, links, boxes, nodes, probe);
+    let sought = search(triangles, order, links, boxes, nodes, probe, rule);
     sought.measured
 }
 
@@ -290,9 +299,10 @@ pub extern "C" fn timing_measured(
     nodes: usize,
     points: &[f32],
     distance: f32,
+    rule: u32,
 ) -> usize
     ensures { λ r. ⌜ r ≡ Answered.measuredFirst binary32 (now (triangles .entry)) (now (order .entry)) (now (links .entry)) (now (boxes .entry)) nodes
-        (now (points .entry)) distance ⌝ }
+        (now (points .entry)) distance rule ⌝ }
 {
     let bad_triangles = triangles_refusal(triangles);
     if bad_triangles.refuses() {
@@ -304,7 +314,7 @@ pub extern "C" fn timing_measured(
     }
     if points.len() >= 3 {
         let p = point_at(points, 0);
-        return measured_at(triangles, order, links, boxes, nodes, p, distance);
+        return measured_at(triangles, order, links, boxes, nodes, p, distance, rule);
     }
     0
 }

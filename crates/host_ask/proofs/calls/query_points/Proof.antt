@@ -20,8 +20,8 @@ encode-requires c κs =
     let known = asked .before .before .before .before in
     let start = known .before .before .before .before in
     let a = start .args in
-    rw (asked .ask .ensures .0) (query-encodable (a .triangles .now) (a .order .now) (a .links .now) (a .boxes .now) (a .nodes) (a .points .now) (a .distance)
-    (length (a .answers .now)) (omega (arith, start .good)))
+    rw (asked .ask .ensures .0) (query-encodable (a .triangles .now) (a .order .now) (a .links .now) (a .boxes .now) (a .nodes) (asQuery (a .query))
+    (a .points .now) (a .distance) (length (a .answers .now)) (omega (arith, start .good)))
 
 returns : tie.Need-returns
 returns c =

@@ -4,6 +4,7 @@ use lib.ListN.{length}
 use Rattle.spec_lists.proofs.Verdicts.{did-pass}
 use Rattle.spec_host.proofs.PointBytes.{as-it-was, as-written}
 use Rattle.spec_host.proofs.Requests.{query-passed}
+use Rattle.walks.specs.Values.{asQuery}
 use borrow.Author.Needs.{needs}
 use Rattle.host_ask.proofs.point_queries.ask.Statement.{statement}
 use Rattle.host_ask.proofs.point_queries.ask.Tie as tie
@@ -18,7 +19,8 @@ put-answers-requires c κs =
     let known4 = after-query-refusal .before .before .before in
     let start = known4 .before .before .before .before in
     let a = start .args in
-    query-passed (a .triangles .now) (a .order .now) (a .links .now) (a .boxes .now) (a .nodes) (a .points .now) (a .distance) (length (a .answers .now))
+    query-passed (a .triangles .now) (a .order .now) (a .links .now) (a .boxes .now) (a .nodes) (asQuery (a .query)) (a .points .now)
+    (a .distance) (length (a .answers .now))
     (did-pass _ _ _ (after-query-refusal .query-refusal .ensures) (after-refuses .refuses .ensures) (c .before .if1 .left))
 
 returns-2 : tie.Need-returns-2

@@ -35,8 +35,11 @@ answer-at-requires c κs =
     let known4 = turn .before .before .before in
     let start = known4 .before .before .before .before in (
       start .pre .0,
-      rw (c .point-in .ensures) (point-finite (numbersOf (start .args .points .now)) (start .pre .1 .0 .coordinates) _
-          (rw (numbers-long (start .args .points .now)) (omega (arith, c .before .loop-test .taken)))),
+      (
+        rw (c .point-in .ensures) (point-finite (numbersOf (start .args .points .now)) (start .pre .1 .0 .coordinates) _
+            (rw (numbers-long (start .args .points .now)) (omega (arith, c .before .loop-test .taken)))),
+        start .pre .1 .1 .1,
+      ),
     )
 
 mul-put-answer-bytes : tie.Need-mul-put-answer-bytes Inv-loop μ-loop
@@ -48,7 +51,7 @@ put-answer-bytes-requires c κs =
     let turn = tested .before in
     let known4 = turn .before .before .before in
     let start = known4 .before .before .before .before in
-    omega (arith, start .pre .1 .1, turn .loop .inv .long, tested .loop-test .taken)
+    omega (arith, start .pre .1 .1 .0, turn .loop .inv .long, tested .loop-test .taken)
 
 loop-again : tie.Need-loop-again Inv-loop μ-loop
 loop-again c =
@@ -61,7 +64,7 @@ loop-again c =
     let start = known4 .before .before .before .before in
     let a = start .args in
     let answer = answerBy binary32 (asQuery (a .query)) (a .triangles .now) (a .order .now) (a .links .now) (a .boxes .now) (a .nodes) (a .distance) in
-    answered-more answer (a .points .now) (a .answers .now) _ _ _ _ _ (start .pre .1 .1) (tested .loop-test .taken) (turn .loop .inv)
+    answered-more answer (a .points .now) (a .answers .now) _ _ _ _ _ (start .pre .1 .1 .0) (tested .loop-test .taken) (turn .loop .inv)
     (after-answer-at .answer-at .ensures ∙ ap answer (after-point-in .point-in .ensures)) (after-put-answer-bytes .put-answer-bytes .ensures)
 
 same-length : tie.Need-same-length Inv-loop μ-loop
