@@ -1,15 +1,17 @@
 /* How much stock a rough casting has over its drawing: the numbers, and the picture on the screen over
  * the bay.
  *
- *     stock DRAWING.stl POINTS [PICTURE [LEAST MOST [DISTANCE]]]
- *     stock DRAWING.gauge POINTS [PICTURE [LEAST MOST [DISTANCE]]]
+ *     stock DRAWING.stl POINTS [PICTURE [LEAST MOST [DISTANCE [RULE]]]]
+ *     stock DRAWING.gauge POINTS [PICTURE [LEAST MOST [DISTANCE [RULE]]]]
  *     stock DRAWING [PICTURE [LEAST MOST]]
  *
  * DRAWING.stl is the drawing as a pattern shop sends it, binary or in text; DRAWING.gauge is the engine's
  * image of a drawing and its tree, which need not be built again. POINTS are the points that were
  * touched: x y z on a line; blank lines, and all behind a #, are passed over. They are searched for
- * within DISTANCE (50 where none is given). A DRAWING under any other name is plain text as
- * tools/make_input.py reads it: settings, triangles, points and distance in one.
+ * within DISTANCE (50 where none is given). RULE is the measuring rule: by 1, which holds where none is
+ * given, a point at exactly DISTANCE has no answer; by 2 it has one. A part keeps the rule that it was first
+ * gauged by. A DRAWING under any other name is plain text as tools/make_input.py reads it: settings,
+ * triangles, points, distance and maybe a rule in one.
  *
  * Stock is how far a touched point lies outside the drawing, or, with a minus, inside. It is wanted from
  * LEAST to MOST (1 and 4 where none are given). PICTURE is written as SVG, which any browser shows: the
@@ -38,6 +40,7 @@ static size_t points;
 static int has_tree; /* one that came with the drawing */
 static unsigned strategy, leaf_minimum, maximum_depth;
 static float distance = 50;
+static unsigned rule = GAUGE_RULE_BELOW;
 static double least = 1, most = 4;
 
 static void fail(const char *what, const char *more)
@@ -72,6 +75,14 @@ static void done(const char *call, uint64_t returned)
     case GAUGE_COORDINATE:
         fprintf(stderr, "triangle %llu (the first is 0): %c of corner %c is no number, or beyond %.0f\n", place / 9, "xyz"[place % 3],
                 "abc"[place % 9 / 3], (double)GAUGE_MAX_COORDINATE);
+        break;
+    case GAUGE_SETTING: /* of a query it is the rule, else what a tree is built by */
+        if (strcmp(call, "gauge_sure") == 0)
+            fprintf(stderr, "there is no rule %u: by %d what is nearer than the distance counts, by %d what is at exactly the distance too\n",
+                    rule, GAUGE_RULE_BELOW, GAUGE_RULE_BELOW_OR_EQUAL);
+        else
+            fprintf(stderr, "%s: a setting is out of range: the leaf minimum is 1 to %d, in the image of %d triangles or fewer to %d, the depth 0 to %d\n",
+                    call, GAUGE_MAX_LEAF_MINIMUM, GAUGE_MAX_SMALL, GAUGE_MAX_SMALL, GAUGE_MAX_DEPTH);
         break;
     case GAUGE_POINT:
         fprintf(stderr, "point %llu (the first is 0): its %c is no number, or beyond %.0f\n", place / 3, "xyz"[place % 3],
@@ -270,7 +281,7 @@ static void read_points(const char *path)
 static void read_drawing(const char *path)
 {
     char line[512], word[16], name[16], extra[2]; /* where a line reads an extra, it has one word too many */
-    int distances = 0;
+    int distances = 0, rules = 0;
     size_t triangles = 0;
     FILE *file = fopen(path, "r");
     if (file == NULL)
@@ -291,8 +302,10 @@ static void read_drawing(const char *path)
             strategy = strcmp(name, "median") == 0 ? GAUGE_MEDIAN : GAUGE_AREA;
         else if (strcmp(word, "distance") == 0 && sscanf(line, "%*s %f %1s", &distance, extra) == 1)
             distances++;
+        else if (strcmp(word, "rule") == 0 && rules == 0 && sscanf(line, "%*s %9u %1s", &rule, extra) == 1)
+            rules++;
         else
-            fail("no triangle, point, settings or distance, or too many of them: ", line);
+            fail("no triangle, point, settings, distance or rule, or too many of them: ", line);
     }
     fclose(file);
     if (strategy == 0 || distances == 0)
@@ -307,7 +320,7 @@ static void ask(void)
 {
     if (!has_tree)
         done("gauge_build", gauge_drawing_build(&drawing, strategy, leaf_minimum, maximum_depth));
-    done("gauge_sure", gauge_drawing_sure(&drawing, touched, points, distance, answers));
+    done("gauge_sure", gauge_drawing_sure(&drawing, touched, points, distance, rule, answers));
     float *sums = malloc(GAUGE_SUMS(drawing.count) * sizeof *sums);
     if (sums == NULL)
         fail("no memory", "");
@@ -763,23 +776,33 @@ static double number(const char *word)
     return x;
 }
 
+static unsigned whole_number(const char *word)
+{
+    double x = number(word);
+    if (!(x >= 0 && x <= UINT32_MAX && x == floor(x)))
+        fail("no whole number: ", word);
+    return (unsigned)x;
+}
+
 int main(int argc, char **argv)
 {
     int stl = argc > 1 && is_named_stl(argv[1]), image = argc > 1 && is_named_image(argv[1]);
     int first = stl || image ? 3 : 2, given = argc - first;
-    if (given != 0 && given != 1 && given != 3 && !(first == 3 && given == 4))
-        fail("usage: stock DRAWING.stl POINTS [PICTURE [LEAST MOST [DISTANCE]]]\n"
-             "       stock DRAWING.gauge POINTS [PICTURE [LEAST MOST [DISTANCE]]]\n"
+    if (given != 0 && given != 1 && given != 3 && !(first == 3 && (given == 4 || given == 5)))
+        fail("usage: stock DRAWING.stl POINTS [PICTURE [LEAST MOST [DISTANCE [RULE]]]]\n"
+             "       stock DRAWING.gauge POINTS [PICTURE [LEAST MOST [DISTANCE [RULE]]]]\n"
              "       stock DRAWING [PICTURE [LEAST MOST]]\n",
-             "POINTS has x y z on a line. LEAST and MOST are 1 and 4, DISTANCE is 50 where none is given.");
+             "POINTS has x y z on a line. LEAST and MOST are 1 and 4, DISTANCE is 50, RULE is 1 where none is given.");
     if (given >= 3) {
         least = number(argv[first + 1]);
         most = number(argv[first + 2]);
         if (!(least <= most))
             fail("LEAST to MOST is no range", "");
     }
-    if (given == 4)
+    if (given >= 4)
         distance = (float)number(argv[first + 3]);
+    if (given == 5)
+        rule = whole_number(argv[first + 4]);
     if (stl)
         read_stl(argv[1]);
     else if (image)
