@@ -2,10 +2,11 @@
 //! sure query against a plain scan. Prints counts and the first that differ, and ends with status 1 where any does.
 //! tests/compare builds and runs it.
 //!
-//!     compare [REQUESTS [POINTS [LARGE [LARGE_POINTS]]]]
+//!     compare [REQUESTS [POINTS [LARGE [LARGE_POINTS [LEVEL]]]]]
 //!
 //! 200,000 requests of up to 4,096 triangles and 10,000,000 points of as large drawings, then 408 requests of 4,096 to 65,536
-//! triangles and 100,000 points of drawings of 4,097 to 65,536.
+//! triangles and 100,000 points of drawings of 4,097 to 65,536, each by both measuring rules; then 5,000,000 points at exactly the
+//! distance of their nearest and a float more or less.
 //!
 //! This engine is given the numbers as they were made, minus zeros too; the oracle and the scan read each as itself plus zero.
 
@@ -27,6 +28,8 @@ use asked::{v, Asked, Tally};
 use engine::Tree;
 
 const UNIT: f64 = 1.0 / 1048576.0;
+
+const RULES: [u32; 2] = [1, 2];
 
 /// Triangle, point, squared distance.
 type Answer = Option<(u32, [f32; 3], f32)>;
@@ -86,11 +89,12 @@ fn faults() {
         let tree = Tree::build(&given, strategy as usize, 1, 40);
         let ours = |answers: Option<Vec<[u32; 6]>>| answers.map_or("refused".into(), |a| told(a[0]));
         println!("{name}\n    as published {}\n    leaves repaired {}", rust(Variant::Unrepaired), rust(Variant::Repaired));
-        println!("    here {} nodes, source {}, sure {}", tree.nodes, ours(tree.source(&given, &point, d)), ours(tree.sure(&given, &point, d)));
+        let [sure, or_equal] = RULES.map(|rule| ours(tree.sure(&given, &point, d, rule)));
+        println!("    here {} nodes, source {}, sure {sure}, by rule 2 {or_equal}", tree.nodes, ours(tree.source(&given, &point, d)));
     }
 }
 
-/// How the source's answer and the sure one differ, if they do.
+/// How the source's answer and the sure one by rule 1 differ, if they do.
 fn why(source: Answer, sure: Answer, limit: f32, list: &[[[f32; 3]; 3]], p: [f32; 3]) -> &'static str {
     let no_point = |t: u32| !scan::closest(&list[t as usize], p).iter().all(|x| x.is_finite());
     match (source, sure) {
@@ -109,12 +113,16 @@ fn why(source: Answer, sure: Answer, limit: f32, list: &[[[f32; 3]; 3]], p: [f32
     }
 }
 
+fn sure_tally(rule: u32) -> Tally {
+    Tally::new(["sure answers by rule 1, against a plain scan", "sure answers by rule 2, against a plain scan"][rule as usize - 1])
+}
+
 struct Requests {
     trees: Tally,
     accepted: Tally,
     changed: Tally,
     source: Tally,
-    sure: Tally,
+    sure: [Tally; 2],
     solid: Tally,
     winding: Tally,
     sums: Tally,
@@ -136,7 +144,7 @@ impl Requests {
             accepted: Tally::new("trees accepted by the check"),
             changed: Tally::new("trees with one entry changed, refused by the check"),
             source: Tally::new("source answers"),
-            sure: Tally::new("sure answers, against a plain scan"),
+            sure: RULES.map(sure_tally),
             solid: Tally::new("solid angles, within 2 x 2^-20"),
             winding: Tally::new("winding numbers, within n x 2^-20"),
             sums: Tally::new("winding numbers, against the sum of this engine's solid angles, bit for bit"),
@@ -178,7 +186,7 @@ impl Requests {
 
         let (list, d) = (a.list(), a.distance);
         let source: Vec<Answer> = a.points.iter().map(|p| source_of(&theirs, p, d)).collect();
-        let sure: Vec<Answer> = a.points.iter().map(|p| scan::scan(&list, v(p), d)).collect();
+        let sure: Vec<[Answer; 2]> = a.points.iter().map(|p| scan::scan_each(&list, v(p), RULES.map(|rule| (d, rule)))).collect();
         if let Ok(published) = caught(|| Any::build(Variant::Unrepaired, s, &a.tris)) {
             for (p, repaired) in a.points.iter().zip(&source) {
                 match caught(|| source_of(&published, p, d)) {
@@ -188,9 +196,12 @@ impl Requests {
             }
         }
         Self::answers(&mut self.source, a, ours.source(&a.given, &a.given_points, d), &source);
-        Self::answers(&mut self.sure, a, ours.sure(&a.given, &a.given_points, d), &sure);
+        for (k, rule) in RULES.into_iter().enumerate() {
+            let wanted: Vec<Answer> = sure.iter().map(|by| by[k]).collect();
+            Self::answers(&mut self.sure[k], a, ours.sure(&a.given, &a.given_points, d, rule), &wanted);
+        }
         for ((p, x), y) in a.points.iter().zip(source).zip(sure) {
-            *self.whys.entry(why(x, y, d * d, &list, v(p))).or_default() += 1;
+            *self.whys.entry(why(x, y[0], d * d, &list, v(p))).or_default() += 1;
         }
         self.angles(a);
     }
@@ -296,9 +307,9 @@ fn requests(count: u64, request: fn(u64, &mut Rng) -> Asked) -> u64 {
     println!("  the Rust as published stops at {} points and answers otherwise at {}", all.published[0], all.published[1]);
     println!("  solid angles at most {:.4} x 2^-20 off, winding numbers {:.4} x 2^-20 a triangle", all.most_solid, all.most_winding);
     println!("  {} points not judged, where a partial sum reaches 16: winding numbers at most {:.4} x 2^-20 a triangle off", all.past_16, all.most_past_16);
-    println!("  how source and sure answers differ:");
+    println!("  how source answers and sure ones by rule 1 differ:");
     all.whys.iter().for_each(|(why, n)| println!("{n:>12} {why}"));
-    [&all.trees, &all.accepted, &all.changed, &all.source, &all.sure, &all.solid, &all.winding, &all.sums].iter().map(|t| t.print()).sum()
+    [&all.trees, &all.accepted, &all.changed, &all.source, &all.sure[0], &all.sure[1], &all.solid, &all.winding, &all.sums].iter().map(|t| t.print()).sum()
 }
 
 /// A tree that no builder made: any order, any cuts, leaves of any size.
@@ -364,45 +375,44 @@ fn large_size(r: &mut Rng) -> usize {
     [4097, 4098 + r.below(61437), 4098 + r.below(61437), 65535, 65536][r.below(5)]
 }
 
+/// The i-th request from a seed on, its triangles, and a tree over them: built where i is even, else one that no builder made.
+fn drawn(i: u64, seed: u64, size: usize, points: usize, r: &mut Rng) -> (Asked, Vec<[[f32; 3]; 3]>, Tree) {
+    let wish = Wish { points: Some(points), spread: [None, None, Some("near".into()), Some("box".into())][r.below(4)].clone(), leaf: [Some(1), None][r.below(2)], ..Wish::default() };
+    let mut a = Asked::new(KINDS[i as usize % KINDS.len()], seed + i, size, &wish);
+    let n = a.tris.len();
+    // Triangles told twice or more tie with each other.
+    if r.one_in(4) {
+        for _ in 0..n / 3 {
+            let (to, from) = (r.below(n), r.below(n));
+            a.tris[to] = a.tris[from];
+            a.given.copy_within(9 * from..9 * from + 9, 9 * to);
+        }
+    }
+    let (list, s) = (a.list(), a.settings);
+    let tree = if i % 2 == 0 { Tree::build(&a.given, s.strategy as usize, s.leaf_minimum as usize, s.depth as usize) } else { grown(&list, r) };
+    (a, list, tree)
+}
+
 fn scans(count: u64, size: fn(&mut Rng) -> usize) -> u64 {
     const EACH: usize = 100;
     let (start, mut r) = (Instant::now(), Rng::new(3));
-    let mut sure = Tally::new("sure answers, against a plain scan");
+    let mut sure = RULES.map(sure_tally);
     let mut accepted = Tally::new("trees accepted by the check");
     let (mut median, mut area, mut others, mut deepest, mut large, mut largest) = (0u64, 0u64, 0u64, 0, 0u64, 0u64);
-    let (mut found, mut looked, mut ties, mut at_limit) = (0u64, 0u64, 0u64, 0u64);
+    let (mut found, mut or_equal, mut looked, mut ties, mut at_limit) = (0u64, 0u64, 0u64, 0u64, 0u64);
     let mut i = 0;
-    while sure.compared < count {
-        let kind = KINDS[i as usize % KINDS.len()];
+    while sure[0].compared < count {
         let size = size(&mut r);
-        let wish = Wish { points: Some(EACH), spread: [None, None, Some("near".into()), Some("box".into())][r.below(4)].clone(), leaf: [Some(1), None][r.below(2)], ..Wish::default() };
-        let mut a = Asked::new(kind, 9_000_000 + i, size, &wish);
-        let n = a.tris.len();
-        large += (n >= 4096) as u64;
-        largest += (n == 65536) as u64;
-        // Triangles told twice or more tie with each other.
-        if r.one_in(4) {
-            for _ in 0..n / 3 {
-                let (to, from) = (r.below(n), r.below(n));
-                a.tris[to] = a.tris[from];
-                a.given.copy_within(9 * from..9 * from + 9, 9 * to);
-            }
-        }
-        let list = a.list();
-        let s = a.settings;
-        let tree = if i % 2 == 0 {
-            *(if s.strategy == 1 { &mut median } else { &mut area }) += 1;
-            Tree::build(&a.given, s.strategy as usize, s.leaf_minimum as usize, s.depth as usize)
-        } else {
-            others += 1;
-            grown(&list, &mut r)
-        };
+        let (a, list, tree) = drawn(i, 9_000_000, size, EACH, &mut r);
+        large += (a.tris.len() >= 4096) as u64;
+        largest += (a.tris.len() == 65536) as u64;
+        *(if i % 2 == 1 { &mut others } else if a.settings.strategy == 1 { &mut median } else { &mut area }) += 1;
         deepest = deepest.max(tree.depth);
         accepted.note(tree.accepted(&a.given) && tree.depth_read(&a.given) == tree.depth, || a.name.clone());
         // Half of the distances are at, just above or just below where a point's nearest stands.
         let mut d = a.distance;
         if r.one_in(2) {
-            let nearest = scan::scan(&list, v(&a.points[0]), FAR).and_then(|b| square_root_of(b.2));
+            let nearest = scan::scan(&list, v(&a.points[0]), FAR, 1).and_then(|b| square_root_of(b.2));
             if let Some(exact) = nearest {
                 at_limit += 1;
                 d = [exact, exact.next_up(), if exact > 0.0 { exact.next_down() } else { exact }][r.below(3)].min(FAR);
@@ -410,25 +420,135 @@ fn scans(count: u64, size: fn(&mut Rng) -> usize) -> u64 {
         } else if r.one_in(3) {
             d = FAR;
         }
-        let ours = tree.sure(&a.given, &a.given_points, d);
+        let ours = RULES.map(|rule| tree.sure(&a.given, &a.given_points, d, rule));
         for (k, p) in a.points.iter().enumerate() {
-            let answer = scan::scan(&list, v(p), d);
-            let (got, want) = (ours.as_ref().map(|o| o[k]), words(answer));
-            sure.note(got == Some(want), || format!("{} distance={d:?}, tree {}: point {k} {p:?}: {got:x?}, not {want:x?}", a.name, if i % 2 == 0 { "built" } else { "grown" }));
-            if let Some((t, _, squared)) = answer {
+            let answers = scan::scan_each(&list, v(p), RULES.map(|rule| (d, rule)));
+            for (by, answer) in answers.into_iter().enumerate() {
+                let (got, want) = (ours[by].as_ref().map(|o| o[k]), words(answer));
+                sure[by].note(got == Some(want), || format!("{} distance={d:?}, tree {}: point {k} {p:?}: {got:x?}, not {want:x?}", a.name, if i % 2 == 0 { "built" } else { "grown" }));
+            }
+            or_equal += (answers[0].is_none() && answers[1].is_some()) as u64;
+            if let Some((t, _, squared)) = answers[0] {
                 found += 1;
                 if k % 10 == 0 {
                     looked += 1;
                     let rest: Vec<_> = list.iter().enumerate().filter(|(j, _)| *j != t as usize).map(|(_, t)| *t).collect();
-                    ties += scan::scan(&rest, v(p), d).is_some_and(|b| b.2 == squared) as u64;
+                    ties += scan::scan(&rest, v(p), d, 1).is_some_and(|b| b.2 == squared) as u64;
                 }
             }
         }
         i += 1;
     }
-    println!("{} points, {i} trees ({median} median, {area} area, {others} that no builder made; {large} of 4,096 triangles or more, {largest} of 65,536; depth up to {deepest}), {:.0} s", sure.compared, start.elapsed().as_secs_f64());
-    println!("  {found} found; among {looked} of these looked at, {ties} have another triangle at the same distance; {at_limit} trees with the limit at a point's nearest");
-    accepted.print() + sure.print()
+    println!("{} points, {i} trees ({median} median, {area} area, {others} that no builder made; {large} of 4,096 triangles or more, {largest} of 65,536; depth up to {deepest}), {:.0} s", sure[0].compared, start.elapsed().as_secs_f64());
+    println!("  {found} found by rule 1, {or_equal} more by rule 2; among {looked} of the first looked at, {ties} have another triangle at the same distance; {at_limit} trees with the limit at a point's nearest");
+    accepted.print() + sure[0].print() + sure[1].print()
+}
+
+/// Mostly up to 32 triangles: each point is asked by itself, six times, and each call checks the tree. With how many points.
+fn level_size(r: &mut Rng) -> (usize, usize) {
+    match r.below(2000) {
+        0..=1699 => (1 + r.below(32), 100),
+        1700..=1939 => (33 + r.below(96), 100),
+        1940..=1989 => (129 + r.below(872), 20),
+        1990..=1998 => ([4096, 4097, 1001 + r.below(4000)][r.below(3)], 8),
+        _ => ([65536, 65535, 4098 + r.below(61437)][r.below(3)], 4),
+    }
+}
+
+/// The distances to ask with about a nearest squared distance: below it, exactly at it where there is one, above it. Of a small one the
+/// next distance below or above may have the same square; that of 0 has none below.
+fn steps(nearest: f32) -> [Option<f32>; 3] {
+    let below = |x: f32| Some(x.next_down()).filter(|_| x > 0.0);
+    if let Some(at) = square_root_of(nearest) {
+        return [below(at), Some(at), Some(at.next_up())];
+    }
+    let (mut low, mut high) = (nearest.sqrt(), nearest.sqrt());
+    while low * low > nearest {
+        low = low.next_down();
+    }
+    while high * high < nearest {
+        high = high.next_up();
+    }
+    [Some(low), None, Some(high)]
+}
+
+/// The corners of a few of the triangles, behind each the middle of the side that begins there.
+fn on_triangles(given: &[f32], r: &mut Rng) -> Vec<f32> {
+    let mut on = Vec::new();
+    for _ in 0..4 {
+        let t = &given[9 * r.below(given.len() / 9)..][..9];
+        for corner in 0..3 {
+            let (from, to) = (&t[3 * corner..][..3], &t[(3 * corner + 3) % 9..][..3]);
+            on.extend(from);
+            on.extend((0..3).map(|i| (from[i] + to[i]) / 2.0));
+        }
+    }
+    on
+}
+
+/// The two rules where they differ: each point is asked with the distance at which its nearest stands exactly, and with the next
+/// below and above. Then a distance of 0, on corners and on sides, and numbers that are no rule.
+fn levels(count: u64) -> u64 {
+    const STEPS: [&str; 3] = ["below", "at", "above"];
+    let (start, mut r) = (Instant::now(), Rng::new(8));
+    let mut sure = Tally::new("sure answers about the distance of a point's nearest, against a plain scan");
+    let mut zero = Tally::new("sure answers at distance 0 on corners and middles of sides, against a plain scan");
+    let mut refused = Tally::new("queries by a number that is no rule, refused");
+    let (mut points, mut exact, mut surface, mut ties, mut largest, mut i) = (0u64, 0u64, 0u64, 0u64, 0usize, 0u64);
+    // By step: how many were found by each rule, how many were not, and at how many points the rules differ.
+    let (mut found, mut nothing, mut differ) = ([[0u64; 2]; 3], [[0u64; 2]; 3], [0u64; 3]);
+    // Corners and middles of sides: how many there were, and how many were found by each rule.
+    let mut on = [[0u64; 3]; 2];
+    while points < count {
+        let (size, each) = level_size(&mut r);
+        let (a, list, tree) = drawn(i, 12_000_000, size, each, &mut r);
+        largest = largest.max(a.tris.len());
+        let name = |d: f32, rule: u32| format!("{} distance={d:?} rule={rule}, tree {}", a.name, if i % 2 == 0 { "built" } else { "grown" });
+        for (k, p) in a.points.iter().enumerate() {
+            let given = &a.given_points[3 * k..3 * k + 3];
+            let nearest = scan::scan(&list, v(p), FAR, 1).expect("nothing is that far off");
+            let asked = steps(nearest.2);
+            points += 1;
+            exact += asked[1].is_some() as u64;
+            surface += (nearest.2 == 0.0) as u64;
+            ties += list[nearest.0 as usize + 1..].iter().any(|t| scan::scan(&[*t], v(p), FAR, 1).is_some_and(|b| b.2 == nearest.2)) as u64;
+            let distances = asked.map(|d| d.unwrap_or(0.0));
+            let wanted: [Answer; 6] = scan::scan_each(&list, v(p), std::array::from_fn(|j| (distances[j / 2], RULES[j % 2])));
+            for (step, d) in asked.into_iter().enumerate() {
+                let Some(d) = d else { continue };
+                for (by, rule) in RULES.into_iter().enumerate() {
+                    let (got, want) = (tree.sure(&a.given, given, d, rule).map(|o| o[0]), words(wanted[2 * step + by]));
+                    sure.note(got == Some(want), || format!("{}: point {k} {p:?}: {got:x?}, not {want:x?}", name(d, rule)));
+                    *(if want[0] == 1 { &mut found[step][by] } else { &mut nothing[step][by] }) += 1;
+                }
+                differ[step] += (words(wanted[2 * step]) != words(wanted[2 * step + 1])) as u64;
+            }
+        }
+        let touched = on_triangles(&a.given, &mut r);
+        for (by, rule) in RULES.into_iter().enumerate() {
+            let d = [0.0, -0.0][r.below(2)];
+            let ours = tree.sure(&a.given, &touched, d, rule);
+            for (k, p) in touched.chunks_exact(3).enumerate() {
+                let answer = scan::scan(&list, [p[0] + 0.0, p[1] + 0.0, p[2] + 0.0], d, rule);
+                let (got, want) = (ours.as_ref().map(|o| o[k]), words(answer));
+                zero.note(got == Some(want), || format!("{}: {p:?}: {got:x?}, not {want:x?}", name(d, rule)));
+                on[k % 2][0] += (by == 0) as u64;
+                on[k % 2][1 + by] += answer.is_some() as u64;
+            }
+        }
+        let none = [0, 3, 256, 257, 258, 65537, 65538, 0x8000_0001, 0x8000_0002, u32::MAX][r.below(10)];
+        refused.note(tree.sure(&a.given, &a.given_points, a.distance, none).is_none(), || name(a.distance, none));
+        i += 1;
+    }
+    println!("{points} points about the distance of their nearest, {i} trees of up to {largest} triangles over {} kinds of shape, half of them by no builder, {:.0} s", KINDS.len(), start.elapsed().as_secs_f64());
+    println!("  {exact} have a distance whose rounded square is their nearest's, of {surface} it is 0; {ties} have another triangle at the same distance");
+    for (step, name) in STEPS.into_iter().enumerate() {
+        let ([a, b], [c, d]) = (found[step], nothing[step]);
+        println!("  {name:>5}: by rule 1 {a} found, {c} nothing; by rule 2 {b} found, {d} nothing; the rules differ at {}", differ[step]);
+    }
+    let [corners, middles] = on;
+    println!("  at distance 0: of {} corners {} found by rule 1, {} by rule 2; of {} middles of sides {} and {}", corners[0], corners[1], corners[2], middles[0], middles[1], middles[2]);
+    sure.print() + zero.print() + refused.print()
 }
 
 /// One triangle too many is refused by every call, and nothing is written.
@@ -442,7 +562,7 @@ fn too_many() -> u64 {
         // But for the number of triangles this tree would pass.
         let tree = grown(&list, &mut Rng::new(i));
         refused.note(!tree.accepted(&given) && tree.depth_read(&given) == 0, || "check".into());
-        refused.note(tree.sure(&given, &a.given_points, a.distance).is_none(), || "sure".into());
+        RULES.into_iter().for_each(|rule| refused.note(tree.sure(&given, &a.given_points, a.distance, rule).is_none(), || format!("sure by rule {rule}")));
         refused.note(tree.source(&given, &a.given_points, a.distance).is_none(), || "source".into());
         refused.note(engine::windings(&given, &a.given_points).is_none(), || "winding".into());
         refused.note(tree.sums(&given).is_none(), || "node sums".into());
@@ -454,10 +574,10 @@ fn too_many() -> u64 {
 fn main() {
     let mut args = std::env::args().skip(1).map(|a| a.parse().expect("a number"));
     let mut next = |usual| args.next().unwrap_or(usual);
-    let (trees, points, large, large_points) = (next(200_000), next(10_000_000), next(408), next(100_000));
+    let (trees, points, large, large_points, level) = (next(200_000), next(10_000_000), next(408), next(100_000), next(5_000_000));
     faults();
     let small = requests(trees, request) + scans(points, small_size);
-    let differ = small + requests(large, large_request) + scans(large_points, large_size) + too_many();
+    let differ = small + requests(large, large_request) + scans(large_points, large_size) + too_many() + levels(level);
     println!("{differ} differ");
     std::process::exit((differ > 0) as i32);
 }

@@ -5,7 +5,7 @@ extern "C" {
     fn timing_depth(t: *const f32, tn: usize, strategy: usize, leaf: usize, depth: usize, o: *mut u32, on: usize, l: *mut u32, ln: usize, b: *mut f32, bn: usize, w: *mut f32, wn: usize, c: *mut f32, cn: usize, s: *mut u32, sn: usize) -> usize;
     fn timing_check(t: *const f32, tn: usize, o: *const u32, on: usize, l: *const u32, ln: usize, b: *const f32, bn: usize, nodes: usize) -> u32;
     fn timing_depth_read(t: *const f32, tn: usize, o: *const u32, on: usize, l: *const u32, ln: usize, b: *const f32, bn: usize, nodes: usize) -> usize;
-    fn timing_sure(t: *const f32, tn: usize, o: *const u32, on: usize, l: *const u32, ln: usize, b: *const f32, bn: usize, nodes: usize, p: *const f32, pn: usize, d: f32, a: *mut u32, an: usize) -> u32;
+    fn timing_sure(t: *const f32, tn: usize, o: *const u32, on: usize, l: *const u32, ln: usize, b: *const f32, bn: usize, nodes: usize, p: *const f32, pn: usize, d: f32, rule: u32, a: *mut u32, an: usize) -> u32;
     fn timing_source(t: *const f32, tn: usize, o: *const u32, on: usize, l: *const u32, ln: usize, b: *const f32, bn: usize, nodes: usize, p: *const f32, pn: usize, d: f32, a: *mut u32, an: usize) -> u32;
     fn timing_winding(t: *const f32, tn: usize, p: *const f32, pn: usize, w: *mut f32, wn: usize) -> u32;
     fn timing_node_sums(t: *const f32, tn: usize, o: *const u32, on: usize, l: *const u32, ln: usize, b: *const f32, bn: usize, nodes: usize, s: *mut f32, sn: usize) -> u32;
@@ -80,13 +80,15 @@ impl Tree {
         unsafe { timing_depth_read(t.as_ptr(), t.len(), self.order.as_ptr(), n, l.as_ptr(), l.len(), b.as_ptr(), b.len(), self.nodes) }
     }
 
-    /// Six words a point, or nothing where the call refuses or writes past its answers.
-    fn ask(&self, sure: bool, t: &[f32], p: &[f32], d: f32) -> Option<Vec<[u32; 6]>> {
-        let (n, l, b, need) = (t.len() / 9, &self.links, &self.boxes, 2 * p.len());
+    /// Six words a point, or nothing where the call refuses or writes past its answers. The source query has no rule.
+    fn ask(&self, rule: Option<u32>, t: &[f32], p: &[f32], d: f32) -> Option<Vec<[u32; 6]>> {
+        let (n, o, l, b, need) = (t.len() / 9, &self.order, &self.links, &self.boxes, 2 * p.len());
         let mut a = vec![UNTOUCHED; need + 6];
-        let call = if sure { timing_sure } else { timing_source };
         let answered = unsafe {
-            call(t.as_ptr(), t.len(), self.order.as_ptr(), n, l.as_ptr(), l.len(), b.as_ptr(), b.len(), self.nodes, p.as_ptr(), p.len(), d, a.as_mut_ptr(), a.len())
+            match rule {
+                Some(rule) => timing_sure(t.as_ptr(), t.len(), o.as_ptr(), n, l.as_ptr(), l.len(), b.as_ptr(), b.len(), self.nodes, p.as_ptr(), p.len(), d, rule, a.as_mut_ptr(), a.len()),
+                None => timing_source(t.as_ptr(), t.len(), o.as_ptr(), n, l.as_ptr(), l.len(), b.as_ptr(), b.len(), self.nodes, p.as_ptr(), p.len(), d, a.as_mut_ptr(), a.len()),
+            }
         };
         assert!(answered == 1 || a.iter().all(|&x| x == UNTOUCHED), "a refused query wrote");
         let right = answered == 1 && a[need..].iter().all(|&x| x == UNTOUCHED);
@@ -118,12 +120,12 @@ impl Tree {
         right.then_some(w)
     }
 
-    pub fn sure(&self, t: &[f32], p: &[f32], d: f32) -> Option<Vec<[u32; 6]>> {
-        self.ask(true, t, p, d)
+    pub fn sure(&self, t: &[f32], p: &[f32], d: f32, rule: u32) -> Option<Vec<[u32; 6]>> {
+        self.ask(Some(rule), t, p, d)
     }
 
     pub fn source(&self, t: &[f32], p: &[f32], d: f32) -> Option<Vec<[u32; 6]>> {
-        self.ask(false, t, p, d)
+        self.ask(None, t, p, d)
     }
 }
 

@@ -124,7 +124,7 @@ fn look(case: &Case, tell: bool) -> Seen {
     let computed = case.tris.iter().map(|t| triangle(t).closest_point(&case.point)).map(|q| (q, (q - case.point).norm_squared()));
     let source = computed.filter(|c| c.1.is_finite()).reduce(|a, b| if b.1 < a.1 { b } else { a });
     let numbers: Vec<f32> = case.tris.iter().flatten().flat_map(|c| [c.x, c.y, c.z]).collect();
-    let words = one_leaf(&case.tris).sure(&numbers, &[case.point.x, case.point.y, case.point.z], FAR).expect("the sure query answers")[0];
+    let words = one_leaf(&case.tris).sure(&numbers, &[case.point.x, case.point.y, case.point.z], FAR, 1).expect("the sure query answers")[0];
     let [x, y, z, squared] = [2, 3, 4, 5].map(|i| f32::from_bits(words[i]));
     let [a, b, c] = case.tris[0];
     Seen {

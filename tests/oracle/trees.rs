@@ -7,7 +7,7 @@
 //!
 //! A case is words, u32 little-endian: n, strategy, leaf minimum, depth, distance bits, points,
 //! nodes, depth of the tree; then 9n coordinates, 3 a point, n order entries, 3 links a node, 6 box
-//! numbers a node, 6 words of the source answer a point, 6 words of the sure answer a point.
+//! numbers a node, 6 words of the source answer a point, 6 words of the sure answer by rule 1 a point.
 
 use shark::{
     cases::{make, Wish, KINDS},
@@ -50,7 +50,7 @@ fn case(r: Request, out: &mut Vec<u32>) {
     }
     out.extend(t.nodes.iter().flat_map(|n| n.bbox).map(|x| x.to_bits()));
     points.iter().for_each(|p| answer(out, plain(built.source(p, d).0)));
-    points.iter().for_each(|p| answer(out, scan::scan(&list, v(p), d)));
+    points.iter().for_each(|p| answer(out, scan::scan(&list, v(p), d, 1)));
 }
 
 fn main() {

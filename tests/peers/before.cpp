@@ -5,7 +5,7 @@
 //     before CASE TREE NODES build NOW BEFORE RATIO check NOW BEFORE RATIO sure NOW BEFORE RATIO
 //
 // The earlier library's exports are renamed from timing_ to was_. Where its build is lent no working lists, it passes over those
-// arguments.
+// arguments. Its sure query has no rule; this one is asked by rule 1.
 //
 //     rt staticlib test_exports          (in the engine's folder, and in that of the earlier text: libtest_exports.a, was.a)
 //     nm -g --defined-only was.a | sed -n 's/.* timing_\(.*\)/timing_\1 was_\1/p' > names && objcopy --redefine-syms names was.a
@@ -28,11 +28,14 @@ using Build = size_t(const float *, size_t, size_t strategy, size_t leaf, size_t
                      float *, size_t, float *, size_t, uint32_t *, size_t);
 using Check = uint32_t(const float *, size_t, const uint32_t *, size_t, const uint32_t *, size_t, const float *, size_t, size_t nodes);
 using Sure = uint32_t(const float *, size_t, const uint32_t *, size_t, const uint32_t *, size_t, const float *, size_t, size_t nodes,
-                      const float *, size_t, float distance, uint32_t *, size_t);
+                      const float *, size_t, float distance, uint32_t rule, uint32_t *, size_t);
+using SureBefore = uint32_t(const float *, size_t, const uint32_t *, size_t, const uint32_t *, size_t, const float *, size_t, size_t nodes,
+                            const float *, size_t, float distance, uint32_t *, size_t);
 extern "C" {
 Build timing_build, was_build;
 Check timing_check, was_check;
-Sure timing_sure, was_sure;
+Sure timing_sure;
+SureBefore was_sure;
 }
 
 static double now() {
@@ -105,8 +108,11 @@ int main(int argc, char **argv) {
                                                  k.nodes);
       };
       auto sure = [&](int was) {
-        good &= (was ? was_sure : timing_sure)(t.data(), t.size(), k.order.data(), n, k.links.data(), k.links.size(), k.boxes.data(), k.boxes.size(),
-                                               k.nodes, points.data(), points.size(), limit, answers[was].data(), answers[was].size());
+        auto &a = answers[was];
+        good &= was ? was_sure(t.data(), t.size(), k.order.data(), n, k.links.data(), k.links.size(), k.boxes.data(), k.boxes.size(), k.nodes,
+                               points.data(), points.size(), limit, a.data(), a.size())
+                    : timing_sure(t.data(), t.size(), k.order.data(), n, k.links.data(), k.links.size(), k.boxes.data(), k.boxes.size(), k.nodes,
+                                  points.data(), points.size(), limit, 1, a.data(), a.size());
       };
       build(0), build(1);
       if (k.nodes == 0 || k.nodes != trees[1].nodes || k.order != trees[1].order || k.links != trees[1].links ||

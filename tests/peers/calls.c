@@ -40,8 +40,8 @@ static uint64_t read_back(void) { return gauge_drawing_read(&copy, image, size);
 static uint64_t stl_written(void) { return gauge_drawing_write_stl(&d, stl, sizeof stl); }
 static uint64_t stl_read(void) { return gauge_drawing_read_stl(&copy, stl, GAUGE_STL_BYTES(d.count)); }
 static uint64_t check(void) { return gauge_drawing_check(&d); }
-static uint64_t one(void) { return gauge_drawing_sure(&d, points, 1, 100, answers); }
-static uint64_t sure(void) { return gauge_drawing_sure(&d, points, POINTS, 100, answers); }
+static uint64_t one(void) { return gauge_drawing_sure(&d, points, 1, 100, GAUGE_RULE_BELOW, answers); }
+static uint64_t sure(void) { return gauge_drawing_sure(&d, points, POINTS, 100, GAUGE_RULE_BELOW, answers); }
 static uint64_t winding(void) { return gauge_drawing_winding(&d, points, 100, windings); }
 static uint64_t dipoles(void) { return gauge_drawing_node_sums(&d, sums); }
 static uint64_t fast(void) { return gauge_drawing_fast_winding(&d, sums, points, 100, 2, windings); }

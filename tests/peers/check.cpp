@@ -1,6 +1,7 @@
 // The tree check and the sure query from C beside those of an earlier text's library, in one process, turn about: separate triangles in
 // a ball's box, 1 to 65,536 of them, both strategies with leaf minimum 1 and 10. Processor time, the least of TURNS turns. The answers
-// of the two are compared byte for byte. A line a tree, times in microseconds a call:
+// of the two are compared byte for byte. The earlier library is one of header version 2 or 3, whose sure query has no rule; this one is
+// asked by rule 1. A line a tree, times in microseconds a call:
 //
 //     check N TREE NODES check NOW BEFORE RATIO sure 1 NOW BEFORE RATIO sure 1000 NOW BEFORE RATIO
 //
@@ -18,7 +19,8 @@
 
 extern "C" {
 decltype(gauge_check) was_gauge_check;
-decltype(gauge_sure) was_gauge_sure;
+uint64_t was_gauge_sure(const float *, size_t, const uint32_t *, size_t, const uint32_t *, size_t, const float *, size_t, size_t nodes,
+                        const uint8_t *, size_t, float distance, uint8_t *, size_t);
 }
 
 enum { TURNS = 60 };
@@ -73,8 +75,11 @@ int main() {
         for (size_t asked : {1, 1000}) {
           std::vector<uint8_t> answers[2] = {std::vector<uint8_t>(24 * asked), std::vector<uint8_t>(24 * asked)};
           race(asked == 1 ? "sure 1" : "sure 1000", [&](int was) {
-            expect((was ? was_gauge_sure : gauge_sure)(d.triangles, 9 * n, d.order, n, d.links, 3 * d.nodes, d.boxes, 6 * d.nodes, d.nodes,
-                                                       (const uint8_t *)points.data(), 12 * asked, 1000, answers[was].data(), 24 * asked) == asked);
+            const uint8_t *p = (const uint8_t *)points.data();
+            uint8_t *a = answers[was].data();
+            expect((was ? was_gauge_sure(d.triangles, 9 * n, d.order, n, d.links, 3 * d.nodes, d.boxes, 6 * d.nodes, d.nodes, p, 12 * asked, 1000, a, 24 * asked)
+                        : gauge_sure(d.triangles, 9 * n, d.order, n, d.links, 3 * d.nodes, d.boxes, 6 * d.nodes, d.nodes, p, 12 * asked, 1000,
+                                     GAUGE_RULE_BELOW, a, 24 * asked)) == asked);
           });
           expect(answers[0] == answers[1]);
         }

@@ -14,7 +14,7 @@ extern "C" {
 size_t timing_build(const float *, size_t, size_t strategy, size_t leaf, size_t depth, uint32_t *, size_t, uint32_t *, size_t, float *, size_t,
                     float *, size_t, float *, size_t, uint32_t *, size_t);
 uint32_t timing_sure(const float *, size_t, const uint32_t *, size_t, const uint32_t *, size_t, const float *, size_t, size_t nodes,
-                     const float *, size_t, float distance, uint32_t *, size_t);
+                     const float *, size_t, float distance, uint32_t rule, uint32_t *, size_t);
 }
 
 namespace {
@@ -34,7 +34,7 @@ template <int STRATEGY, int LEAF> struct Engine : Contender {
   void ask(const float *points, size_t n, float limit, Answer *out) override {
     words.resize(6 * n);
     uint32_t answered = timing_sure(triangles.data(), triangles.size(), order.data(), order.size(), links.data(), links.size(), boxes.data(),
-                                    boxes.size(), nodes, points, 3 * n, limit, words.data(), words.size());
+                                    boxes.size(), nodes, points, 3 * n, limit, 1, words.data(), words.size());
     if (answered == 0) fprintf(stderr, "the query was refused\n"), exit(2);
     for (size_t k = 0; k < n; k++) {
       const uint32_t *w = &words[6 * k];

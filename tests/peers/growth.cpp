@@ -22,7 +22,7 @@ extern "C" {
 size_t timing_build(const float *, size_t, size_t strategy, size_t leaf, size_t depth, uint32_t *, size_t, uint32_t *, size_t, float *, size_t,
                     float *, size_t, float *, size_t, uint32_t *, size_t);
 uint32_t timing_sure(const float *, size_t, const uint32_t *, size_t, const uint32_t *, size_t, const float *, size_t, size_t nodes,
-                     const float *, size_t, float distance, uint32_t *, size_t);
+                     const float *, size_t, float distance, uint32_t rule, uint32_t *, size_t);
 uint32_t timing_check(const float *, size_t, const uint32_t *, size_t, const uint32_t *, size_t, const float *, size_t, size_t nodes);
 }
 
@@ -98,7 +98,7 @@ int main(int argc, char **argv) {
       double check = least([&] { good &= timing_check(t.data(), t.size(), order.data(), n, links.data(), links.size(), boxes.data(), boxes.size(), nodes); });
       double query = least([&] {
         good &= timing_sure(t.data(), t.size(), order.data(), n, links.data(), links.size(), boxes.data(), boxes.size(), nodes, points.data(),
-                            points.size(), 0.1f, words.data(), words.size());
+                            points.size(), 0.1f, 1, words.data(), words.size());
       });
       if (nodes == 0 || good == 0) return fprintf(stderr, "growth: refused\n"), 2;
       // the query checks the tree once a call

@@ -84,7 +84,7 @@ int main(int count, char **words) {
         if (strategy == 1 && leaf == 10) {
           std::vector<uint32_t> answers(6 * m);
           if (!timing_sure(t.data(), t.size(), tree.order.data(), tree.order.size(), tree.links.data(), tree.links.size(), tree.boxes.data(),
-                           tree.boxes.size(), tree.nodes, p.data(), p.size(), 100, answers.data(), answers.size()))
+                           tree.boxes.size(), tree.nodes, p.data(), p.size(), 100, 1, answers.data(), answers.size()))
             refused("sure query");
           for (size_t j = 0; j < m; j++) {
             float squared;

@@ -17,7 +17,7 @@ size_t timing_build(const float *, size_t, size_t strategy, size_t leaf, size_t 
                     float *, size_t, float *, size_t, uint32_t *, size_t);
 uint32_t timing_check(const float *, size_t, const uint32_t *, size_t, const uint32_t *, size_t, const float *, size_t, size_t nodes);
 uint32_t timing_sure(const float *, size_t, const uint32_t *, size_t, const uint32_t *, size_t, const float *, size_t, size_t nodes,
-                     const float *, size_t, float distance, uint32_t *, size_t);
+                     const float *, size_t, float distance, uint32_t rule, uint32_t *, size_t);
 uint32_t timing_winding(const float *, size_t, const float *, size_t, float *, size_t);
 uint32_t timing_node_sums(const float *, size_t, const uint32_t *, size_t, const uint32_t *, size_t, const float *, size_t, size_t nodes, float *,
                           size_t);
