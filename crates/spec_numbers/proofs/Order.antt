@@ -7,7 +7,7 @@ use lib.Ieee.{Float, inf, fin, isNan, lt, le, eq}
 use lib.Ieee.Fits.{down-pos}
 use lib.Ieee.Scale.{finite}
 use Rattle.spec_numbers.specs.Values.{Number}
-use Rattle.spec_numbers.proofs.Tests.{or-l, or-elim}
+use Rattle.spec_numbers.proofs.Tests.{or-l, or-r, or-elim}
 use Rattle.spec_numbers.proofs.Fraction.{value, at-most-transitive, less-or-at-most, compared}
 
 -- ---- what compares is a number
@@ -73,6 +73,11 @@ transitive (fin s m e) (fin t n d) (fin u o c) h k =
 pub lt→le : (x y : Float) → T (lt x y) → T (le x y)
 unfolding le
 lt→le x y h = or-l (lt x y) (eq x y) h
+
+-- and so is an equality
+pub eq→le : (x y : Float) → T (eq x y) → T (le x y)
+unfolding le
+eq→le x y h = or-r (lt x y) (eq x y) h
 
 -- what is below is not at least: the two tests never both pass
 pub lt→not-le : (x y : Float) → T (lt x y) → T (le y x) → ⊥

@@ -4,19 +4,11 @@ use mathlib.Core.Bool.{Bool, true, false}
 use mathlib.Core.List.{List, [], _∷_}
 use Prim.Native.Nat.{ℕ, zero, suc, _+_, _-_, _<_}
 use native.Mathlib.Omega.{arith}
-use lib.ListN.{length, take, drop, length-take, length-drop}
-use lib.Seq.{getD-take, getD-drop}
 use Rattle.spec_tree.specs.Trees.{leftAt, rightAt}
 use Rattle.spec_tree.specs.Order.{EntriesBelow}
 use Rattle.spec_tree.specs.Hangs.{leafSlice}
 use Rattle.spec_search.specs.Walk.{Search, Sought, isLeaf, tookOne, tookAll, inTurn, lookedAt, visited, nodeWalk}
-
--- any slice of a list of numbers below n is one too, wherever it starts and ends
-any-slice-below : (n at size : ℕ) (order : List ℕ) → EntriesBelow n order → EntriesBelow n (take size (drop at order))
-any-slice-below n at size order below i l =
-    let long : i < size = omega (arith, length-take size (drop at order)) in
-    let inside : at + i < length order = omega (arith, length-take size (drop at order), length-drop at order) in
-    rw (getD-take size (drop at order) i 0 long, getD-drop at order i 0) (below (at + i) inside)
+use Rattle.spec_search.proofs.Steps.{slice-below}
 
 -- `n` is a number that all triangles are below
 module _ {S S′ : Type 0} (how : Search S) (how′ : Search S′) (order links : List ℕ) (n : ℕ) (listed : EntriesBelow n order) (Alike : S → S′ → Type 0)
@@ -47,7 +39,7 @@ module _ {S S′ : Type 0} (how : Search S) (how′ : Search S′) (order links 
       → PairAlike pair pair′ → Both s s′ → Both (lookedAt how order links leaf? pair node s) (lookedAt how′ order links leaf? pair′ node s′)
   unfolding PairAlike
   looked-alike true pair pair′ node s s′ w h =
-      all-alike (leafSlice order links node) (any-slice-below n (leftAt links node) (rightAt links node - leftAt links node) order listed) s s′ h
+      all-alike (leafSlice order links node) (slice-below n order (leftAt links node) (rightAt links node - leftAt links node) listed) s s′ h
   looked-alike false pair pair′ node s s′ w h = w (leftAt links node) (rightAt links node) s s′ h
 
   visited-alike : (over over′ : Bool) → over ≡ over′ → (pair : ℕ → ℕ → Sought S → Sought S) (pair′ : ℕ → ℕ → Sought S′ → Sought S′) (node : ℕ)

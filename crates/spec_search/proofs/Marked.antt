@@ -1,17 +1,17 @@
 -- The walk by the first rule alone, from a marker at the limit, answers by the second rule and measures as many triangles: so the code of the walk
 -- knows no rule. The limit squared is finite, as that of every search distance is.
 use mathlib.Core.Path.{_≡_, refl, sym, _∙_}
-use mathlib.Core.Bool.{Bool, true, false, not, _&&_, _||_, true≢false}
+use mathlib.Core.Bool.{Bool, true, false, not, cond, _&&_, _||_, true≢false}
 use mathlib.Core.Logic.{_⊎_, inl, inr, ⊎-elim}
 use mathlib.Core.List.{List}
 use Prim.Native.Nat.{ℕ, _-_, _≤_, _<_}
 use native.Mathlib.Omega.{arith}
 use borrow.Author.Tests.{ne-eqb, lt-ltb}
-use lib.Dec.{T, eqb}
+use lib.Dec.{T, not-T, eqb}
 use lib.Ieee.{Float, Format, inf, lt, le, eq}
 use lib.Ieee.Bits.{is-true, is-false}
-use Rattle.spec_numbers.proofs.Tests.{either, passed, failed, or-elim, or-r}
-use Rattle.spec_numbers.proofs.Order.{transitive, lt→le, lt→not-le, le-lt-transitive, not-lt→le}
+use Rattle.spec_numbers.proofs.Tests.{either, passed, failed, or-elim, both-passed}
+use Rattle.spec_numbers.proofs.Order.{transitive, lt→le, eq→le, lt→not-le, le-lt-transitive, not-lt→le}
 use Rattle.spec_numbers.proofs.Comparisons.{less-number}
 use Rattle.spec_shapes.specs.Points.{Point}
 use Rattle.spec_lists.specs.Limits.{deepest}
@@ -54,14 +54,10 @@ module _ (squared : Float) (bounded : lt squared (inf false) ≡ true) where
       finite : lt d (inf false) ≡ true → not (le d squared) ≡ (not (lt d (inf false)) || lt squared d)
       finite e =
           rw e (⊎-elim
-          (λ (h : lt squared d ≡ true). rw (h, is-false (le d squared) (no (le d squared) (lt→not-le squared d (passed h)))))
+          (λ (h : lt squared d ≡ true). rw (h, is-false (le d squared) (not-T (le d squared) (lt→not-le squared d (passed h)))))
           (λ (h : lt squared d ≡ false).
           rw (h, is-true (le d squared) (not-lt→le squared d (less-number squared (inf false) bounded) (less-number d (inf false) e) (failed h))))
           (either (lt squared d)))
-        where
-          no : (b : Bool) → (T b → ⊥) → T (not b)
-          no true f = absurd (f tt)
-          no false f = tt
 
   -- once something that counts is kept, what is beyond the limit is above it
   beyond-kept : (d k : Float) → le k squared ≡ true → (not (lt d (inf false)) || lt k d) ≡ (not (le d squared) || lt k d)
@@ -93,6 +89,14 @@ module _ (limit : Limit) where
   abbrev Alike : Answer → Answer → Type 0
   Alike a b = Still a b ⊎ Taken a b
 
+  -- a triangle that is taken by both or by neither, and counts where it is taken, keeps them alike
+  taken-alike : (h : Hit) (a b : Answer) (x y : Bool) → h .triangle < noTriangle → Alike a b → x ≡ y → (y ≡ true → counts limit (h .squared) ≡ true)
+      → Alike (cond x (found h) a) (cond y (found h) b)
+  taken-alike h a b true true l k e c = inr (record { hit = h; kept-is = refl; answer-is = refl; counted = c refl; numbered = l })
+  taken-alike h a b true false l k e c = absurd (true≢false e)
+  taken-alike h a b false true l k e c = absurd (true≢false (sym e))
+  taken-alike h a b false false l k e c = k
+
 -- ---- by the first rule both are one search
 module _ (squared : Float) where
   abbrev first : Limit
@@ -106,25 +110,13 @@ module _ (squared : Float) where
   skips-first d a b (inl s) = rw (s .kept-is ∙ start-first, s .answer-is)
   skips-first d a b (inr t) = rw (t .kept-is, t .answer-is)
 
+  tests-first : (h : Hit) (a b : Answer) → Alike first a b → (counts first (h .squared) && better h a) ≡ (counts first (h .squared) && better h b)
+  tests-first h a b (inl s) = rw (s .kept-is ∙ start-first, s .answer-is)
+  tests-first h a b (inr t) = rw (t .kept-is, t .answer-is)
+
   takes-first : (h : Hit) (a b : Answer) → h .triangle < noTriangle → Alike first a b → Alike first (offered (below squared) h a) (offered first h b)
   unfolding offered
-  takes-first h a b l (inl s) =
-      rw (s .kept-is ∙ start-first, s .answer-is)
-      (⊎-elim
-      (λ (c : counts first (h .squared) ≡ true). inr (record { hit = h; kept-is = rw c; answer-is = rw c; counted = c; numbered = l }))
-      (λ (c : counts first (h .squared) ≡ false). inl (record { kept-is = rw (c, start-first); answer-is = rw c }))
-      (either (counts first (h .squared))))
-  takes-first h a b l (inr t) =
-      rw (t .kept-is, t .answer-is)
-      (⊎-elim
-      (λ (c : counts first (h .squared) ≡ true). ⊎-elim
-      (λ (e : better h (found (t .hit)) ≡ true). inr (record { hit = h; kept-is = rw (c, e); answer-is = rw (c, e); counted = c; numbered = l }))
-      (λ (e : better h (found (t .hit)) ≡ false).
-      inr (record { hit = t .hit; kept-is = rw (c, e); answer-is = rw (c, e); counted = t .counted; numbered = t .numbered }))
-      (either (better h (found (t .hit)))))
-      (λ (c : counts first (h .squared) ≡ false).
-      inr (record { hit = t .hit; kept-is = rw c; answer-is = rw c; counted = t .counted; numbered = t .numbered }))
-      (either (counts first (h .squared))))
+  takes-first h a b l k = taken-alike first h a b _ _ l k (tests-first h a b k) (λ e. both-passed _ _ e .0)
 
 -- ---- by the second
 module _ (squared : Float) (bounded : lt squared (inf false) ≡ true) where
@@ -152,34 +144,28 @@ module _ (squared : Float) (bounded : lt squared (inf false) ≡ true) where
       (or-elim (lt (h .squared) (k .squared)) _ (lt→le (h .squared) (k .squared)) (λ m. level (eq (h .squared) (k .squared)) _ refl m) (passed e)) (passed c))
     where
       level : (x y : Bool) → eq (h .squared) (k .squared) ≡ x → T (x && y) → T (le (h .squared) (k .squared))
-      level true y p m = unfold le in or-r (lt (h .squared) (k .squared)) (eq (h .squared) (k .squared)) (passed p)
+      level true y p m = eq→le (h .squared) (k .squared) (passed p)
 
-  takes-second : (h : Hit) (a b : Answer) → h .triangle < noTriangle → Alike second a b
-      → Alike second (offered (below (inf false)) h a) (offered second h b)
-  unfolding offered counts
-  takes-second h a b l (inl s) =
-      rw (s .kept-is ∙ start-second, s .answer-is)
-      (⊎-elim
-      (λ (c : le (h .squared) squared ≡ true).
-      inr (record { hit = h; kept-is = rw (near-finite squared bounded (h .squared) c, nearer-marker h l, c); answer-is = rw c; counted = c; numbered = l }))
-      (λ (c : le (h .squared) squared ≡ false).
-      inl (record { kept-is = rw (nearer-marker h l, c, and-false (lt (h .squared) (inf false)), start-second); answer-is = rw c }))
-      (either (le (h .squared) squared)))
-  takes-second h a b l (inr t) =
+  tests-second : (h : Hit) (a b : Answer) → h .triangle < noTriangle → Alike second a b
+      → (lt (h .squared) (inf false) && better h a) ≡ (le (h .squared) squared && better h b)
+  unfolding counts
+  tests-second h a b l (inl s) =
+      rw (s .kept-is ∙ start-second, s .answer-is, nearer-marker h l)
+      (⊎-elim (λ (c : le (h .squared) squared ≡ true). rw (c, near-finite squared bounded (h .squared) c))
+      (λ (c : le (h .squared) squared ≡ false). rw (c, and-false (lt (h .squared) (inf false)))) (either (le (h .squared) squared)))
+  tests-second h a b l (inr t) =
       rw (t .kept-is, t .answer-is)
       (⊎-elim
       (λ (e : better h (found (t .hit)) ≡ true).
       let c : le (h .squared) squared ≡ true = better-counts h (t .hit) (t .counted) e in
-      inr (record { hit = h; kept-is = rw (near-finite squared bounded (h .squared) c, e); answer-is = rw (c, e); counted = c; numbered = l }))
-      (λ (e : better h (found (t .hit)) ≡ false).
-      inr (record {
-        hit = t .hit;
-        kept-is = rw (e, and-false (lt (h .squared) (inf false)));
-        answer-is = rw (e, and-false (le (h .squared) squared));
-        counted = t .counted;
-        numbered = t .numbered;
-      }))
+      rw (e, c, near-finite squared bounded (h .squared) c))
+      (λ (e : better h (found (t .hit)) ≡ false). rw (e, and-false (lt (h .squared) (inf false)), and-false (le (h .squared) squared)))
       (either (better h (found (t .hit)))))
+
+  takes-second : (h : Hit) (a b : Answer) → h .triangle < noTriangle → Alike second a b
+      → Alike second (offered (below (inf false)) h a) (offered second h b)
+  unfolding offered counts
+  takes-second h a b l k = taken-alike second h a b _ _ l k (tests-second h a b l k) (λ e. both-passed _ _ e .0)
 
 -- ---- by either
 skips-by : (rule : Rule) (squared : Float) → lt squared (inf false) ≡ true → (d : Float) (a b : Answer)

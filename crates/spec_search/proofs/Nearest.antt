@@ -12,8 +12,8 @@ use lib.Dec.{T, T-not}
 use lib.Ieee.{Float, Format, lt, le, eq}
 use lib.Ieee.Bits.{is-true}
 use Rattle.spec_numbers.specs.Values.{Number}
-use Rattle.spec_numbers.proofs.Tests.{either, passed, failed, or-r}
-use Rattle.spec_numbers.proofs.Order.{reflexive, lt→le, lt→not-le, lt-le-transitive, not-lt→le}
+use Rattle.spec_numbers.proofs.Tests.{either, passed, failed}
+use Rattle.spec_numbers.proofs.Order.{reflexive, lt→le, eq→le, lt→not-le, lt-le-transitive, not-lt→le}
 use Rattle.spec_shapes.specs.Points.{Point}
 use Rattle.spec_lists.specs.Reading.{triangleCount}
 use Rattle.spec_tree.specs.Order.{range}
@@ -81,12 +81,9 @@ module _ (hit : ℕ → Hit) (named : (t : ℕ) → hit t .triangle ≡ t) (limi
         lowest = λ t b k.
             ⊎-elim (λ (e : t ≡ n). rw (named n, e) (le-refl n))
             (λ (s : t < n). absurd (lt→not-le (hit n .squared) (hit t .squared) (below t s (counts-equal limit (hit t .squared) (hit n .squared) k c))
-            (equal-at-most (hit t .squared) (hit n .squared) k)))
+            (eq→le (hit t .squared) (hit n .squared) k)))
             (one-more n t b);
       }
-    where
-      equal-at-most : (x y : Float) → T (eq x y) → T (le x y)
-      equal-at-most x y e = unfold le in or-r (lt x y) (eq x y) e
 
   -- the last one counts, and is not smaller: what was best stays
   not-smaller : (n : ℕ) (h : Hit) → IsNearest hit limit n h → T (counts limit (hit n .squared)) → T (not (lt (hit n .squared) (h .squared)))

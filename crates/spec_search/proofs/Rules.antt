@@ -7,8 +7,8 @@ use lib.Dec.{T}
 use lib.Ieee.{Float, Format, binary32, binary64, inf, round, mul, lt, le, eq}
 use lib.Ieee.Bits.{is-true}
 use Rattle.spec_numbers.specs.Values.{Number}
-use Rattle.spec_numbers.proofs.Tests.{passed, failed, or-r}
-use Rattle.spec_numbers.proofs.Order.{number-left, transitive, le-lt-transitive, not-lt→le}
+use Rattle.spec_numbers.proofs.Tests.{passed, failed}
+use Rattle.spec_numbers.proofs.Order.{number-left, eq→le, transitive, le-lt-transitive, not-lt→le}
 use Rattle.spec_numbers.proofs.Comparisons.{less-number, less-between}
 use Rattle.spec_numbers.proofs.Square.{square-keeps-order, abs-grows-upward}
 use Rattle.spec_lists.specs.Limits.{longestDistance}
@@ -42,8 +42,8 @@ counts-nearer limit x y n far h = by-nearer (limit .rule) (limit .squared) x y n
 
 -- what equals a distance that counts, counts
 pub counts-equal : (limit : Limit) (x y : Float) → T (eq x y) → T (counts limit y) → T (counts limit x)
-unfolding counts le
-counts-equal limit x y e h = by-equal (limit .rule) (limit .squared) x y (or-r (lt x y) (eq x y) e) h
+unfolding counts
+counts-equal limit x y e h = by-equal (limit .rule) (limit .squared) x y (eq→le x y e) h
 
 -- the second rule is the first, and what is level with the limit besides
 pub revised-adds-level : (squared d : Float)

@@ -7,7 +7,7 @@ use Prim.Native.Nat.{ℕ, suc, _+_, _-_, _^_, _≤_, _<_}
 use native.Mathlib.Nat.{le-max-left, le-max-right}
 use native.Mathlib.Omega.{arith}
 use borrow.Author.Tests.{eq-eqb, ne-eqb}
-use lib.ListN.{length, length-append}
+use lib.ListN.{length, drop, length-append, length-take, length-drop}
 use lib.Seq.{getD-take, getD-drop}
 use lib.Ieee.{Float, Format, lt}
 use Rattle.spec_tables.specs.Tables.{slice}
@@ -26,12 +26,12 @@ use Rattle.spec_search.specs.Safe.{NodeSafe, PairSafe, LinksAre}
 use Rattle.spec_search.proofs.Smallest.{still-skipped}
 use Rattle.spec_search.proofs.Walked.{walk-skipped, walk-leaf, walk-branch, root-leaf, root-branch, pair-right, pair-left, walk-keeps, counted-most}
 
--- a slice of the order list has entries below n too, so measuring its triangles stays within the list
-pub slice-below : (n : ℕ) (order : List ℕ) (first last : ℕ) → first ≤ last → last ≤ length order → EntriesBelow n order
-    → EntriesBelow n (slice order first (last - first))
-slice-below n order first last h k l i b =
-    let inside : i < last - first = omega (arith, slice-length order first (last - first) (omega arith)) in
-    rw (getD-take, getD-drop) (l (first + i) (omega arith))
+-- a slice of the order list has entries below n too, wherever it starts and ends, so measuring its triangles stays within the list
+pub slice-below : (n : ℕ) (order : List ℕ) (at size : ℕ) → EntriesBelow n order → EntriesBelow n (slice order at size)
+slice-below n order at size below i l =
+    let long : i < size = omega (arith, length-take size (drop at order)) in
+    let inside : at + i < length order = omega (arith, length-take size (drop at order), length-drop at order) in
+    rw (getD-take size (drop at order) i 0 long, getD-drop at order i 0) (below (at + i) inside)
 
 -- where a tree hangs, the node is there, so reading its links and box stays within the lists
 pub hangs-there : (triangles : List Float) (order links : List ℕ) (boxes : List Float) (t : Tree) (node : ℕ) → Hangs (boxAt triangles) order links boxes t node

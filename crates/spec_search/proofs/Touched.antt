@@ -4,11 +4,10 @@ use mathlib.Core.Bool.{Bool, true, false}
 use mathlib.Core.List.{List}
 use Prim.Native.Nat.{ℕ, _<_}
 use lib.Dec.{T}
-use lib.Ieee.{Float, Format, binary32, binary64, round, mul, lt, le, eq}
+use lib.Ieee.{Float, Format, binary32, binary64, round, mul, le, eq}
 use Rattle.spec_numbers.specs.Values.{zero}
 use Rattle.spec_numbers.specs.Axes.{Finite}
-use Rattle.spec_numbers.proofs.Tests.{or-r}
-use Rattle.spec_numbers.proofs.Order.{number-right, transitive, antisymmetric}
+use Rattle.spec_numbers.proofs.Order.{number-right, eq→le, transitive, antisymmetric}
 use Rattle.spec_numbers.proofs.Square.{square-not-below, square-keeps-order, abs-grows-downward}
 use Rattle.spec_shapes.specs.Points.{Point, at}
 use Rattle.spec_shapes.specs.Triangles.{measured}
@@ -22,10 +21,6 @@ use Rattle.spec_search.specs.Sure.{hit, scan}
 use Rattle.spec_search.specs.Nearest.{Nearest, Touched}
 use Rattle.spec_search.specs.Calls.{sureAnswer}
 use Rattle.spec_search.proofs.Nearest.{scan-nearest}
-
-equal-at-most : (x y : Float) → T (eq x y) → T (le x y)
-unfolding le
-equal-at-most x y e = or-r (lt x y) (eq x y) e
 
 -- ---- the square of a zero, of either sign, is zero
 nought-squared : (f : Format) → mul f zero zero ≡ zero
@@ -59,7 +54,7 @@ module _ (f : Format) (distance : Float) (low : T (le zero distance)) (high : T 
       forth c = antisymmetric d zero (transitive d _ zero c limit-not-above) h
 
       back : T (eq d zero) → T (counts (limitOf f belowOrEqual distance) d)
-      back e = transitive d zero _ (equal-at-most d zero e) limit-not-below
+      back e = transitive d zero _ (eq→le d zero e) limit-not-below
 
   module _ (triangles : List Float) (good : GoodTriangles triangles) (p : Point) (P : Finite (at p)) where
     hit-not-below : (t : ℕ) → t < triangleCount triangles → T (le zero (hit f triangles p t .squared))
@@ -88,8 +83,8 @@ module _ (f : Format) (distance : Float) (low : T (le zero distance)) (high : T 
           lowest = λ t l e.
               m .lowest t l
               (antisymmetric (hit f triangles p t .squared) (h .squared)
-              (transitive _ zero _ (equal-at-most (hit f triangles p t .squared) zero e) not-below)
-              (transitive _ zero _ (equal-at-most (h .squared) zero zero-there) (hit-not-below t l)));
+              (transitive _ zero _ (eq→le (hit f triangles p t .squared) zero e) not-below)
+              (transitive _ zero _ (eq→le (h .squared) zero zero-there) (hit-not-below t l)));
         }
 
     -- what the sure query answers by the second rule at a distance of 0, of either sign: it finds exactly where a held squared distance is zero

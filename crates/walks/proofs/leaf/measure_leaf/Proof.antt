@@ -13,7 +13,7 @@ measure-slice-requires c κs =
     let start = at-measure-slice-arg .before .before .before in
     let args = start .args in
     let range = start .pre .1 .0 in (
-      slice-below _ (args .order .now) (args .first) (args .last) (range .0) (range .1) (start .pre .0),
+      slice-below _ (args .order .now) (args .first) (args .last - args .first) (start .pre .0),
       omega (arith, slice-length (args .order .now) (args .first) (args .last - args .first) (omega (arith, range .0, range .1)), start .pre .1 .1),
     )
 
