@@ -1,12 +1,15 @@
 -- What is read of a list of coordinates: numbers in range, points and corners that are finite, boxes that are proper;
 -- and, of numbers that the format holds, no minus zero. Builds and queries start from these facts.
-use mathlib.Core.List.{List}
+use mathlib.Core.Path.{_≡_, ap}
+use mathlib.Core.List.{List, _++_}
 use Prim.Native.Nat.{ℕ, _+_, _*_, _≤_, _<_}
 use native.Mathlib.Omega.{arith}
 use lib.Dec.{T}
-use lib.ListN.{length, getD}
+use lib.ListN.{length, getD, length-append, List·getD-append}
+use lib.Seq.{getD-append-add}
 use lib.Ieee.{Float, nan, Format}
 use lib.Ieee.Scale.{finite}
+use Rattle.spec_numbers.specs.Values.{plusZero}
 use Rattle.spec_numbers.specs.Axes.{Finite, X, Y, Z}
 use Rattle.spec_numbers.specs.Plain.{Plain}
 use Rattle.spec_numbers.proofs.Order.{finite-number}
@@ -32,6 +35,44 @@ triangle-inside xs t h = omega arith
 pub point-inside : (xs : List Float) (k : ℕ) → k < pointCount xs → 3 * k + 3 ≤ length xs
 unfolding pointCount
 point-inside xs k h = omega arith
+
+-- ---- a list with another behind it
+module _ (xs ys : List Float) where
+  number-in-front : (i : ℕ) → i < length xs → numberAt (xs ++ ys) i ≡ numberAt xs i
+  unfolding numberAt
+  number-in-front i l = ap plusZero (List·getD-append xs ys nan i l)
+
+  point-in-front : (i : ℕ) → i + 3 ≤ length xs → pointAt (xs ++ ys) i ≡ pointAt xs i
+  unfolding pointAt
+  point-in-front i l = rw (number-in-front i (omega arith), number-in-front (i + 1) (omega arith), number-in-front (i + 2) (omega arith))
+
+  -- its first triangles are read as they were
+  pub triangle-in-front : (t : ℕ) → t < triangleCount xs → triangleAt (xs ++ ys) t ≡ triangleAt xs t
+  unfolding triangleAt
+  triangle-in-front t l =
+      let inside : 9 * t + 9 ≤ length xs = triangle-inside xs t l in
+      rw (point-in-front (9 * t) (omega arith), point-in-front (9 * t + 3) (omega arith), point-in-front (9 * t + 6) (omega arith))
+
+  number-behind : (i j : ℕ) → j ≡ length xs + i → numberAt (xs ++ ys) j ≡ numberAt ys i
+  unfolding numberAt
+  number-behind i j e = rw (e, getD-append-add xs ys i nan)
+
+  point-behind : (i j : ℕ) → j ≡ length xs + i → pointAt (xs ++ ys) j ≡ pointAt ys i
+  unfolding pointAt
+  point-behind i j e = rw (number-behind i j e, number-behind (i + 1) (j + 1) (omega arith), number-behind (i + 2) (j + 2) (omega arith))
+
+  module _ (whole : length xs ≡ 9 * triangleCount xs) where
+    -- the others follow
+    pub triangle-behind : (t : ℕ) → triangleAt (xs ++ ys) (triangleCount xs + t) ≡ triangleAt ys t
+    unfolding triangleAt
+    triangle-behind t =
+        let at = 9 * (triangleCount xs + t) in
+        rw (point-behind (9 * t) at (omega arith), point-behind (9 * t + 3) (at + 3) (omega arith), point-behind (9 * t + 6) (at + 6) (omega arith))
+
+    -- and the counts add up
+    pub count-appended : triangleCount (xs ++ ys) ≡ triangleCount xs + triangleCount ys
+    unfolding triangleCount
+    count-appended = omega (arith, whole, length-append xs ys)
 
 -- ---- what is read of a list of coordinates
 module _ (xs : List Float) (h : AllCoordinates xs) where
