@@ -1,11 +1,11 @@
--- What a scan's answer is: it counts, nothing that counts is smaller, and nothing equal has a lower number.
--- It is nothing exactly when no triangle counts.
+-- What a scan's answer is: it counts, nothing that counts is smaller, and nothing equal has a lower number; or nothing, where no triangle counts.
+-- No other answer is that.
 use mathlib.Core.Path.{_≡_, refl, sym, ap, subst, _∙_}
 use mathlib.Core.Bool.{Bool, true, false, not, _&&_, _||_}
 use mathlib.Core.Logic.{_⊎_, ⊎-elim}
 use mathlib.Core.List.{List, [], _∷_}
-use Prim.Native.Nat.{ℕ, zero, suc, _<_}
-use native.Mathlib.Nat.{eq-or-lt-of-le, le-of-suc-le-suc, le-refl}
+use Prim.Native.Nat.{ℕ, zero, suc, _≤_, _<_}
+use native.Mathlib.Nat.{eq-or-lt-of-le, le-of-suc-le-suc, le-refl, le-antisymm}
 use native.Mathlib.Omega.{arith}
 use borrow.Author.Tests.{le-ltb}
 use lib.Dec.{T, T-not}
@@ -13,7 +13,7 @@ use lib.Ieee.{Float, Format, lt, le, eq}
 use lib.Ieee.Bits.{is-true}
 use Rattle.spec_numbers.specs.Values.{Number}
 use Rattle.spec_numbers.proofs.Tests.{either, passed, failed}
-use Rattle.spec_numbers.proofs.Order.{reflexive, lt→le, eq→le, lt→not-le, lt-le-transitive, not-lt→le}
+use Rattle.spec_numbers.proofs.Order.{reflexive, lt→le, eq→le, lt→not-le, lt-le-transitive, not-lt→le, antisymmetric}
 use Rattle.spec_shapes.specs.Points.{Point}
 use Rattle.spec_lists.specs.Reading.{triangleCount}
 use Rattle.spec_tree.specs.Order.{range}
@@ -138,6 +138,28 @@ module _ (hit : ℕ → Hit) (named : (t : ℕ) → hit t .triangle ≡ t) (limi
   kept-nearest zero = λ t l. absurd (omega arith)
   kept-nearest (suc n) = rw (kept-append (λ t k. offered limit (hit t) k) (range n) (n ∷ []) nothing) (taken n _ (kept-nearest n))
 
+-- ---- there is one nearest
+module _ (hit : ℕ → Hit) (limit : Limit) (n : ℕ) where
+  counts-there : (h : Hit) → IsNearest hit limit n h → T (counts limit (hit (h .triangle) .squared))
+  counts-there h m = subst (λ (k : Hit). T (counts limit (k .squared))) (m .measured-there) (m .counted)
+
+  no-farther : (h k : Hit) → IsNearest hit limit n h → IsNearest hit limit n k → T (le (h .squared) (k .squared))
+  no-farther h k m o =
+      subst (λ (j : Hit). T (le (h .squared) (j .squared))) (sym (o .measured-there)) (m .smallest (k .triangle) (o .one-of-them) (counts-there k o))
+
+  no-higher : (h k : Hit) → IsNearest hit limit n h → IsNearest hit limit n k → h .triangle ≤ k .triangle
+  no-higher h k m o =
+      m .lowest (k .triangle) (o .one-of-them)
+      (subst (λ (j : Hit). T (eq (j .squared) (h .squared))) (o .measured-there) (antisymmetric _ _ (no-farther k h o m) (no-farther h k m o)))
+
+  -- two answers that are nearest are the same: the words of order leave nothing open
+  pub nearest-only : (a b : Answer) → Nearest hit limit n a → Nearest hit limit n b → a ≡ b
+  nearest-only nothing nothing m o = refl
+  nearest-only nothing (found k) m o = absurd (T-not (counts limit (hit (k .triangle) .squared)) (m (k .triangle) (o .one-of-them)) (counts-there k o))
+  nearest-only (found h) nothing m o = absurd (T-not (counts limit (hit (h .triangle) .squared)) (o (h .triangle) (m .one-of-them)) (counts-there h m))
+  nearest-only (found h) (found k) m o =
+      ap found (m .measured-there ∙ ap hit (le-antisymm (no-higher h k m o) (no-higher k h o m)) ∙ sym (o .measured-there))
+
 -- ---- the scan
 module _ (f : Format) (triangles : List Float) (p : Point) (limit : Limit) where
   -- what the sure query promises of its answer: the nearest triangle that counts, the lowest number among equals
@@ -145,12 +167,6 @@ module _ (f : Format) (triangles : List Float) (p : Point) (limit : Limit) where
   unfolding scan tookSure hit
   scan-nearest = kept-nearest (hit f triangles p) (λ t. refl) limit (triangleCount triangles)
 
-  -- where no triangle counts the answer is nothing; that it is nothing only there is the law above
-  pub scan-nothing : NoneCounts (hit f triangles p) limit (triangleCount triangles) → scan f triangles p limit ≡ nothing
-  scan-nothing none = go (scan f triangles p limit) scan-nearest
-    where
-      go : (a : Answer) → Nearest (hit f triangles p) limit (triangleCount triangles) a → a ≡ nothing
-      go nothing m = refl
-      go (found h) m =
-          absurd (T-not (counts limit (hit f triangles p (h .triangle) .squared)) (none (h .triangle) (m .one-of-them))
-          (subst (λ (k : Hit). T (counts limit (k .squared))) (m .measured-there) (m .counted)))
+  -- and no other answer is that: where no triangle counts, for one, the scan answers nothing
+  pub scan-only : (a : Answer) → Nearest (hit f triangles p) limit (triangleCount triangles) a → scan f triangles p limit ≡ a
+  scan-only a m = nearest-only (hit f triangles p) limit (triangleCount triangles) (scan f triangles p limit) a scan-nearest m
