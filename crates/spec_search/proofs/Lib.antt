@@ -11,4 +11,5 @@ pub mod Calls
 pub mod Kept
 pub mod Alike
 pub mod Marked
+pub mod Wider
 pub mod Worked

@@ -1,19 +1,24 @@
 -- The two queries at a few points over the scope's T0 and T1, worked out: the source's right child first and its strict comparison, which boxes it
 -- enters, the root that it always looks at; how far the limit reaches; and how many triangles the sure walk measures. The laws say that the walk is
--- the scan; these say which walk it is.
+-- the scan; these say which walk it is. At the end a patch to the drawing and a wider search.
 use mathlib.Core.Path.{_≡_, refl}
 use mathlib.Core.Bool.{false}
-use mathlib.Core.List.{List, [], _∷_}
+use mathlib.Core.List.{List, [], _∷_, _++_}
 use Prim.Native.Nat.{ℕ}
 use lib.IntN.{ℤ, pos, negsuc}
 use lib.Ieee.{Float, Format, binary32, binary64, fin, add, sub, mul, div, lt, le, eq, round, ofInt}
+use Rattle.spec_numbers.specs.Same.{same}
 use Rattle.spec_shapes.specs.Points.{Point, minus, plus, scale, dot, smallest, largest, isUnder, isFinite, plusZero, squaredDistance}
 use Rattle.spec_shapes.specs.Boxes.{union, withExcess, withOutside, boxSquared, containsPoint, heldIn, heldSquared}
 use Rattle.spec_shapes.specs.Triangles.{boxOf, dots, crossed, part, along, facePoint, pointOn, closestPoint, finiteOr, heldPoint, measured}
-use Rattle.spec_lists.specs.Refusals.{passes, refused, firstRefusal, isCoordinate, firstBad, raggedRefusal, noneRefusal, tooManyRefusal, coordinateRefusal, trianglesRefusal, roomRefusal}
+use Rattle.spec_lists.specs.Refusals.{Verdict, passes, refused, firstRefusal, isCoordinate, isDistance, firstBad, raggedRefusal, noneRefusal, tooManyRefusal, coordinateRefusal, trianglesRefusal, roomRefusal, pointsRefusal, distanceRefusal}
 use Rattle.spec_lists.specs.Reading.{numberAt, pointAt, triangleAt, boxAt, triangleCount, pointCount}
 use Rattle.spec_tree.specs.Trees.{Tree, leaf, branch, numbers, nodeCount, joinedTo, joined, boxOver, rootFrom, linksFrom, boxesOf}
-use Rattle.spec_tree.specs.Order.{range}
+use Rattle.spec_tree.specs.Order.{range, occurs}
+use Rattle.spec_tree.specs.Accepted.{sameBox, present}
+use Rattle.spec_tree.specs.Reasons as Reasons
+use Rattle.spec_tree.specs.Reasons.{failingFrom, refusedWhere, isNew, orderRefusal, countRefusal, scanLeaf, listingRefusal, levelUnder, isShallow, depthRefusal, isBoxed, boxRefusal, reason}
+use Rattle.spec_tree.specs.Refusals.{treeRefusal}
 use Rattle.spec_search.specs.Answers.{sure, source, Answer, nothing, found}
 use Rattle.spec_search.specs.Walk.{Sought, tookAll, nodeWalk, pairWalk, rootWalk, fold}
 use Rattle.spec_search.specs.Rules.{Rule, strictlyBelow, belowOrEqual, ruleOf, ruleRefusal, limitSquared, limitOf, counts}
@@ -22,6 +27,7 @@ use Rattle.spec_search.specs.Source.{sourceHit, keepSmaller, tookSource,
 use Rattle.spec_search.specs.Kept.{kept}
 use Rattle.spec_search.specs.Marked.{markedWalk, unmarked}
 use Rattle.spec_search.specs.Calls.{queryRefusal, sureAnswer, sourceAnswer}
+use Rattle.spec_search.specs.Wider.{Passing, answerOf, narrowedTo, numberedFrom, nearerOf}
 
 module _ (f : Format) where
   abbrev n : ℤ → Float
@@ -31,13 +37,14 @@ module _ (f : Format) where
   onX x = record { x = x; y = n (pos 0); z = n (pos 0) }
 
   -- T0 (0,0,0) (1,0,0) (0,1,0), and T1 (10,0,0) (11,0,0) (10,1,0) behind it
-  abbrev t0t1 : List Float
-  t0t1 =
-      n (pos 0) ∷ n (pos 0) ∷ n (pos 0) ∷ n (pos 1) ∷ n (pos 0) ∷ n (pos 0) ∷ n (pos 0) ∷ n (pos 1) ∷ n (pos 0)
-      ∷ n (pos 10) ∷ n (pos 0) ∷ n (pos 0) ∷ n (pos 11) ∷ n (pos 0) ∷ n (pos 0) ∷ n (pos 10) ∷ n (pos 1) ∷ n (pos 0) ∷ []
-
   abbrev t0 : List Float
   t0 = n (pos 0) ∷ n (pos 0) ∷ n (pos 0) ∷ n (pos 1) ∷ n (pos 0) ∷ n (pos 0) ∷ n (pos 0) ∷ n (pos 1) ∷ n (pos 0) ∷ []
+
+  abbrev t1 : List Float
+  t1 = n (pos 10) ∷ n (pos 0) ∷ n (pos 0) ∷ n (pos 11) ∷ n (pos 0) ∷ n (pos 0) ∷ n (pos 10) ∷ n (pos 1) ∷ n (pos 0) ∷ []
+
+  abbrev t0t1 : List Float
+  t0t1 = t0 ++ t1
 
   -- a leaf each
   abbrev two : Tree
@@ -152,3 +159,94 @@ unfolding lt le eq round ofInt triangleCount pointCount firstRefusal isCoordinat
     trianglesRefusal roomRefusal ruleRefusal queryRefusal
 query-refusals-worked binary32 = refl
 query-refusals-worked binary64 = refl
+
+-- ---- a patch, and a wider search
+-- a sure query by the second rule, with no points told
+abbrev told : List Float → Tree → Float → Verdict
+told triangles t distance = queryRefusal (sure 2) triangles (numbers t) (linksFrom 0 0 t) (boxesOf (boxAt triangles) t) (nodeCount t) [] distance 0
+
+abbrev asked : (triangles : List Float) (t : Tree) (distance : Float) → told triangles t distance ≡ passes → Passing 2 triangles distance
+asked triangles t distance e = record {
+  order = numbers t;
+  links = linksFrom 0 0 t;
+  boxes = boxesOf (boxAt triangles) t;
+  nodes = nodeCount t;
+  points = [];
+  room = 0;
+  passed = e;
+}
+
+-- within 5 T0 alone, with T1 appended, and T1 alone; T0 within 50: there are such queries. None has a distance below zero: -5 is smaller than -1 and
+-- has the larger limit squared
+pub queries-worked : (f : Format)
+    → (told (t0 f) (one f) (n f (pos 5)) ≡ passes) × ((told (t0 f ++ t1 f) (two f) (n f (pos 5)) ≡ passes) × ((told (t1 f) (one f) (n f (pos 5)) ≡ passes)
+    × ((told (t0 f) (one f) (n f (pos 50)) ≡ passes) × (told (t0 f) (one f) (n f (negsuc 4)) ≡ refused 9 0))))
+unfolding lt le eq round ofInt same smallest largest isUnder plusZero union boxOf numberAt pointAt triangleAt boxAt triangleCount pointCount firstRefusal
+    isCoordinate isDistance firstBad raggedRefusal noneRefusal tooManyRefusal coordinateRefusal trianglesRefusal roomRefusal pointsRefusal distanceRefusal
+    ruleRefusal queryRefusal numbers nodeCount joinedTo joined boxOver rootFrom linksFrom boxesOf occurs sameBox present failingFrom refusedWhere isNew
+    orderRefusal countRefusal scanLeaf Reasons.scan listingRefusal levelUnder isShallow depthRefusal isBoxed boxRefusal reason treeRefusal
+queries-worked binary32 = (refl, (refl, (refl, (refl, refl))))
+queries-worked binary64 = (refl, (refl, (refl, (refl, refl))))
+
+-- at (x,0,0) T0's answer; that with T1 appended, and the nearer of T0's and of T1's own; T0's by the wider search, and what the smaller distance leaves
+-- of it
+abbrev answersAt : (f : Format) → Float → List Answer
+answersAt f x =
+    let passed = queries-worked f in
+    let before = answerOf f (asked (t0 f) (one f) (n f (pos 5)) (passed .0)) (onX f x) in
+    let after = answerOf f (asked (t0 f ++ t1 f) (two f) (n f (pos 5)) (passed .1 .0)) (onX f x) in
+    let patch = answerOf f (asked (t1 f) (one f) (n f (pos 5)) (passed .1 .1 .0)) (onX f x) in
+    let wider = answerOf f (asked (t0 f) (one f) (n f (pos 50)) (passed .1 .1 .1 .0)) (onX f x) in
+    before ∷ after ∷ nearerOf before (numberedFrom 1 patch) ∷ wider ∷ narrowedTo (limitOf f belowOrEqual (n f (pos 5))) wider ∷ []
+
+-- at 5.75, which is 23 / 4, T0 is 4.75 away, 361 / 16 squared, and T1 4.25, 289 / 16
+abbrev closer : Float
+closer = fin false 23 (negsuc 1)
+
+abbrev unpatched : Format → Answer
+unpatched f = foundAt f 0 (pos 1) (fin false 361 (negsuc 3))
+
+abbrev patched : Format → Answer
+patched f = foundAt f 1 (pos 10) (fin false 289 (negsuc 3))
+
+abbrev standing : Format → Answer
+standing f = foundAt f 0 (pos 1) (level f)
+
+abbrev come : Format → Answer
+come f = foundAt f 1 (pos 10) (n f (pos 4))
+
+-- at 5.5 T1 is level with T0, whose answer stands; at 5.75 T1 is nearer; at 8, where T0 is too far, T1 is found, and T0 by the wider search
+pub patch-worked : (f : Format) → (answersAt f (between f) ∷ answersAt f closer ∷ answersAt f (n f (pos 8)) ∷ [])
+    ≡ ((standing f ∷ standing f ∷ standing f ∷ standing f ∷ standing f ∷ [])
+    ∷ (unpatched f ∷ patched f ∷ patched f ∷ unpatched f ∷ unpatched f ∷ [])
+    ∷ (nothing ∷ come f ∷ come f ∷ foundAt f 0 (pos 1) (n f (pos 49)) ∷ nothing ∷ []) ∷ [])
+unfolding add sub mul div lt le eq round ofInt minus plus scale dot smallest largest isUnder isFinite plusZero squaredDistance union heldIn boxOf dots
+    crossed part along facePoint pointOn closestPoint finiteOr heldPoint measured numberAt pointAt triangleAt triangleCount range fold ruleOf
+    limitSquared counts offered hit tookSure scan sureAnswer
+patch-worked binary32 = refl
+patch-worked binary64 = refl
+
+-- (0,0,0) (4,0,0) (0,4,0), whose box holds (4,4,0) though (6,4,0) (7,4,0) (6,5,0) is nearer
+abbrev boxAround : Format → List Float
+boxAround f =
+    n f (pos 0) ∷ n f (pos 0) ∷ n f (pos 0) ∷ n f (pos 4) ∷ n f (pos 0) ∷ n f (pos 0) ∷ n f (pos 0) ∷ n f (pos 4) ∷ n f (pos 0)
+    ∷ n f (pos 6) ∷ n f (pos 4) ∷ n f (pos 0) ∷ n f (pos 7) ∷ n f (pos 4) ∷ n f (pos 0) ∷ n f (pos 6) ∷ n f (pos 5) ∷ n f (pos 0) ∷ []
+
+abbrev flat : (f : Format) → ℤ → ℤ → Point
+flat f x y = record { x = n f x; y = n f y; z = n f (pos 0) }
+
+abbrev sourceAround : (f : Format) → ℤ → Answer
+sourceAround f distance =
+    sourceAnswer f (boxAround f) (numbers (two f)) (linksFrom 0 0 (two f)) (boxesOf (boxAt (boxAround f)) (two f)) (nodeCount (two f)) (n f distance)
+    (flat f (pos 4) (pos 4))
+
+-- the source query has no such law: within 1 it finds the first, because of its box, and within 3 the second
+pub source-widened : (f : Format) → (sourceAround f (pos 1) ∷ sourceAround f (pos 3) ∷ [])
+    ≡ (found (record { point = flat f (pos 2) (pos 2); squared = n f (pos 8); triangle = 0 })
+    ∷ found (record { point = flat f (pos 6) (pos 4); squared = n f (pos 4); triangle = 1 }) ∷ [])
+unfolding add sub mul div lt le eq round ofInt minus plus scale dot smallest largest isUnder plusZero squaredDistance union withExcess withOutside
+    boxSquared containsPoint boxOf dots crossed part along facePoint pointOn closestPoint numberAt pointAt triangleAt boxAt triangleCount numbers
+    nodeCount joinedTo joined boxOver rootFrom linksFrom boxesOf tookAll pairWalk nodeWalk rootWalk limitSquared sourceHit keepSmaller tookSource enters
+    sourceWalk sourceAnswer
+source-widened binary32 = refl
+source-widened binary64 = refl

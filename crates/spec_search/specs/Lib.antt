@@ -8,3 +8,4 @@ pub mod Safe
 pub mod Calls
 pub mod Kept
 pub mod Marked
+pub mod Wider
