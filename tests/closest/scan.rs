@@ -68,7 +68,7 @@ pub fn held(t: &[V; 3], p: V) -> V {
 }
 
 /// Whether a squared distance counts: by rule 1 strictly below the limit squared, by rule 2 below or equal.
-fn counts(d: f32, limit: f32, rule: u32) -> bool {
+pub fn counts(d: f32, limit: f32, rule: u32) -> bool {
     match rule {
         1 => d < limit,
         2 => d <= limit,

@@ -2,11 +2,11 @@
 //! sure query against a plain scan. Prints counts and the first that differ, and ends with status 1 where any does.
 //! tests/compare builds and runs it.
 //!
-//!     compare [REQUESTS [POINTS [LARGE [LARGE_POINTS [LEVEL]]]]]
+//!     compare [REQUESTS [POINTS [LARGE [LARGE_POINTS [LEVEL [WIDER]]]]]]
 //!
 //! 200,000 requests of up to 4,096 triangles and 10,000,000 points of as large drawings, then 408 requests of 4,096 to 65,536
 //! triangles and 100,000 points of drawings of 4,097 to 65,536, each by both measuring rules; then 5,000,000 points at exactly the
-//! distance of their nearest and a float more or less.
+//! distance of their nearest and a float more or less; then 5,000,000 points before and after a wider search and a patch.
 //!
 //! This engine is given the numbers as they were made, minus zeros too; the oracle and the scan read each as itself plus zero.
 
@@ -45,15 +45,17 @@ fn source_of(tree: &Any, p: &P, d: f32) -> Answer {
 const T0: [f32; 9] = [0.0, 0.0, 0.0, 1.0, 0.0, 0.0, 0.0, 1.0, 0.0];
 const T1: [f32; 9] = [10.0, 0.0, 0.0, 11.0, 0.0, 0.0, 10.0, 1.0, 0.0];
 const WIDE: [f32; 9] = [0.0, 0.0, 0.0, 4.0, 0.0, 0.0, 0.0, 4.0, 0.0];
+const BESIDE: [f32; 9] = [6.0, 4.0, 0.0, 7.0, 4.0, 0.0, 6.0, 5.0, 0.0];
 const AWAY: [f32; 9] = [100.0, 0.0, 0.0, 101.0, 0.0, 0.0, 100.0, 1.0, 0.0];
 const PINCHED: [f32; 9] = [0.0, 0.0, 0.0, 0.0, 0.0, 0.0, 4.0, 0.0, 0.0];
 const E: f32 = 1.0 / 1073741824.0;
 const NEAR: [f32; 9] = [-1.0, -4.0, 0.0, -E, 0.0, 0.0, -2.0, -4.0, 0.0];
 
 /// The smallest input for each: name, strategy, triangles, point, distance (leaf minimum 1, depth 40).
-const FAULTS: [(&str, u16, &[[f32; 9]], [f32; 3], f32); 19] = [
+const FAULTS: [(&str, u16, &[[f32; 9]], [f32; 3], f32); 20] = [
     ("last leaf read past its end", 1, &[T0], [0.0, 0.0, 1.0], 4.0),
-    ("neighbouring leaf's first triangle measured", 1, &[WIDE, [6.0, 4.0, 0.0, 7.0, 4.0, 0.0, 6.0, 5.0, 0.0]], [4.0, 4.0, 0.0], 1.0),
+    ("neighbouring leaf's first triangle measured", 1, &[WIDE, BESIDE], [4.0, 4.0, 0.0], 1.0),
+    ("an answer that a larger distance changes", 1, &[WIDE, BESIDE], [4.0, 4.0, 0.0], 3.0),
     ("pinched, a = b", 1, &[PINCHED], [1.0, 1.0, 0.0], 10.0),
     ("pinched, a = b, asked at corner c", 1, &[[4.0, 0.0, 0.0, 4.0, 0.0, 0.0, 0.0, 0.0, 0.0]], [0.0, 0.0, 0.0], 10.0),
     ("pinched, a = b, with another far off", 1, &[PINCHED, AWAY], [1.0, 1.0, 0.0], 1000.0),
@@ -551,6 +553,100 @@ fn levels(count: u64) -> u64 {
     sure.print() + zero.print() + refused.print()
 }
 
+/// An answer before and after triangles were appended to the first n: it stands, or an appended one has taken its place, strictly nearer
+/// or where there was nothing.
+fn stands_or_nearer(n: usize, before: [u32; 6], after: [u32; 6]) -> bool {
+    let nearer = || before[0] == 0 || f32::from_bits(after[5]) < f32::from_bits(before[5]);
+    after == before || (after[0] == 1 && after[1] as usize >= n && nearer())
+}
+
+/// What a wider search and a patch change, each query with a tree of its own: half of the trees built, half by no builder. A distance and a
+/// larger one, about where points have their nearest; some of the last triangles as the patch. Of the source query, which promises
+/// nothing of the kind, is only counted what changes.
+fn wider(count: u64) -> u64 {
+    const EACH: usize = 50;
+    let (start, mut r) = (Instant::now(), Rng::new(9));
+    let mut kept = Tally::new("answers found, again by a larger distance");
+    let mut narrowed = Tally::new("answers, read off those by a larger distance");
+    let mut revised = Tally::new("answers found by rule 1, again by rule 2");
+    let mut patched = Tally::new("answers before and after a patch");
+    let mut alone = Tally::new("answers after a patch, from those before and those over the patch alone");
+    // Of a larger distance: nothing before and after, found only after. Of a patch: nothing stands, an answer stands, is replaced, comes.
+    let (mut wide, mut patch) = ([0u64; 2], [0u64; 4]);
+    // How many of those that stand were looked at, and of how many a triangle of the patch is level with the answer.
+    let (mut looked, mut level) = (0u64, 0u64);
+    // Of the source query: found, of these changed by a larger distance over the same tree; asked, of these neither standing nor nearer by a patch.
+    let (mut source, mut points, mut largest, mut i) = ([0u64; 4], 0u64, 0usize, 0u64);
+    while points < count {
+        let size = if r.one_in(2000) { large_size(&mut r) } else { small_size(&mut r) };
+        let (a, list, before) = drawn(i, 15_000_000, size, EACH, &mut r);
+        let n = list.len();
+        largest = largest.max(n);
+        let another = |from: usize, to: usize, r: &mut Rng| {
+            if r.one_in(2) { Tree::build(&a.given[9 * from..9 * to], 1 + r.below(2), 1 + r.below(10), r.below(65)) } else { grown(&list[from..to], r) }
+        };
+        let after = another(0, n, &mut r);
+        let old = if r.one_in(10) { n } else { 1 + r.below(n) };
+        let unpatched = another(0, old, &mut r);
+        // A patch of no triangles is a list that no query takes.
+        let patch_alone = (old < n).then(|| another(old, n, &mut r));
+        let mut about = || {
+            let nearest = scan::scan(&list[..old], v(&a.points[r.below(EACH)]), FAR, 1).map_or(0.0, |b| b.2.sqrt());
+            [a.distance, nearest, nearest, nearest.next_up(), 0.0, FAR][r.below(6)].min(FAR)
+        };
+        let (one, other) = (about(), about());
+        let (d, larger) = (one.min(other), one.max(other));
+        let name = |d: f32, rule: u32, k: usize| format!("{} distance={d:?} rule={rule} old={old} point {k}", a.name);
+        let mut by_first: Option<Vec<[u32; 6]>> = None;
+        for rule in RULES {
+            let (short, long) = (before.sure(&a.given, &a.given_points, d, rule).unwrap(), after.sure(&a.given, &a.given_points, larger, rule).unwrap());
+            let front = unpatched.sure(&a.given[..9 * old], &a.given_points, d, rule).unwrap();
+            let behind = patch_alone.as_ref().map(|tree| tree.sure(&a.given[9 * old..], &a.given_points, d, rule).unwrap());
+            for k in 0..EACH {
+                if short[k][0] == 1 {
+                    kept.note(long[k] == short[k], || format!("{}, {larger:?}: {:x?}, not {:x?}", name(d, rule, k), long[k], short[k]));
+                } else {
+                    wide[long[k][0] as usize] += 1;
+                }
+                let counts = long[k][0] == 1 && scan::counts(f32::from_bits(long[k][5]), d * d, rule);
+                let left = if counts { long[k] } else { [0; 6] };
+                narrowed.note(short[k] == left, || format!("{}, {larger:?}: {:x?}, not {left:x?}", name(d, rule, k), short[k]));
+                patched.note(stands_or_nearer(old, front[k], short[k]), || format!("{}: {:x?} before, {:x?} after", name(d, rule, k), front[k], short[k]));
+                let (is, was) = (short[k], front[k]);
+                if let Some(new) = behind.as_ref().map(|b| b[k]) {
+                    let nearer = new[0] == 1 && (was[0] == 0 || f32::from_bits(new[5]) < f32::from_bits(was[5]));
+                    let want = if nearer { [1, new[1] + old as u32, new[2], new[3], new[4], new[5]] } else { was };
+                    alone.note(is == want, || format!("{}: {is:x?}, not {want:x?}", name(d, rule, k)));
+                }
+                patch[if is == was { is[0] as usize } else { 3 - was[0] as usize }] += 1;
+                if k % 10 == 0 && is == was && is[0] == 1 && old < n {
+                    looked += 1;
+                    level += scan::scan(&list[old..], v(&a.points[k]), FAR, 1).is_some_and(|b| b.2.to_bits() == is[5]) as u64;
+                }
+                if let Some(first) = by_first.as_ref().filter(|first| first[k][0] == 1) {
+                    revised.note(first[k] == short[k], || format!("{}: {:x?}, not {:x?}", name(d, rule, k), short[k], first[k]));
+                }
+            }
+            by_first = Some(short);
+        }
+        let (short, long) = (before.source(&a.given, &a.given_points, d).unwrap(), before.source(&a.given, &a.given_points, larger).unwrap());
+        let front = unpatched.source(&a.given[..9 * old], &a.given_points, d).unwrap();
+        for k in 0..EACH {
+            source[0] += (short[k][0] == 1) as u64;
+            source[1] += (short[k][0] == 1 && long[k] != short[k]) as u64;
+            source[2] += 1;
+            source[3] += !stands_or_nearer(old, front[k], short[k]) as u64;
+        }
+        points += EACH as u64;
+        i += 1;
+    }
+    println!("{points} points before and after, {i} drawings of up to {largest} triangles over {} kinds of shape, {:.0} s", KINDS.len(), start.elapsed().as_secs_f64());
+    println!("  by a larger distance: {} found before, {} found only then, {} nothing both times", kept.compared, wide[1], wide[0]);
+    println!("  by a patch: {} stand, {} are replaced, {} come, {} nothing both times; of {looked} that stand a patch is level with {level}", patch[1], patch[2], patch[3], patch[0]);
+    println!("  the source query: of {} found {} change by a larger distance; of {} {} neither stand nor are nearer by a patch", source[0], source[1], source[2], source[3]);
+    kept.print() + narrowed.print() + revised.print() + patched.print() + alone.print()
+}
+
 /// One triangle too many is refused by every call, and nothing is written.
 fn too_many() -> u64 {
     let mut refused = Tally::new("calls with 65,537 triangles, refused");
@@ -574,10 +670,10 @@ fn too_many() -> u64 {
 fn main() {
     let mut args = std::env::args().skip(1).map(|a| a.parse().expect("a number"));
     let mut next = |usual| args.next().unwrap_or(usual);
-    let (trees, points, large, large_points, level) = (next(200_000), next(10_000_000), next(408), next(100_000), next(5_000_000));
+    let (trees, points, large, large_points, level, wide) = (next(200_000), next(10_000_000), next(408), next(100_000), next(5_000_000), next(5_000_000));
     faults();
     let small = requests(trees, request) + scans(points, small_size);
-    let differ = small + requests(large, large_request) + scans(large_points, large_size) + too_many() + levels(level);
+    let differ = small + requests(large, large_request) + scans(large_points, large_size) + too_many() + levels(level) + wider(wide);
     println!("{differ} differ");
     std::process::exit((differ > 0) as i32);
 }
