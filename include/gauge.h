@@ -293,6 +293,11 @@ uint64_t gauge_check(const float *triangles, size_t triangles_length, const uint
  * where its nearest is at exactly the distance: there the first finds nothing, the second that nearest.
  * The squares are compared, each a float: the answer's squared distance, and distance times itself, rounded.
  *
+ * Of answers that were kept: a larger distance changes none that was found, nor does
+ * GAUGE_RULE_BELOW_OR_EQUAL at the same distance one that GAUGE_RULE_BELOW found. Triangles appended behind
+ * the others leave an answer as it was, or one of them takes its place, nearer or where nothing was found: an
+ * answer whose triangle was there before is the answer from before. Whatever trees are used.
+ *
  * Hazards: at a distance of 0 GAUGE_RULE_BELOW finds nothing, and GAUGE_RULE_BELOW_OR_EQUAL only points on
  * the surface, those whose squared distance is exactly 0. Corners are, save of triangles that are tiny, thin
  * or without area; a point on a slanting edge or face is mostly a rounding away from it and is not found. A
