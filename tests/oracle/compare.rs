@@ -553,11 +553,11 @@ fn levels(count: u64) -> u64 {
     sure.print() + zero.print() + refused.print()
 }
 
-/// An answer before and after triangles were appended to the first n: it stands, or an appended one has taken its place, strictly nearer
-/// or where there was nothing.
-fn stands_or_nearer(n: usize, before: [u32; 6], after: [u32; 6]) -> bool {
+/// An answer before and after triangles were appended to n, so that there are m: it stands, or an appended one has taken its place, strictly
+/// nearer or where there was nothing.
+fn stands_or_nearer(n: usize, m: usize, before: [u32; 6], after: [u32; 6]) -> bool {
     let nearer = || before[0] == 0 || f32::from_bits(after[5]) < f32::from_bits(before[5]);
-    after == before || (after[0] == 1 && after[1] as usize >= n && nearer())
+    after == before || (after[0] == 1 && (n..m).contains(&(after[1] as usize)) && nearer())
 }
 
 /// What a wider search and a patch change, each query with a tree of its own: half of the trees built, half by no builder. A distance and a
@@ -611,7 +611,7 @@ fn wider(count: u64) -> u64 {
                 let counts = long[k][0] == 1 && scan::counts(f32::from_bits(long[k][5]), d * d, rule);
                 let left = if counts { long[k] } else { [0; 6] };
                 narrowed.note(short[k] == left, || format!("{}, {larger:?}: {:x?}, not {left:x?}", name(d, rule, k), short[k]));
-                patched.note(stands_or_nearer(old, front[k], short[k]), || format!("{}: {:x?} before, {:x?} after", name(d, rule, k), front[k], short[k]));
+                patched.note(stands_or_nearer(old, n, front[k], short[k]), || format!("{}: {:x?} before, {:x?} after", name(d, rule, k), front[k], short[k]));
                 let (is, was) = (short[k], front[k]);
                 if let Some(new) = behind.as_ref().map(|b| b[k]) {
                     let nearer = new[0] == 1 && (was[0] == 0 || f32::from_bits(new[5]) < f32::from_bits(was[5]));
@@ -635,7 +635,7 @@ fn wider(count: u64) -> u64 {
             source[0] += (short[k][0] == 1) as u64;
             source[1] += (short[k][0] == 1 && long[k] != short[k]) as u64;
             source[2] += 1;
-            source[3] += !stands_or_nearer(old, front[k], short[k]) as u64;
+            source[3] += !stands_or_nearer(old, n, front[k], short[k]) as u64;
         }
         points += EACH as u64;
         i += 1;

@@ -137,12 +137,14 @@ module _ (hit others all : ℕ → Hit) (limit : Limit) (n m : ℕ) (front : (t 
           rw e (front-nearest h a (λ u l c. transitive _ _ _ level (b .smallest u l c)))
 
 -- the nearer of two stands in front, or is one of those behind it
-nearer-stands : (n : ℕ) (a b : Answer) → StandsOrNearer n a (nearerOf a (numberedFrom n b))
-nearer-stands n nothing nothing = stands refl
-nearer-stands n nothing (found k) = replaced (numbered n k) refl (omega arith) tt
-nearer-stands n (found h) nothing = stands refl
-nearer-stands n (found h) (found k) =
-    ⊎-elim (λ (e : lt (k .squared) (h .squared) ≡ true). replaced (numbered n k) (rw e refl) (omega arith) (passed e))
+nearer-stands : (others : ℕ → Hit) (limit : Limit) (n m : ℕ) (a b : Answer) → Nearest others limit m b
+    → StandsOrNearer n (n + m) a (nearerOf a (numberedFrom n b))
+nearer-stands others limit n m nothing nothing o = stands refl
+nearer-stands others limit n m nothing (found k) o = replaced (numbered n k) refl (omega arith) (omega (arith, o .one-of-them)) tt
+nearer-stands others limit n m (found h) nothing o = stands refl
+nearer-stands others limit n m (found h) (found k) o =
+    ⊎-elim
+    (λ (e : lt (k .squared) (h .squared) ≡ true). replaced (numbered n k) (rw e refl) (omega arith) (omega (arith, o .one-of-them)) (passed e))
     (λ (e : lt (k .squared) (h .squared) ≡ false). stands (rw e refl)) (either (lt (k .squared) (h .squared)))
 
 -- ---- of the scan
@@ -191,12 +193,14 @@ module _ (f : Format) {rule : ℕ} {triangles : List Float} {distance : Float} (
 
     -- so triangles appended at the end, while the list still passes, leave the answer as it was or replace it by an appended triangle at a strictly
     -- smaller squared distance, or, where nothing was found, by an appended triangle
-    pub appended-stands-or-nearer : StandsOrNearer (triangleCount triangles) (answerOf f before p) (answerOf f after p)
+    pub appended-stands-or-nearer : StandsOrNearer (triangleCount triangles) (triangleCount (triangles ++ behind)) (answerOf f before p) (answerOf f after p)
     unfolding sureAnswer
     appended-stands-or-nearer =
         let limit = limitOf f (ruleOf rule) distance in
-        rw (scan-patched f triangles p behind limit (askable .searchable .triangles-good .whole))
-        (nearer-stands (triangleCount triangles) (scan f triangles p limit) (scan f behind p limit))
+        let whole = askable .searchable .triangles-good .whole in
+        rw (count-appended triangles behind whole, scan-patched f triangles p behind limit whole)
+        (nearer-stands (hit f behind p) limit (triangleCount triangles) (triangleCount behind) (scan f triangles p limit) (scan f behind p limit)
+        (scan-nearest f behind p limit))
 
 -- parts that are gauged anew by the second rule: it changes no answer that the first found
 pub revised-rule-keeps : (f : Format) {triangles : List Float} {distance : Float} (before : Passing 1 triangles distance) (after : Passing 2 triangles distance)
@@ -207,20 +211,21 @@ revised-rule-keeps f {triangles} {distance} before after p h e =
     (sym (scan-narrowed f triangles p (limitOf f strictlyBelow distance) (limitOf f belowOrEqual distance) (revised-counts f distance)) ∙ e)
 
 -- ---- what may be concluded once triangles were appended
--- what was found is found still, and is no farther away
-pub found-still : (n : ℕ) (h : Hit) (after : Answer) → StandsOrNearer n (found h) after
-    → (k : Hit) × ((after ≡ found k) × T (not (lt (h .squared) (k .squared))))
-found-still n h after (stands e) = (h, (e, not-T (lt (h .squared) (h .squared)) (λ c. lt→not-le _ _ c (lt→le _ _ c))))
-found-still n h after (replaced k e far l) = (k, (e, not-T (lt (h .squared) (k .squared)) (λ c. lt→not-le _ _ c (lt→le _ _ l))))
+module _ (n m : ℕ) where
+  -- what was found is found still, and is no farther away
+  pub found-still : (h : Hit) (after : Answer) → StandsOrNearer n m (found h) after
+      → (k : Hit) × ((after ≡ found k) × T (not (lt (h .squared) (k .squared))))
+  found-still h after (stands e) = (h, (e, not-T (lt (h .squared) (h .squared)) (λ c. lt→not-le _ _ c (lt→le _ _ c))))
+  found-still h after (replaced k e far near l) = (k, (e, not-T (lt (h .squared) (k .squared)) (λ c. lt→not-le _ _ c (lt→le _ _ l))))
 
--- an answer that is none of the appended triangles is the answer without them
-pub old-stands : (n : ℕ) (before : Answer) (k : Hit) → k .triangle < n → StandsOrNearer n before (found k) → before ≡ found k
-old-stands n before k l (stands e) = sym e
-old-stands n before k l (replaced h e far s) = let same : k ≡ h = cc in absurd (omega (arith, l, rw (← same) at far))
+  -- an answer that is none of the appended triangles is the answer without them
+  pub old-stands : (before : Answer) (k : Hit) → k .triangle < n → StandsOrNearer n m before (found k) → before ≡ found k
+  old-stands before k l (stands e) = sym e
+  old-stands before k l (replaced h e far near s) = let same : k ≡ h = cc in absurd (omega (arith, l, rw (← same) at far))
 
--- and what is only level with an answer has not replaced it
-pub level-stands : (n : ℕ) (h k : Hit) → T (eq (h .squared) (k .squared)) → StandsOrNearer n (found h) (found k) → k ≡ h
-level-stands n h k level (stands e) = cc
-level-stands n h k level (replaced j e far l) =
-    let same : k ≡ j = cc in
-    absurd (lt→not-le (k .squared) (h .squared) (rw (← same) at l) (eq→le (h .squared) (k .squared) level))
+  -- and what is only level with an answer has not replaced it
+  pub level-stands : (h k : Hit) → T (eq (h .squared) (k .squared)) → StandsOrNearer n m (found h) (found k) → k ≡ h
+  level-stands h k level (stands e) = cc
+  level-stands h k level (replaced j e far near l) =
+      let same : k ≡ j = cc in
+      absurd (lt→not-le (k .squared) (h .squared) (rw (← same) at l) (eq→le (h .squared) (k .squared) level))

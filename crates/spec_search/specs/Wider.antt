@@ -3,7 +3,7 @@
 use mathlib.Core.Path.{_≡_}
 use mathlib.Core.Bool.{cond}
 use mathlib.Core.List.{List}
-use Prim.Native.Nat.{ℕ, _+_, _≤_}
+use Prim.Native.Nat.{ℕ, _+_, _≤_, _<_}
 use lib.Dec.{T}
 use lib.Ieee.{Float, Format, lt}
 use Rattle.spec_shapes.specs.Points.{Point}
@@ -59,7 +59,8 @@ abbrev pub StrictlyNearer : Hit → Answer → Type 0
 StrictlyNearer h nothing = Unit {0}
 StrictlyNearer h (found k) = T (lt (h .squared) (k .squared))
 
--- the answer stands; or a triangle from number n on has taken its place, at a strictly smaller squared distance or where nothing was found
-pub data StandsOrNearer (n : ℕ) (before after : Answer) : Type 0 where
-  stands : after ≡ before → StandsOrNearer n before after
-  replaced : (h : Hit) → after ≡ found h → n ≤ h .triangle → StrictlyNearer h before → StandsOrNearer n before after
+-- n triangles were there, and now there are m: the answer stands, or an appended triangle has taken its place, at a strictly smaller squared distance or
+-- where nothing was found
+pub data StandsOrNearer (n m : ℕ) (before after : Answer) : Type 0 where
+  stands : after ≡ before → StandsOrNearer n m before after
+  replaced : (h : Hit) → after ≡ found h → n ≤ h .triangle → h .triangle < m → StrictlyNearer h before → StandsOrNearer n m before after
