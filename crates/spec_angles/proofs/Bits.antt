@@ -1,7 +1,7 @@
 -- The patterns of binary32 below 7F800000 are the finite numbers with the sign clear, and each stands for `unitsOf` times the least value, 2 ^ -149.
 -- The program takes roots from these patterns.
 use mathlib.Core.Path.{_≡_, refl}
-use mathlib.Core.Bool.{Bool, true, false, not, _||_, Bool·beq, cond, true≢false}
+use mathlib.Core.Bool.{Bool, true, false, not, _||_, Bool·beq, cond}
 use mathlib.Core.Logic.{inl, inr}
 use Prim.Native.Nat.{ℕ, zero, suc, _+_, _-_, _*_, _/_, _%_, _^_, _≤_, _<_}
 use native.Mathlib.Nat.{mod-eq-of-lt, mul-one, pow-suc, eq-or-lt-of-le}
@@ -15,8 +15,9 @@ use lib.Ieee.Bits.{ofBits-toBits, nanBits-is, is-true, is-false, cond-no}
 use lib.Ieee.Fits.{and-l}
 use lib.Ieee.Positive.{num}
 use lib.Ieee.Exact.{HasValue, odd-sign}
+use Rattle.spec_numbers.specs.Values.{unsigned}
 use Rattle.spec_numbers.proofs.Unique.{zero-exponent}
-use Rattle.spec_angles.specs.Root.{unsigned, rootable}
+use Rattle.spec_angles.specs.Root.{rootable}
 use Rattle.spec_angles.specs.RootByBits.{unitsOf}
 
 -- ---- `unitsOf` below 2 ^ 23, where a number is subnormal, and from there on
@@ -133,11 +134,6 @@ unsigned-bits x h p = go (decLt b (2 ^ 31)) (decLt b 0x7f80_0000)
 value-is-number : (x : Float) (a c : ℕ) → HasValue x false a c → T (not (isNan x))
 unfolding isNan
 value-is-number (fin s m e) a c h = tt
-
--- a float with a value whose sign is clear is finite, with the sign clear
-pub value-is-unsigned : (x : Float) (a c : ℕ) → HasValue x false a c → T (unsigned x)
-value-is-unsigned (fin false m e) a c h = tt
-value-is-unsigned (fin true m e) a c h = true≢false (h .0)
 
 -- no pattern below that of infinity is a NaN's
 pub bits-are-number : (b : ℕ) → b < 0x7f80_0000 → T (not (nanBits binary32 b))

@@ -8,31 +8,25 @@ use native.Mathlib.Omega.{arith}
 use lib.IntN.{ℤ}
 use lib.Dec.{T, lit≤, eqb·suc-zero}
 use lib.Pow.{pow-pos}
-use lib.Ieee.{Float, fin, Format, binary32, binary64, emax, low, up, down, round, add, mul, div, le, eq, fits}
+use lib.Ieee.{Float, fin, Format, emax, low, up, down, round, add, mul, div, le, eq, fits}
 use lib.Ieee.Fits.{down-pos, round-fits, add-fits}
 use lib.Ieee.Bits.{is-true}
 use lib.Ieee.Order.{round-mono}
 use lib.Ieee.Positive.{num, den, den-pos, positive, positive-of-value, value→cross}
 use lib.Ieee.Scale.{finite}
-use Rattle.spec_numbers.specs.Values.{zero as +0}
+use Rattle.spec_numbers.specs.Values.{zero as +0, unsigned}
 use Rattle.spec_numbers.specs.Axes.{Axis, X, Y, Z}
 use Rattle.spec_numbers.proofs.Fraction.{compared}
 use Rattle.spec_numbers.proofs.Exact.{plus-zero, rounds-to-itself}
 use Rattle.spec_numbers.proofs.Sum.{sum-keeps-order}
 use Rattle.spec_shapes.specs.Points.{Point, on, dot}
-use Rattle.spec_angles.specs.Root.{unsigned, rootable, root, rootOrNan, IsRoot}
+use Rattle.spec_shapes.proofs.Within.{dot-of-differences}
+use Rattle.spec_angles.specs.Root.{rootable, root, rootOrNan, IsRoot}
 use Rattle.spec_angles.specs.Winding.{norm}
-use Rattle.spec_angles.proofs.Bits.{value-is-unsigned}
 use Rattle.spec_angles.proofs.RootLaw.{units-of}
 use Rattle.spec_angles.proofs.Root.{root-is-nearest}
-use Rattle.spec_angles.proofs.Ratio.{some-magnitude}
-use Rattle.spec_angles.proofs.Within.{Within, Whole, unsigned-finite, power-whole, within-more, round-within, round-finite, add-within, mul-within, le-says}
+use Rattle.spec_numbers.proofs.Within.{Within, Whole, unsigned-finite, power-whole, round-within, round-finite, add-within, mul-within, le-says, value-is-unsigned, some-magnitude, wide}
 use Rattle.spec_angles.proofs.Length.{two-to, at-most-twice}
-
--- both formats reach far enough that squares of bounded coordinates do not overflow
-pub wide : (f : Format) → 45 ≤ emax f
-wide binary32 = lit≤ tt
-wide binary64 = lit≤ tt
 
 -- ---- numbers that are not below zero
 unsigned-not-below : (x : Float) → T (unsigned x) → T (le +0 x)
@@ -108,8 +102,7 @@ module _ (f : Format) (a : Point) (A : (i : Axis) → Within (2 ^ 21) (on i a)) 
   plain-two = add-unsigned f _ _ (plain-square X) (plain-square Y) (two-within .isFinite)
 
   squared-within : Within (2 ^ 44) (dot f a a)
-  unfolding dot
-  squared-within = add-within f (2 ^ 43) (2 ^ 43) _ _ (power-whole f 44 (le-trans (lit≤ tt) (wide f))) two-within (within-more _ (lit≤ tt) (square-within Z))
+  squared-within = dot-of-differences f a a A A
 
   squared-unsigned : T (unsigned (dot f a a))
   unfolding dot

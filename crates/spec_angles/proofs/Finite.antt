@@ -8,35 +8,27 @@ use native.Mathlib.Nat.{le-trans, le-of-eq, lt-of-lt-of-le, mul-pos, mul-assoc, 
 use native.Mathlib.Omega.{arith}
 use lib.Dec.{T, lit≤, lit<, eqb·suc-zero}
 use lib.Pow.{pow-pos, pow-mono}
-use lib.ListN.{length}
-use lib.Ieee.{Float, fin, Format, binary32, binary64, prec, up, down, round, neg, mul, div, le, lt, eq, fits, ofBits}
+use lib.Ieee.{Float, fin, Format, binary32, binary64, prec, up, down, round, mul, div, lt, eq, fits, ofBits}
 use lib.Ieee.Fits.{and-i, down-pos, sub-fits}
 use lib.Ieee.Bits.{is-true}
 use lib.Ieee.Positive.{num, den}
 use lib.Ieee.Scale.{finite}
-use Rattle.spec_numbers.specs.Values.{zero, one, two}
+use Rattle.spec_numbers.specs.Values.{zero, one, two, unsigned}
 use Rattle.spec_numbers.specs.Axes.{Axis, X, Y, Z}
-use Rattle.spec_numbers.proofs.Fraction.{compared}
-use Rattle.spec_shapes.specs.Points.{Point, on, minus, dividedBy, dot, cross}
+use Rattle.spec_shapes.specs.Points.{Point, on, minus, dividedBy, dot}
 use Rattle.spec_shapes.specs.Triangles.{Triangle}
-use Rattle.spec_lists.specs.Limits.{furthestCoordinate}
-use Rattle.spec_lists.specs.Reading.{pointAt, triangleAt, triangleCount, pointCount}
-use Rattle.spec_lists.specs.Refusals.{isCoordinate}
-use Rattle.spec_lists.specs.Passed.{AllCoordinates, GoodTriangles, GoodPoints}
-use Rattle.spec_lists.proofs.Coordinates.{coordinate-at-least, coordinate-at-most, coordinate-finite}
-use Rattle.spec_lists.proofs.Reading.{triangle-inside, point-inside, number-in-range}
-use Rattle.spec_angles.specs.Root.{unsigned}
+use Rattle.spec_shapes.proofs.Within.{PointWithin, minus-within, difference-within, dot-within, cross-within}
+use Rattle.spec_lists.specs.Reading.{triangleAt, triangleCount, pointCount}
+use Rattle.spec_lists.specs.Passed.{GoodTriangles, GoodPoints}
+use Rattle.spec_lists.proofs.Reading.{triangle-inside, point-inside}
+use Rattle.spec_lists.proofs.Within.{point-within}
 use Rattle.spec_angles.specs.Angle.{arcTangent, angle, askable, angleOrNan}
 use Rattle.spec_angles.specs.Winding as Winding
 use Rattle.spec_angles.specs.Windings.{windingAbout, windingAt}
 use Rattle.spec_angles.proofs.Needs.{askable-is}
 use Rattle.spec_angles.proofs.Arc.{angle-most}
-use Rattle.spec_angles.proofs.Within.{Within, Whole, small-whole, power-whole, within-more, round-within, add-within, sub-within, mul-within}
-use Rattle.spec_angles.proofs.Directions.{wide, direction-within}
-
--- ---- vectors
-abbrev Inside : ℕ → Point → Type 0
-Inside c a = (i : Axis) → Within c (on i a)
+use Rattle.spec_numbers.proofs.Within.{Within, Whole, small-whole, within-more, round-within, add-within, mul-within}
+use Rattle.spec_angles.proofs.Directions.{direction-within}
 
 few : (f : Format) (c : ℕ) → c < 2 ^ 24 → Whole f c
 few f c h = small-whole f c (lt-of-lt-of-le h (pow-mono (digits f)))
@@ -44,26 +36,6 @@ few f c h = small-whole f c (lt-of-lt-of-le h (pow-mono (digits f)))
     digits : (f : Format) → 24 ≤ prec f
     digits binary32 = lit≤ tt
     digits binary64 = lit≤ tt
-
-module _ (f : Format) (b c : ℕ) (a p : Point) (A : Inside b a) (P : Inside c p) where
-  minus-inside : Whole f (b + c) → Inside (b + c) (minus f a p)
-  unfolding minus
-  minus-inside w X = sub-within f b c _ _ w (A X) (P X)
-  minus-inside w Y = sub-within f b c _ _ w (A Y) (P Y)
-  minus-inside w Z = sub-within f b c _ _ w (A Z) (P Z)
-
-  dot-within : Whole f (b * c) → Whole f (b * c + b * c) → Whole f (b * c + b * c + b * c) → Within (b * c + b * c + b * c) (dot f a p)
-  unfolding dot
-  dot-within w w2 w3 =
-      add-within f (b * c + b * c) (b * c) _ _ w3
-      (add-within f (b * c) (b * c) _ _ w2 (mul-within f b c _ _ w (A X) (P X)) (mul-within f b c _ _ w (A Y) (P Y)))
-      (mul-within f b c _ _ w (A Z) (P Z))
-
-  cross-inside : Whole f (b * c) → Whole f (b * c + b * c) → Inside (b * c + b * c) (cross f a p)
-  unfolding cross
-  cross-inside w w2 X = sub-within f (b * c) (b * c) _ _ w2 (mul-within f b c _ _ w (A Y) (P Z)) (mul-within f b c _ _ w (A Z) (P Y))
-  cross-inside w w2 Y = sub-within f (b * c) (b * c) _ _ w2 (mul-within f b c _ _ w (A Z) (P X)) (mul-within f b c _ _ w (A X) (P Z))
-  cross-inside w w2 Z = sub-within f (b * c) (b * c) _ _ w2 (mul-within f b c _ _ w (A X) (P Y)) (mul-within f b c _ _ w (A Y) (P X))
 
 -- ---- an angle
 angle-within : (f : Format) (n d : Float) → T (finite n) → T (finite d) → T (not (eq n zero)) → Within 4 (angleOrNan f n d)
@@ -83,16 +55,16 @@ one-within = record { isFinite = tt; most = lit≤ tt }
 two-within : Within 2 two
 two-within = record { isFinite = tt; most = lit≤ tt }
 
-module _ (f : Format) (t : Triangle) (A : Inside 2 (t .a)) (B : Inside 2 (t .b)) (C : Inside 2 (t .c)) where
+module _ (f : Format) (t : Triangle) (A : PointWithin 2 (t .a)) (B : PointWithin 2 (t .b)) (C : PointWithin 2 (t .c)) where
   numerator-within : Within 192 (Winding.numerator f t)
   unfolding Winding.numerator
   numerator-within =
       dot-within f 2 32 (t .a) _ A
-      (cross-inside f 4 4 _ _ (minus-inside f 2 2 _ _ B A (few f 4 (lit< tt))) (minus-inside f 2 2 _ _ C A (few f 4 (lit< tt))) (few f 16 (lit< tt))
+      (cross-within f 4 4 _ _ (minus-within f 2 2 _ _ B A (few f 4 (lit< tt))) (minus-within f 2 2 _ _ C A (few f 4 (lit< tt))) (few f 16 (lit< tt))
       (few f 32 (lit< tt)))
       (few f 64 (lit< tt)) (few f 128 (lit< tt)) (few f 192 (lit< tt))
 
-  pair-within : (a p : Point) → Inside 2 a → Inside 2 p → Within 12 (dot f a p)
+  pair-within : (a p : Point) → PointWithin 2 a → PointWithin 2 p → Within 12 (dot f a p)
   pair-within a p A P = dot-within f 2 2 a p A P (few f 4 (lit< tt)) (few f 8 (lit< tt)) (few f 12 (lit< tt))
 
   denominator-within : Within 37 (Winding.denominator f t)
@@ -116,7 +88,7 @@ pub record Bounded (f : Format) (a : Point) : Type 0 where
   pub inside : (i : Axis) → Within (2 ^ 21) (on i a)
   pub holds : (i : Axis) → T (fits f (on i a))
 
-over-inside : (f : Format) (a : Point) → Bounded f a → T (not (eq (Winding.norm f a) zero)) → Inside 2 (dividedBy f a (Winding.norm f a))
+over-inside : (f : Format) (a : Point) → Bounded f a → T (not (eq (Winding.norm f a) zero)) → PointWithin 2 (dividedBy f a (Winding.norm f a))
 unfolding dividedBy
 over-inside f a A n X = direction-within f a (A .inside) (A .holds) n X
 over-inside f a A n Y = direction-within f a (A .inside) (A .holds) n Y
@@ -149,11 +121,11 @@ minus-fits f a q X = sub-fits f _ _
 minus-fits f a q Y = sub-fits f _ _
 minus-fits f a q Z = sub-fits f _ _
 
-seen : (f : Format) (a q : Point) → Inside (2 ^ 20) a → Inside (2 ^ 20) q → Bounded f (minus f a q)
-seen f a q A Q = record { inside = minus-inside f (2 ^ 20) (2 ^ 20) a q A Q (power-whole f 21 (le-trans (lit≤ tt) (wide f))); holds = minus-fits f a q }
+seen : (f : Format) (a q : Point) → PointWithin (2 ^ 20) a → PointWithin (2 ^ 20) q → Bounded f (minus f a q)
+seen f a q A Q = record { inside = difference-within f a q A Q; holds = minus-fits f a q }
 
-solid-angle-within : (f : Format) (t : Triangle) (q : Point) → Inside (2 ^ 20) (t .a) → Inside (2 ^ 20) (t .b) → Inside (2 ^ 20) (t .c) → Inside (2 ^ 20) q
-    → Within 8 (Winding.solidAngle f t q)
+solid-angle-within : (f : Format) (t : Triangle) (q : Point) → PointWithin (2 ^ 20) (t .a) → PointWithin (2 ^ 20) (t .b) → PointWithin (2 ^ 20) (t .c)
+    → PointWithin (2 ^ 20) q → Within 8 (Winding.solidAngle f t q)
 unfolding Winding.solidAngle Winding.seenFrom
 solid-angle-within f t q A B C Q = origin-angle-within f _ (seen f (t .a) q A Q) (seen f (t .b) q B Q) (seen f (t .c) q C Q)
 
@@ -194,33 +166,18 @@ module _ (f : Format) (triangle : ℕ → Triangle) (q : Point) (count : ℕ) (m
   number-within = shrunk f (8 * count) _ _ (few f (8 * count) (omega arith)) (sum-within count (omega arith)) (turn f)
 
 -- ---- lists that passed
-between-ends : (x : Float) → T (finite x) → T (le (neg furthestCoordinate) x) → T (le x furthestCoordinate) → num x ≤ 2 ^ 20 * den x
-unfolding neg
-between-ends (fin false m e) F l h = omega (arith, compared (fin false m e) furthestCoordinate tt tt .le→at-most h)
-between-ends (fin true m e) F l h = omega (arith, compared (neg furthestCoordinate) (fin true m e) tt tt .le→at-most l)
-
-coordinate-within : (x : Float) → T (isCoordinate x) → Within (2 ^ 20) x
-coordinate-within x h =
-    record { isFinite = coordinate-finite x h; most = between-ends x (coordinate-finite x h) (coordinate-at-least x h) (coordinate-at-most x h) }
-
-point-inside-range : (xs : List Float) → AllCoordinates xs → (i : ℕ) → i + 3 ≤ length xs → Inside (2 ^ 20) (pointAt xs i)
-unfolding pointAt
-point-inside-range xs h i l X = coordinate-within _ (number-in-range xs h i (omega arith))
-point-inside-range xs h i l Y = coordinate-within _ (number-in-range xs h (i + 1) (omega arith))
-point-inside-range xs h i l Z = coordinate-within _ (number-in-range xs h (i + 2) (omega arith))
-
 module _ (f : Format) (triangles points : List Float) (T' : GoodTriangles triangles) (P' : GoodPoints points) where
-  each-angle : (q : Point) → Inside (2 ^ 20) q → (t : ℕ) → t < triangleCount triangles → Within 8 (Winding.solidAngle f (triangleAt triangles t) q)
+  each-angle : (q : Point) → PointWithin (2 ^ 20) q → (t : ℕ) → t < triangleCount triangles → Within 8 (Winding.solidAngle f (triangleAt triangles t) q)
   unfolding triangleAt
   each-angle q Q t l =
       let room = triangle-inside triangles t l in
       let c = T' .coordinates in
-      solid-angle-within f _ q (point-inside-range triangles c (9 * t) (omega arith)) (point-inside-range triangles c (9 * t + 3) (omega arith))
-      (point-inside-range triangles c (9 * t + 6) (omega arith)) Q
+      solid-angle-within f _ q (point-within triangles c (9 * t) (omega arith)) (point-within triangles c (9 * t + 3) (omega arith))
+      (point-within triangles c (9 * t + 6) (omega arith)) Q
 
   -- every winding number that the call writes is finite: no root and no arc tangent is taken where there is none
   pub winding-finite : (k : ℕ) → k < pointCount points → T (finite (windingAt f triangles points k))
   unfolding windingAt windingAbout
   winding-finite k l =
-      let q = point-inside-range points (P' .coordinates) (3 * k) (point-inside points k l) in
+      let q = point-within points (P' .coordinates) (3 * k) (point-inside points k l) in
       number-within f (triangleAt triangles) _ (triangleCount triangles) (omega (arith, T' .few)) (each-angle _ q) .isFinite

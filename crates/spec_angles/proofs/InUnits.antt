@@ -13,9 +13,8 @@ use lib.Ieee.Fits.{down-pos}
 use lib.Ieee.Exact.{HasValue, round-exact}
 use lib.Ieee.Nearest.{div-same}
 use lib.Ieee.Positive.{num, den, den-pos}
-use Rattle.spec_numbers.specs.Values.{cut}
+use Rattle.spec_numbers.specs.Values.{cut, unsigned}
 use Rattle.spec_numbers.proofs.Whole.{power}
-use Rattle.spec_angles.specs.Root.{unsigned}
 use Rattle.spec_angles.specs.Angle.{AtMostOne, inUnits}
 use Rattle.spec_angles.proofs.RootLaw.{Units, units-of}
 

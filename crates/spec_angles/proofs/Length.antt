@@ -14,10 +14,10 @@ use lib.Ieee.Digits.{size-lt, size-reaches}
 use lib.Ieee.Fits.{round-fits}
 use lib.Ieee.Exact.{HasValue, round-exact}
 use lib.Ieee.Positive.{num, den, den-pos, value→cross}
-use Rattle.spec_numbers.specs.Values.{zero as +0}
-use Rattle.spec_angles.specs.Root.{unsigned, square, IsRoot}
-use Rattle.spec_angles.proofs.Powers.{square-mono, pow-reflects, pow-sum, two-digits}
-use Rattle.spec_angles.proofs.Bits.{value-is-unsigned}
+use Rattle.spec_numbers.proofs.Within.{two-digits, value-is-unsigned}
+use Rattle.spec_numbers.specs.Values.{zero as +0, unsigned}
+use Rattle.spec_angles.specs.Root.{square, IsRoot}
+use Rattle.spec_angles.proofs.Powers.{square-mono, pow-reflects, pow-sum}
 use Rattle.spec_angles.proofs.RootLaw.{units-of, lt-holds, root-of-zero, root-unique}
 
 -- ---- powers of two as values: 2 ^ v units

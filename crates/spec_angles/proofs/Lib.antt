@@ -6,7 +6,6 @@ pub mod Root
 pub mod Bits
 pub mod RootByBits
 pub mod Steps
-pub mod Within
 pub mod Ratio
 pub mod InUnits
 pub mod Thirtieth

@@ -2,9 +2,7 @@
 use mathlib.Core.Path.{_≡_, ap}
 use Prim.Native.Nat.{ℕ, _+_, _*_, _^_, _≤_, _<_, zero-le}
 use native.Mathlib.Nat.{le-of-lt, le-of-suc-le-suc, lt-of-le-of-lt, mul-le-mul, mul-le-mul-left, mul-lt-mul-of-pos-right, lt-of-not-le, not-le-of-lt}
-use lib.Dec.{lit≤}
 use lib.Pow.{pow-add, pow-lt, pow-mono}
-use lib.Ieee.{Format, binary32, binary64, prec}
 
 -- squaring keeps the order of whole numbers
 pub square-mono : {a b : ℕ} → a ≤ b → a * a ≤ b * b
@@ -29,8 +27,3 @@ pow-lt-reflects h = lt-of-not-le (λ g. not-le-of-lt h (pow-mono g))
 -- a power of two in two factors: the exponents add up
 pub pow-sum : (a b c : ℕ) → a + b ≡ c → 2 ^ a * 2 ^ b ≡ 2 ^ c
 pow-sum a b c h = rw (← pow-add 2 a b) (ap (λ (x : ℕ). 2 ^ x) h)
-
--- a significand has a digit at least: 1 is below its limit in both formats
-pub two-digits : (f : Format) → 1 < 2 ^ prec f
-two-digits binary32 = lit≤ tt
-two-digits binary64 = lit≤ tt

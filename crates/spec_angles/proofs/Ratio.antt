@@ -1,23 +1,20 @@
 -- The smaller of two magnitudes over the larger, rounded, is a number from 0 to 1 (`ratio-at-most-one`): rounding keeps the order, and 1 is a value
 -- of the format. The table of arc tangents goes no further.
 use mathlib.Core.Path.{_≡_, refl}
-use mathlib.Core.Bool.{Bool, true, false, not, _||_, Bool·beq, cond}
-use mathlib.Core.Logic.{inl, inr}
+use mathlib.Core.Bool.{Bool, true, false, not, cond}
 use Prim.Native.Nat.{ℕ, zero, suc, _*_, _≤_, _<_, zero-le}
-use native.Mathlib.Nat.{mul-pos, le-of-lt, lt-of-le-of-lt, lt-of-lt-of-le, eq-zero-or-pos}
+use native.Mathlib.Nat.{mul-pos, le-of-lt, lt-of-le-of-lt, lt-of-lt-of-le}
 use native.Mathlib.Omega.{arith}
-use lib.Dec.{T, T-not, eqb, eqb·suc-zero}
+use lib.Dec.{T, eqb·suc-zero}
 use lib.Pow.{pow-pos}
-use lib.Ieee.{Float, fin, Format, binary32, binary64, up, down, round, le, lt, eq, div}
-use lib.Ieee.Fits.{and-i, eq→eqb, down-pos, round-fits}
+use lib.Ieee.{Float, fin, Format, binary32, binary64, up, down, round, le, lt, div}
+use lib.Ieee.Fits.{down-pos, round-fits}
 use lib.Ieee.Order.{round-mono}
 use lib.Ieee.Positive.{num, den, den-pos, first-pos}
 use lib.Ieee.Scale.{finite}
-use Rattle.spec_numbers.specs.Values.{zero as +0, one, abs}
-use Rattle.spec_numbers.proofs.Tests.{or-r}
-use Rattle.spec_angles.specs.Root.{unsigned}
+use Rattle.spec_numbers.specs.Values.{one, abs, unsigned}
 use Rattle.spec_angles.specs.Angle.{AtMostOne, Askable, ratio}
-use Rattle.spec_angles.proofs.Within.{round-unsigned, le-says}
+use Rattle.spec_numbers.proofs.Within.{some-magnitude, round-unsigned, le-says}
 use Rattle.spec_angles.proofs.RootLaw.{lt-says, not-lt-says}
 
 -- ---- a / b for magnitudes a up to b
@@ -40,20 +37,6 @@ quotient-at-most-one f (fin false m e) (fin false (suc n) d) p q s h =
     rw (eqb·suc-zero n) (round-at-most-one f (m * up e * down d) (suc n * up d * down e) (mul-pos s (down-pos e)) h)
 
 -- ---- the two ways round
--- a number that is not zero has a magnitude
-pub some-magnitude : (x : Float) → T (finite x) → T (not (eq x +0)) → 0 < num x
-unfolding eq
-some-magnitude (fin s m e) k n = elim (eq-zero-or-pos (m * up e)) [
-  | inl z ↦
-      let a = m * up e * 1 in
-      let b = 0 * down e in
-      absurd
-      (T-not (eq (fin s m e) +0) n
-      (and-i (eqb a b) (Bool·beq s false || eqb a 0) (eq→eqb {a = a} {b = b} (omega arith))
-      (or-r (Bool·beq s false) (eqb a 0) (eq→eqb {a = a} {b = 0} (omega arith)))))
-  | inr p ↦ p
-]
-
 abs-unsigned : (x : Float) → T (finite x) → T (unsigned (abs x))
 abs-unsigned (fin s m e) k = tt
 

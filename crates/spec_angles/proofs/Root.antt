@@ -13,11 +13,12 @@ use lib.Ieee.Digits.{size-lt, size-le, size-reaches}
 use lib.Ieee.Fits.{round-fits}
 use lib.Ieee.Exact.{HasValue, round-exact}
 use lib.Ieee.Positive.{num, den, den-pos, value→cross}
-use Rattle.spec_angles.specs.Root.{IsRoot, rootable, unsigned, square, nearer, wholeRoot, rootBy, rootIn, root, WholeRoot}
-use Rattle.spec_angles.proofs.Powers.{square-reflects, pow-sum, pow-lt-reflects, two-digits}
+use Rattle.spec_numbers.proofs.Within.{two-digits, value-is-unsigned}
+use Rattle.spec_numbers.specs.Values.{unsigned}
+use Rattle.spec_angles.specs.Root.{IsRoot, rootable, square, nearer, wholeRoot, rootBy, rootIn, root, WholeRoot}
+use Rattle.spec_angles.proofs.Powers.{square-reflects, pow-sum, pow-lt-reflects}
 use Rattle.spec_angles.proofs.WholeRoot.{whole-root, nearer-root, nearer-between}
 use Rattle.spec_angles.proofs.Grid.{Rooted, rooted-of}
-use Rattle.spec_angles.proofs.Bits.{value-is-unsigned}
 use Rattle.spec_angles.proofs.RootLaw.{Units, units-of, root-law, root-of-zero}
 
 -- ---- what is used of a format: its least value lies deep enough that a root is never subnormal, and there is an exponent above 0

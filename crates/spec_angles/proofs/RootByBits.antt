@@ -11,11 +11,12 @@ use lib.Ieee.{binary32, ofBits}
 use lib.Ieee.Bits.{ofBits-fits}
 use lib.Ieee.Exact.{HasValue}
 use lib.Ieee.Positive.{value→cross}
+use Rattle.spec_numbers.proofs.Within.{value-is-unsigned}
 use Rattle.spec_angles.specs.Root.{IsRoot, WholeRoot, nearer, wholeRoot}
 use Rattle.spec_angles.specs.RootByBits.{NearestRoot, InFours, Scaled, unitsOf}
 use Rattle.spec_angles.proofs.Powers.{square-reflects, pow-lt-reflects, pow-sum}
 use Rattle.spec_angles.proofs.WholeRoot.{whole-root, nearer-root, nearer-between}
-use Rattle.spec_angles.proofs.Bits.{units-subnormal, units-normal, units-of-pattern, bits-value, value-is-unsigned}
+use Rattle.spec_angles.proofs.Bits.{units-subnormal, units-normal, units-of-pattern, bits-value}
 use Rattle.spec_angles.proofs.Grid.{rooted-of}
 use Rattle.spec_angles.proofs.RootLaw.{root-law}
 

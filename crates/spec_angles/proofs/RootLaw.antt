@@ -11,8 +11,9 @@ use lib.Dec.{T, T-not, ltb→lt, lt→ltb}
 use lib.Pow.{pow-add, pow-pos}
 use lib.Ieee.{Float, fin, Format, binary32, binary64, prec, emax, low, up, down, fits, lt}
 use lib.Ieee.Positive.{num, den, den-pos}
+use Rattle.spec_numbers.specs.Values.{unsigned}
 use Rattle.spec_numbers.proofs.Unique.{raised, sunk, up-is, down-is, normal, unique-finite}
-use Rattle.spec_angles.specs.Root.{unsigned, BelowMiddle, AboveMiddle, IsRoot}
+use Rattle.spec_angles.specs.Root.{BelowMiddle, AboveMiddle, IsRoot}
 use Rattle.spec_angles.proofs.Powers.{square-lt, pow-reflects, pow-sum}
 use Rattle.spec_angles.proofs.Grid.{Rooted, on-grid, nearer-than-above, nearer-than-below}
 

@@ -6,8 +6,7 @@ use lib.Dec.{T, eqb}
 use lib.Ieee.{Float, nan, Format, lt, eq, div, round, fits}
 use lib.Ieee.Scale.{finite}
 use lib.Ieee.Positive.{num, den}
-use Rattle.spec_numbers.specs.Values.{zero, abs}
-use Rattle.spec_angles.specs.Root.{unsigned}
+use Rattle.spec_numbers.specs.Values.{zero, abs, unsigned}
 use Rattle.spec_angles.specs.Table.{entry}
 
 -- ---- the table

@@ -5,6 +5,7 @@ use Prim.Native.Nat.{ℕ, zero, suc, _+_, _-_, _*_, _/_, _^_, _≤_, _<_}
 use lib.Dec.{T, eqb, ltb, leb}
 use lib.Ieee.{Float, nan, inf, fin, Format, prec, low, size, round, fits, lt}
 use lib.Ieee.Positive.{num, den}
+use Rattle.spec_numbers.specs.Values.{unsigned}
 
 -- what a root may be asked of: a finite number that is not negative; both zeros are among them
 abbrev pub rootable : Float → Bool
@@ -12,13 +13,6 @@ rootable nan = false
 rootable (inf s) = false
 rootable (fin false m e) = true
 rootable (fin true m e) = eqb m 0
-
--- a finite float with the sign clear: a number that is not negative, and not -0
-abbrev pub unsigned : Float → Bool
-unsigned nan = false
-unsigned (inf s) = false
-unsigned (fin false m e) = true
-unsigned (fin true m e) = false
 
 abbrev pub square : ℕ → ℕ
 square n = n * n

@@ -18,3 +18,4 @@ pub mod Same
 pub mod Comparisons
 pub mod Largest
 pub mod Nought
+pub mod Within

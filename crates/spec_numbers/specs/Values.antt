@@ -32,6 +32,13 @@ negative nan = false
 negative (inf s) = s
 negative (fin s m e) = s
 
+-- a finite float with the sign clear: a number that is not negative, and not -0
+abbrev pub unsigned : Float → Bool
+unsigned nan = false
+unsigned (inf s) = false
+unsigned (fin false m e) = true
+unsigned (fin true m e) = false
+
 -- |x|
 abbrev pub abs : Float → Float
 abs nan = nan

@@ -3,3 +3,4 @@ pub mod Bounds
 pub mod Held
 pub mod Plain
 pub mod Worked
+pub mod Within

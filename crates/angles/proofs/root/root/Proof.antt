@@ -9,9 +9,9 @@ use lib.Dec.{T, T-not}
 use lib.Ieee.{Float, binary32, fits, eq, ofBits, toBits}
 use lib.Ieee.Bits.{ofBits-toBits}
 use borrow.Author.Needs.{needs}
-use Rattle.spec_numbers.specs.Values.{zero}
+use Rattle.spec_numbers.specs.Values.{zero, unsigned}
 use Rattle.spec_numbers.proofs.Tests.{passed, failed}
-use Rattle.spec_angles.specs.Root.{unsigned, IsRoot, root, wholeRoot, nearer}
+use Rattle.spec_angles.specs.Root.{IsRoot, root, wholeRoot, nearer}
 use Rattle.spec_angles.specs.RootByBits.{NearestRoot, Scaled}
 use Rattle.spec_angles.proofs.Bits.{unsigned-bits, bits-are-number, unsigned-is-number, unsigned-of, zero-is-none}
 use Rattle.spec_angles.proofs.RootLaw.{root-of-zero, root-unique}

@@ -1,25 +1,59 @@
 -- Bounds that rounding keeps: where a whole number is a value of the format, what is at most that number in magnitude stays so when it is rounded.
--- So sums, differences and products of bounded numbers are bounded, and finite.
+-- So sums, differences and products of bounded numbers are bounded, and finite; and so is a quotient that is held to 0 and 1.
 use mathlib.Core.Path.{_≡_, sym, ap, _∙_}
-use mathlib.Core.Bool.{Bool, true, false, cond, true≢false}
-use Prim.Native.Nat.{ℕ, suc, _+_, _*_, _^_, _≤_, _<_}
-use native.Mathlib.Nat.{le-trans, le-of-eq, lt-of-lt-of-le, mul-pos, mul-comm, mul-one, one-mul, mul-le-mul, mul-le-mul-right, le-of-mul-le-mul-right, mul-lt-mul-of-pos-right, mul-mul-mul-comm, mul-right-comm}
+use mathlib.Core.Bool.{Bool, true, false, not, _||_, Bool·beq, cond, true≢false}
+use mathlib.Core.Logic.{inl, inr}
+use Prim.Native.Nat.{ℕ, zero as none, suc, _+_, _*_, _^_, _≤_, _<_}
+use native.Mathlib.Nat.{eq-zero-or-pos, le-trans, le-of-eq, lt-of-lt-of-le, mul-pos, mul-comm, mul-one, one-mul, mul-le-mul, mul-le-mul-right, le-of-mul-le-mul-right, mul-lt-mul-of-pos-right, mul-mul-mul-comm, mul-right-comm}
 use native.Mathlib.Omega.{arith}
 use lib.IntN.{ℤ}
-use lib.Dec.{T, ltb}
+use lib.Dec.{T, T-not, eqb, ltb, lit≤, eqb·suc-zero}
 use lib.Pow.{pow-pos, pow-add, pow-lt, pow-mono}
-use lib.Ieee.{Float, nan, inf, fin, Format, prec, emax, low, up, down, odd, units, round, neg, add, sub, mul, le}
-use lib.Ieee.Fits.{round-is, down-pos, reach}
+use lib.Ieee.{Float, nan, inf, fin, Format, binary32, binary64, prec, emax, low, up, down, odd, units, round, neg, add, sub, mul, div, lt, le, eq}
+use lib.Ieee.Fits.{and-i, eq→eqb, round-is, down-pos, reach}
 use lib.Ieee.Exact.{HasValue, odd-sign, round-exact}
 use lib.Ieee.Order.{round-mono}
 use lib.Ieee.Positive.{num, den}
 use lib.Ieee.Scale.{finite}
+use Rattle.spec_numbers.specs.Values.{zero, one, Number, unsigned}
+use Rattle.spec_numbers.specs.Hold.{held}
+use Rattle.spec_numbers.proofs.Tests.{or-r}
 use Rattle.spec_numbers.proofs.Fraction.{compared, spread}
-use Rattle.spec_numbers.proofs.Rounding.{round-negated}
+use Rattle.spec_numbers.proofs.Order.{number-left, number-right, finite-between}
+use Rattle.spec_numbers.proofs.Rounding.{round-negated, round-not-below, round-not-above}
 use Rattle.spec_numbers.proofs.Sum.{add-rounds}
-use Rattle.spec_angles.specs.Root.{unsigned}
-use Rattle.spec_angles.proofs.Powers.{two-digits}
-use Rattle.spec_angles.proofs.Bits.{value-is-unsigned}
+use Rattle.spec_numbers.proofs.Hold.{held-at-least, held-at-most}
+
+-- ---- both formats
+-- a significand has a digit at least: 1 is below its limit in both formats
+pub two-digits : (f : Format) → 1 < 2 ^ prec f
+two-digits binary32 = lit≤ tt
+two-digits binary64 = lit≤ tt
+
+-- both formats reach far enough that squares of bounded coordinates do not overflow
+pub wide : (f : Format) → 45 ≤ emax f
+wide binary32 = lit≤ tt
+wide binary64 = lit≤ tt
+
+-- ---- one number
+-- a number that is not zero has a magnitude
+pub some-magnitude : (x : Float) → T (finite x) → T (not (eq x zero)) → 0 < num x
+unfolding eq
+some-magnitude (fin s m e) k n = elim (eq-zero-or-pos (m * up e)) [
+  | inl z ↦
+      let a = m * up e * 1 in
+      let b = 0 * down e in
+      absurd
+      (T-not (eq (fin s m e) zero) n
+      (and-i (eqb a b) (Bool·beq s false || eqb a 0) (eq→eqb {a = a} {b = b} (omega arith))
+      (or-r (Bool·beq s false) (eqb a 0) (eq→eqb {a = a} {b = 0} (omega arith)))))
+  | inr p ↦ p
+]
+
+-- a float with a value whose sign is clear is finite, with the sign clear
+pub value-is-unsigned : (x : Float) (a c : ℕ) → HasValue x false a c → T (unsigned x)
+value-is-unsigned (fin false m e) a c h = tt
+value-is-unsigned (fin true m e) a c h = true≢false (h .0)
 
 -- ---- rounding with the sign clear
 units-unsigned : (f : Format) (q k m : ℕ) (e : ℤ) → T (le (units f false q k) (fin false m e)) → T (unsigned (units f false q k))
@@ -157,3 +191,33 @@ module _ (f : Format) (b c : ℕ) where
   mul-within (fin s m e) (fin t n d) w X Y =
       round-within f _ _ (down e * down d) (b * c) (mul-pos (down-pos e) (down-pos d)) w
       (le-trans (mul-le-mul (X .most) (Y .most)) (le-of-eq (mul-mul-mul-comm b (down e) c (down d))))
+
+-- ---- a quotient, held to 0 and 1
+rounded-number : (f : Format) (s : Bool) (a c : ℕ) → 0 < c → Number (round f s a c)
+rounded-number f false a c h = number-right zero (round f false a c) (round-not-below f a c h)
+rounded-number f true a c h = number-left (round f true a c) zero (round-not-above f a c h)
+
+-- a quotient of finite numbers is a number where the divisor is not zero; it may be infinite
+quotient-number : (f : Format) (x y : Float) → T (finite x) → T (finite y) → 0 < num y → Number (div f x y)
+unfolding div
+quotient-number f (fin s m e) (fin t none d) X Y h = absurd (omega arith)
+quotient-number f (fin s m e) (fin t (suc n) d) X Y h =
+    rw (eqb·suc-zero n) (rounded-number f _ (m * up e * down d) (suc n * up d * down e) (mul-pos h (down-pos e)))
+
+zero-at-most-one : T (le zero one)
+unfolding le lt eq
+zero-at-most-one = tt
+
+from-zero-to-one : (x : Float) → T (finite x) → T (le zero x) → T (le x one) → num x ≤ 1 * den x
+from-zero-to-one (fin false m e) F l h = omega (arith, compared (fin false m e) one tt tt .le→at-most h)
+from-zero-to-one (fin true m e) F l h = omega (arith, compared zero (fin true m e) tt tt .le→at-most l)
+
+-- so held to 0 and 1 it is at most 1, however small the divisor is
+pub share-within : (f : Format) (x y : Float) → T (finite x) → T (finite y) → T (not (eq y zero)) → Within 1 (held zero one (div f x y))
+share-within f x y X Y n =
+    let s = held zero one (div f x y) in
+    let q = quotient-number f x y X Y (some-magnitude y Y n) in
+    let low = held-at-least zero one (div f x y) zero-at-most-one q in
+    let high = held-at-most zero one (div f x y) zero-at-most-one q in
+    let F = finite-between zero s one tt tt low high in
+    record { isFinite = F; most = from-zero-to-one s F low high }
