@@ -54,7 +54,7 @@ module _ (f : Format) where
   abbrev pub e6 : Example
   e6 = closestRow (point (pos 2) (negsuc 2) (pos 0)) (four (pos 2) (pos 0) (pos 0) (pos 9))
 
-  -- the source gives no number, the sure query corner a
+  -- the source gives no number, the sure query the foot on ac
   abbrev pub e7-source : Example
   e7-source =
       let q = closestPoint f pinchedTriangle (point (pos 1) (pos 1) (pos 0)) in
@@ -63,7 +63,7 @@ module _ (f : Format) where
   abbrev pub e7-sure : Example
   e7-sure =
       let p = point (pos 1) (pos 1) (pos 0) in
-      row (withSquared p (heldPoint f pinchedTriangle p)) (four (pos 0) (pos 0) (pos 0) (pos 2))
+      row (withSquared p (heldPoint f pinchedTriangle p)) (four (pos 1) (pos 0) (pos 0) (pos 1))
 
   abbrev pub shapeExamples : List Example
   shapeExamples = e1 ∷ e2 ∷ e3 ∷ e4 ∷ e5 ∷ e6 ∷ e7-source ∷ e7-sure ∷ []

@@ -10,7 +10,7 @@ use Rattle.spec_tables.specs.Tables.{concatMap}
 use Rattle.spec_shapes.specs.Points.{minus, plus, dividedBy, dot, smallest, largest, isFinite, plusZero, squaredDistance}
 use Rattle.spec_shapes.specs.Boxes.{union, centre, sizes, volume, heldIn}
 use Rattle.spec_shapes.specs.Planes.{unit, reach, meetsBox}
-use Rattle.spec_shapes.specs.Triangles.{boxOf, dots, part, pointOn, closestPoint, finiteOr, heldPoint, measured}
+use Rattle.spec_shapes.specs.Triangles.{boxOf, dots, part, pointOn, closestPoint, heldPoint, measured}
 use Rattle.spec_lists.specs.Reading.{numberAt, pointAt, triangleAt, boxAt, triangleCount, pointCount}
 use Rattle.spec_lists.specs.Refusals.{passes, firstRefusal, isCoordinate, isDistance, firstBad, raggedRefusal, noneRefusal, tooManyRefusal, coordinateRefusal}
 use Rattle.spec_lists.specs.Refusals.{trianglesRefusal, areSettings, settingsRefusal, pointsRefusal, distanceRefusal}
@@ -94,7 +94,7 @@ first = record { triangle = 0; x = 0x3f80_0000; y = 0; z = 0; squared = 0x41a2_0
 
 answers-printed : answerLines (request .triangles) (request .points) (request .distance) (request .rule) ≡ foundLine 0 first ++ nothingLine 1
 unfolding answerLines answerLine concatMap pointCount toBits sub mul le ofInt minus dot smallest largest isFinite plusZero squaredDistance heldIn boxOf
-    dots part pointOn closestPoint finiteOr heldPoint measured numberAt pointAt triangleAt triangleCount fold ruleOf limitSquared counts offered hit tookSure
+    dots part pointOn closestPoint heldPoint measured numberAt pointAt triangleAt triangleCount fold ruleOf limitSquared counts offered hit tookSure
     scan sureAnswer range
 answers-printed = refl
 

@@ -1,19 +1,24 @@
--- What is read of a list of coordinates is within 2 ^ 20: so what is worked out of it is bounded.
+-- What is read of a list of coordinates is within 2 ^ 20: so what is worked out of it is bounded, and the feet on its triangles' edges are as told.
+use mathlib.Core.Path.{_≡_}
 use mathlib.Core.Bool.{true, false}
 use mathlib.Core.List.{List}
 use Prim.Native.Nat.{ℕ, _+_, _*_, _^_, _≤_}
 use native.Mathlib.Omega.{arith}
 use lib.Dec.{T}
 use lib.ListN.{length}
-use lib.Ieee.{Float, fin, neg, le}
+use lib.Ieee.{Float, fin, Format, neg, le}
 use lib.Ieee.Positive.{num, den}
 use lib.Ieee.Scale.{finite}
 use Rattle.spec_numbers.specs.Axes.{X, Y, Z}
 use Rattle.spec_numbers.proofs.Fraction.{compared}
 use Rattle.spec_numbers.proofs.Within.{Within}
+use Rattle.spec_shapes.specs.Points.{Point}
+use Rattle.spec_shapes.specs.Boxes.{heldIn}
+use Rattle.spec_shapes.specs.Triangles.{boxOf, OnEdges, foot, heldFoot}
 use Rattle.spec_shapes.proofs.Within.{PointWithin}
+use Rattle.spec_shapes.proofs.Feet.{feet-as-told}
 use Rattle.spec_lists.specs.Limits.{furthestCoordinate}
-use Rattle.spec_lists.specs.Reading.{pointAt}
+use Rattle.spec_lists.specs.Reading.{pointAt, triangleAt}
 use Rattle.spec_lists.specs.Refusals.{isCoordinate}
 use Rattle.spec_lists.specs.Passed.{AllCoordinates}
 use Rattle.spec_lists.proofs.Coordinates.{coordinate-at-least, coordinate-at-most, coordinate-finite}
@@ -35,3 +40,10 @@ unfolding pointAt
 point-within xs h i l X = coordinate-within _ (number-in-range xs h i (omega arith))
 point-within xs h i l Y = coordinate-within _ (number-in-range xs h (i + 1) (omega arith))
 point-within xs h i l Z = coordinate-within _ (number-in-range xs h (i + 2) (omega arith))
+
+-- the feet on the edges of a triangle that is read of such a list, to a point in range, are as they are told: the guard for what is not finite never acts
+pub read-feet-as-told : (f : Format) (xs : List Float) → AllCoordinates xs → (t : ℕ) → 9 * t + 9 ≤ length xs → (p : Point) → PointWithin (2 ^ 20) p
+    → OnEdges (λ start end. heldFoot f (triangleAt xs t) start end p ≡ heldIn (boxOf (triangleAt xs t)) (foot f start end p)) (triangleAt xs t)
+unfolding triangleAt
+read-feet-as-told f xs h t l p P =
+    feet-as-told f _ p (point-within xs h (9 * t) (omega arith)) (point-within xs h (9 * t + 3) (omega arith)) (point-within xs h (9 * t + 6) (omega arith)) P

@@ -10,7 +10,7 @@ use lib.Ieee.{Float, Format, binary32, binary64, fin, add, sub, mul, div, lt, le
 use Rattle.spec_numbers.specs.Same.{same}
 use Rattle.spec_shapes.specs.Points.{Point, minus, plus, scale, dot, smallest, largest, isUnder, isFinite, plusZero, squaredDistance}
 use Rattle.spec_shapes.specs.Boxes.{union, withExcess, withOutside, boxSquared, containsPoint, heldIn, heldSquared}
-use Rattle.spec_shapes.specs.Triangles.{boxOf, dots, crossed, part, along, facePoint, pointOn, closestPoint, finiteOr, heldPoint, measured}
+use Rattle.spec_shapes.specs.Triangles.{boxOf, dots, crossed, part, along, facePoint, pointOn, closestPoint, heldPoint, measured}
 use Rattle.spec_lists.specs.Refusals.{Verdict, passes, refused, firstRefusal, isCoordinate, isDistance, firstBad, raggedRefusal, noneRefusal, tooManyRefusal, coordinateRefusal, trianglesRefusal, roomRefusal, pointsRefusal, distanceRefusal}
 use Rattle.spec_lists.specs.Reading.{numberAt, pointAt, triangleAt, boxAt, triangleCount, pointCount}
 use Rattle.spec_tree.specs.Trees.{Tree, leaf, branch, numbers, nodeCount, joinedTo, joined, boxOver, rootFrom, linksFrom, boxesOf}
@@ -87,7 +87,7 @@ pub source-worked : (f : Format)
     ∷ sourceIn f (t0 f) (one f) (n f (pos 100)) (n f (pos 1)) ∷ [])
     ≡ (foundAt f 1 (pos 10) (level f) ∷ nothing ∷ foundAt f 0 (pos 1) (n f (pos 9801)) ∷ [])
 unfolding add sub mul div lt le eq round ofInt minus plus scale dot smallest largest isUnder isFinite plusZero squaredDistance union withExcess
-    withOutside boxSquared containsPoint heldIn heldSquared boxOf dots crossed part along facePoint pointOn closestPoint finiteOr heldPoint measured
+    withOutside boxSquared containsPoint heldIn heldSquared boxOf dots crossed part along facePoint pointOn closestPoint heldPoint measured
     numberAt pointAt triangleAt boxAt triangleCount numbers nodeCount joinedTo joined boxOver rootFrom linksFrom boxesOf range tookAll nodeWalk
     pairWalk rootWalk fold limitSquared counts offered isSkipped hit tookSure scan nodeSquared skippedSure rightNearer sureWalk sourceHit keepSmaller
     tookSource enters sourceWalk sureAnswer sourceAnswer
@@ -102,7 +102,7 @@ pub sure-worked : (f : Format)
     ∷ sureIn f belowOrEqual (t0 f) (n f (pos 1)) (n f (pos 0)) ∷ sureIn f belowOrEqual (t0 f) (n f (pos 100)) (n f (pos 1)) ∷ [])
     ≡ (foundAt f 0 (pos 1) (level f) ∷ nothing ∷ foundAt f 0 (pos 1) (level f) ∷ nothing ∷ foundAt f 0 (pos 1) (n f (pos 0)) ∷ nothing ∷ [])
 unfolding add sub mul div lt le eq round ofInt minus plus scale dot smallest largest isUnder isFinite plusZero squaredDistance union withExcess
-    withOutside boxSquared containsPoint heldIn heldSquared boxOf dots crossed part along facePoint pointOn closestPoint finiteOr heldPoint measured
+    withOutside boxSquared containsPoint heldIn heldSquared boxOf dots crossed part along facePoint pointOn closestPoint heldPoint measured
     numberAt pointAt triangleAt boxAt triangleCount numbers nodeCount joinedTo joined boxOver rootFrom linksFrom boxesOf range tookAll nodeWalk
     pairWalk rootWalk fold limitSquared counts offered isSkipped hit tookSure scan nodeSquared skippedSure rightNearer sureWalk sourceHit keepSmaller
     tookSource enters sourceWalk sureAnswer sourceAnswer
@@ -117,7 +117,7 @@ pub walk-worked : (f : Format)
     ≡ (record { best = foundAt f 0 (pos 1) (level f); measured = 2 } ∷ record { best = foundAt f 1 (pos 10) (n f (pos 1)); measured = 1 }
     ∷ record { best = nothing; measured = 0 } ∷ record { best = foundAt f 0 (pos 1) (level f); measured = 2 } ∷ [])
 unfolding add sub mul div lt le eq round ofInt minus plus scale dot smallest largest isUnder isFinite plusZero squaredDistance union withExcess
-    withOutside boxSquared containsPoint heldIn heldSquared boxOf dots crossed part along facePoint pointOn closestPoint finiteOr heldPoint measured
+    withOutside boxSquared containsPoint heldIn heldSquared boxOf dots crossed part along facePoint pointOn closestPoint heldPoint measured
     numberAt pointAt triangleAt boxAt triangleCount numbers nodeCount joinedTo joined boxOver rootFrom linksFrom boxesOf range tookAll nodeWalk
     pairWalk rootWalk fold limitSquared counts offered isSkipped hit tookSure scan nodeSquared skippedSure rightNearer sureWalk sourceHit keepSmaller
     tookSource enters sourceWalk sureAnswer sourceAnswer
@@ -131,7 +131,7 @@ pub marked-worked : (f : Format)
     ≡ (record { best = foundAt f 0 (pos 1) (level f); measured = 2 } ∷ record { best = nothing; measured = 0 }
     ∷ record { best = foundAt f 0 (pos 1) (level f); measured = 2 } ∷ record { best = nothing; measured = 0 } ∷ [])
 unfolding add sub mul div lt le eq round ofInt minus plus scale dot smallest largest isUnder isFinite plusZero squaredDistance union withExcess
-    withOutside boxSquared containsPoint heldIn heldSquared boxOf dots crossed part along facePoint pointOn closestPoint finiteOr heldPoint measured
+    withOutside boxSquared containsPoint heldIn heldSquared boxOf dots crossed part along facePoint pointOn closestPoint heldPoint measured
     numberAt pointAt triangleAt boxAt triangleCount numbers nodeCount joinedTo joined boxOver rootFrom linksFrom boxesOf range tookAll nodeWalk
     pairWalk rootWalk fold limitSquared counts offered isSkipped hit tookSure scan nodeSquared skippedSure rightNearer sureWalk sourceHit keepSmaller
     tookSource enters sourceWalk sureAnswer sourceAnswer kept markedWalk
@@ -221,7 +221,7 @@ pub patch-worked : (f : Format) → (answersAt f (between f) ∷ answersAt f clo
     ∷ (unpatched f ∷ patched f ∷ patched f ∷ unpatched f ∷ unpatched f ∷ [])
     ∷ (nothing ∷ come f ∷ come f ∷ foundAt f 0 (pos 1) (n f (pos 49)) ∷ nothing ∷ []) ∷ [])
 unfolding add sub mul div lt le eq round ofInt minus plus scale dot smallest largest isUnder isFinite plusZero squaredDistance union heldIn boxOf dots
-    crossed part along facePoint pointOn closestPoint finiteOr heldPoint measured numberAt pointAt triangleAt triangleCount range fold ruleOf
+    crossed part along facePoint pointOn closestPoint heldPoint measured numberAt pointAt triangleAt triangleCount range fold ruleOf
     limitSquared counts offered hit tookSure scan sureAnswer
 patch-worked binary32 = refl
 patch-worked binary64 = refl

@@ -1,18 +1,18 @@
--- The held point of a triangle with finite corners is finite, lies in the triangle's box, and has no -0. So no box that holds the
--- triangle's box is farther than it in rounded arithmetic: a box may be skipped by its own squared distance.
+-- The held point of a triangle with finite corners is finite, lies in the triangle's box, and has no -0, be it the computed point or a foot.
+-- So no box that holds the triangle's box is farther than it in rounded arithmetic: a box may be skipped by its own squared distance.
 use mathlib.Core.Path.{_≡_, refl}
-use mathlib.Core.Bool.{Bool, true, false, cond}
+use mathlib.Core.Bool.{Bool, true, false, not, cond}
 use lib.Dec.{T}
-use lib.Ieee.{Format, eq, le}
+use lib.Ieee.{Format, lt, eq, le}
 use Rattle.spec_numbers.specs.Values.{zero, Number}
 use Rattle.spec_numbers.specs.Axes.{Axis, Finite, distance2}
-use Rattle.spec_numbers.proofs.Order.{transitive, finite-number, finite-between}
+use Rattle.spec_numbers.proofs.Order.{reflexive, transitive, lt→le, not-lt→le, finite-number, finite-between}
 use Rattle.spec_numbers.proofs.Hold.{held-at-least, held-at-most, held-finite}
 use Rattle.spec_numbers.proofs.Nearest.{distance-not-below, distance-number, held-is-nearest-of-three}
 use Rattle.spec_numbers.proofs.PlusZero.{plus-zero-finite, plus-zero-not-below, plus-zero-not-above, plus-zero-no-minus-zero}
 use Rattle.spec_shapes.specs.Points.{Point, on, at, minus, dot, isFinite, plusZero, squaredDistance}
 use Rattle.spec_shapes.specs.Boxes.{Box, heldIn, heldSquared, Inside, Contains, Proper}
-use Rattle.spec_shapes.specs.Triangles.{Triangle, boxOf, closestPoint, finiteOr, heldPoint, FiniteCorners}
+use Rattle.spec_shapes.specs.Triangles.{Triangle, boxOf, closestPoint, finiteOr, heldFoot, nearerFoot, nearestFoot, heldPoint, FiniteCorners, OnEdges}
 use Rattle.spec_shapes.proofs.OnAxes.{held-on, plus-zero-on, finite-by-test}
 use Rattle.spec_shapes.proofs.Bounds.{box-proper, contains-inside}
 
@@ -47,42 +47,89 @@ module _ (b : Box) (B : Proper b) (q : Point) (Q : Finite (at q)) where
   unfolding heldSquared
   held-squared-number f = squared-number f (heldIn b q) q held-in-finite Q
 
--- ---- the point that is held is finite
-stand-in-finite : (a q : Point) → Finite (at a) → Finite (at (finiteOr a q))
-unfolding finiteOr
-stand-in-finite a q A = picked (isFinite q) (finite-by-test q)
-  where
-    picked : (b : Bool) → (T b → Finite (at q)) → Finite (at (cond b q a))
-    picked true Q = Q tt
-    picked false Q = A
+-- ---- points that are finite and lie in a box
+record KeptIn (b : Box) (a : Point) : Type 0 where
+  isFinite : Finite (at a)
+  inside : Inside b a
 
--- ---- the held point
+picked : (P : Point → Type 0) (b : Bool) (x y : Point) → (T b → P x) → P y → P (cond b x y)
+picked P true x y X Y = X tt
+picked P false x y X Y = Y
+
+held-kept : (b : Box) → Proper b → (q : Point) → Finite (at q) → KeptIn b (heldIn b q)
+held-kept b B q Q = record { isFinite = held-in-finite b B q Q; inside = held-in-inside b B q Q }
+
 module _ (f : Format) (t : Triangle) (F : FiniteCorners t) (p : Point) where
-  -- before its zeros are made plus zero
+  -- ---- the feet
+  foot-kept : (start end : Point) → Finite (at start) → KeptIn (boxOf t) (heldFoot f t start end p)
+  unfolding heldFoot finiteOr
+  foot-kept start end S = held-kept (boxOf t) (box-proper t F) _ (picked (λ (a : Point). Finite (at a)) (isFinite _) _ start (finite-by-test _) S)
+
+  nearer-kept : (a b : Point) → KeptIn (boxOf t) a → KeptIn (boxOf t) b → KeptIn (boxOf t) (nearerFoot f p a b)
+  unfolding nearerFoot
+  nearer-kept a b A B = picked (KeptIn (boxOf t)) (lt (squaredDistance f b p) (squaredDistance f a p)) b a (λ h. B) A
+
+  nearer-no-farther : (a b : Point) → Finite (at a) → Finite (at b) → Finite (at p)
+      → T (le (squaredDistance f (nearerFoot f p a b) p) (squaredDistance f a p)) × T (le (squaredDistance f (nearerFoot f p a b) p) (squaredDistance f b p))
+  unfolding nearerFoot
+  nearer-no-farther a b A B P = go (lt (squaredDistance f b p) (squaredDistance f a p)) (λ h. h) (λ h. h)
+    where
+      m : Number (squaredDistance f a p)
+      m = squared-number f a p A P
+
+      n : Number (squaredDistance f b p)
+      n = squared-number f b p B P
+
+      go : (c : Bool) → (T c → T (lt (squaredDistance f b p) (squaredDistance f a p)))
+          → (T (not c) → T (not (lt (squaredDistance f b p) (squaredDistance f a p))))
+          → T (le (squaredDistance f (cond c b a) p) (squaredDistance f a p)) × T (le (squaredDistance f (cond c b a) p) (squaredDistance f b p))
+      go true h k = (lt→le _ _ (h tt), reflexive _ n)
+      go false h k = (reflexive _ m, not-lt→le _ _ n m (k tt))
+
+  nearest-kept : KeptIn (boxOf t) (nearestFoot f t p)
+  unfolding nearestFoot
+  nearest-kept = nearer-kept _ _ (nearer-kept _ _ (foot-kept (t .a) (t .b) (F .a)) (foot-kept (t .a) (t .c) (F .a))) (foot-kept (t .b) (t .c) (F .b))
+
+  -- the nearest foot is no farther than any of the three
+  pub nearest-foot-no-farther : Finite (at p)
+      → OnEdges (λ start end. T (le (squaredDistance f (nearestFoot f t p) p) (squaredDistance f (heldFoot f t start end p) p))) t
+  unfolding nearestFoot
+  nearest-foot-no-farther P =
+      let x = foot-kept (t .a) (t .b) (F .a) in
+      let y = foot-kept (t .a) (t .c) (F .a) in
+      let z = foot-kept (t .b) (t .c) (F .b) in
+      let early = nearer-no-farther _ _ (x .isFinite) (y .isFinite) P in
+      let all = nearer-no-farther _ _ (nearer-kept _ _ x y .isFinite) (z .isFinite) P in
+      (transitive _ _ _ (all .0) (early .0), transitive _ _ _ (all .0) (early .1), all .1)
+
+  -- ---- the held point, before its zeros are made plus zero
   kept : Point
-  kept = heldIn (boxOf t) (finiteOr (t .a) (closestPoint f t p))
+  kept = let q = closestPoint f t p in cond (isFinite q) (heldIn (boxOf t) q) (nearestFoot f t p)
 
   held-is : heldPoint f t p ≡ plusZero kept
   unfolding heldPoint kept
   held-is = refl
 
-  kept-finite : Finite (at kept)
+  kept-in : KeptIn (boxOf t) kept
   unfolding kept
-  kept-finite = held-in-finite (boxOf t) (box-proper t F) _ (stand-in-finite (t .a) (closestPoint f t p) (F .a))
+  kept-in =
+      let q = closestPoint f t p in
+      picked (KeptIn (boxOf t)) (isFinite q) _ _ (λ h. held-kept (boxOf t) (box-proper t F) q (finite-by-test q h)) nearest-kept
 
-  kept-inside : Inside (boxOf t) kept
-  unfolding kept
-  kept-inside = held-in-inside (boxOf t) (box-proper t F) _ (stand-in-finite (t .a) (closestPoint f t p) (F .a))
+  -- where the computed point is finite it is that point, held: feet are asked nowhere else
+  pub finite-is-held : isFinite (closestPoint f t p) ≡ true → heldPoint f t p ≡ plusZero (heldIn (boxOf t) (closestPoint f t p))
+  unfolding heldPoint
+  finite-is-held h = rw h
 
   -- the sure query's point is finite, though the source's closest point may not be
   pub held-point-finite : Finite (at (heldPoint f t p))
-  held-point-finite i = rw (held-is, plus-zero-on kept i) (plus-zero-finite (on i kept) (kept-finite i))
+  held-point-finite i = rw (held-is, plus-zero-on kept i) (plus-zero-finite (on i kept) (kept-in .isFinite i))
 
   -- the sure query's point lies in the triangle's box
   pub held-point-inside : Inside (boxOf t) (heldPoint f t p)
   held-point-inside = record {
-    low = λ i. rw (held-is, plus-zero-on kept i) (transitive _ _ _ (kept-inside .low i) (plus-zero-not-below _ (kept-finite i)));
-    high = λ i. rw (held-is, plus-zero-on kept i) (transitive _ _ _ (plus-zero-not-above _ (kept-finite i)) (kept-inside .high i));
+    low = λ i. rw (held-is, plus-zero-on kept i) (transitive _ _ _ (kept-in .inside .low i) (plus-zero-not-below _ (kept-in .isFinite i)));
+    high = λ i. rw (held-is, plus-zero-on kept i) (transitive _ _ _ (plus-zero-not-above _ (kept-in .isFinite i)) (kept-in .inside .high i));
   }
 
   -- no coordinate of the sure query's point is -0

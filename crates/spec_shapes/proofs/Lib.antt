@@ -4,3 +4,4 @@ pub mod Held
 pub mod Plain
 pub mod Worked
 pub mod Within
+pub mod Feet

@@ -1,15 +1,16 @@
--- Shapes worked out: a point of the triangle (0,0,0) (4,0,0) (0,4,0) for each of the seven tests of the closest point, and what no law says of boxes
--- and planes.
+-- Shapes worked out: a point of the triangle (0,0,0) (4,0,0) (0,4,0) for each of the seven tests of the closest point, triangles that have no closest
+-- point, and what no law says of boxes and planes.
 use mathlib.Core.Path.{_≡_, refl}
 use mathlib.Core.Bool.{Bool, true, false}
 use mathlib.Core.List.{List, [], _∷_}
+use Prim.Native.Nat.{ℕ, _+_, _-_, _^_}
 use lib.IntN.{ℤ, pos, negsuc}
 use lib.Ieee.{Float, Format, binary32, binary64, fin, add, sub, mul, div, lt, le, eq, round, ofInt}
 use Rattle.spec_numbers.specs.Axes.{X}
-use Rattle.spec_shapes.specs.Points.{Point, minus, plus, scale, dividedBy, dot, smallest, largest, isUnder}
-use Rattle.spec_shapes.specs.Boxes.{Box, centre, sizes, area, volume, offsetOn, offset, withExcess, withOutside, boxSquared, containsPoint, closestInBox}
+use Rattle.spec_shapes.specs.Points.{Point, minus, plus, scale, dividedBy, dot, smallest, largest, isUnder, isFinite, plusZero, squaredDistance}
+use Rattle.spec_shapes.specs.Boxes.{Box, centre, sizes, area, volume, offsetOn, offset, withExcess, withOutside, boxSquared, containsPoint, closestInBox, heldIn}
 use Rattle.spec_shapes.specs.Planes.{Plane, unit, reach, meetsBox}
-use Rattle.spec_shapes.specs.Triangles.{Triangle, dots, crossed, part, along, facePoint, pointOn, closestPoint}
+use Rattle.spec_shapes.specs.Triangles.{Triangle, boxOf, dots, crossed, part, along, facePoint, pointOn, closestPoint, foot, finiteOr, heldFoot, nearerFoot, nearestFoot, heldPoint}
 
 module _ (f : Format) where
   abbrev point : ℤ → ℤ → ℤ → Point
@@ -38,6 +39,78 @@ unfolding add sub mul div lt le eq round ofInt minus plus scale dot dots crossed
 closest-worked binary32 = refl
 closest-worked binary64 = refl
 
+-- ---- triangles that have no closest point
+-- n / 2^k of a side that is so short that one over its fourth power overflows
+abbrev share : Format → Bool → ℕ → ℕ → Float
+share binary32 sign n k = fin sign n (negsuc (32 + k))
+share binary64 sign n k = fin sign n (negsuc (257 + k))
+
+-- a coordinate so small that 1 less it is 1
+abbrev unseen : Format → Float
+unseen binary32 = fin false 1 (negsuc 29)
+unseen binary64 = fin false 1 (negsuc 59)
+
+-- three quarters of the spacing below 1, under zero: 1 less it is 1, and 1 and it are the number before 1
+abbrev slightly : Format → Float
+slightly binary32 = fin true 3 (negsuc 25)
+slightly binary64 = fin true 3 (negsuc 54)
+
+abbrev beforeOne : Format → Float
+beforeOne binary32 = fin false (2 ^ 24 - 1) (negsuc 23)
+beforeOne binary64 = fin false (2 ^ 53 - 1) (negsuc 52)
+
+module _ (f : Format) where
+  abbrev flatPoint : Float → Float → Point
+  flatPoint x y = record { x = x; y = y; z = ofInt f (pos 0) }
+
+  -- (a,0,0) (a,0,0) (c,0,0)
+  abbrev pinched : Float → Float → Triangle
+  pinched a c = record { a = flatPoint a (ofInt f (pos 0)); b = flatPoint a (ofInt f (pos 0)); c = flatPoint c (ofInt f (pos 0)) }
+
+  -- with the right angle at a, and with the tip at c over the middle of ab
+  abbrev tinyRight : Triangle
+  tinyRight = record {
+    a = flatPoint (ofInt f (pos 0)) (ofInt f (pos 0));
+    b = flatPoint (share f false 1 0) (ofInt f (pos 0));
+    c = flatPoint (ofInt f (pos 0)) (share f false 1 0);
+  }
+
+  abbrev tinyTip : Triangle
+  tinyTip = record {
+    a = flatPoint (share f true 1 0) (ofInt f (pos 0));
+    b = flatPoint (share f false 1 0) (ofInt f (pos 0));
+    c = flatPoint (ofInt f (pos 0)) (share f false 1 0);
+  }
+
+  -- the held point, where the computed one is not finite
+  abbrev byFeet : Triangle → Point → Bool × Point
+  byFeet t p = (isFinite (closestPoint f t p), heldPoint f t p)
+
+-- Pinched: over the side, past its end, at corner c; and with an end that start + edge misses: it goes past, and the foot is held into the box, or it
+-- falls short, and the foot stays there.
+pub pinched-worked : (f : Format)
+    → (byFeet f (pinched f (ofInt f (pos 0)) (ofInt f (pos 4))) (point f (pos 1) (pos 1) (pos 0)) ≡ (false, point f (pos 1) (pos 0) (pos 0)))
+    × (byFeet f (pinched f (ofInt f (pos 0)) (ofInt f (pos 4))) (point f (pos 9) (pos 1) (pos 0)) ≡ (false, point f (pos 4) (pos 0) (pos 0)))
+    × (byFeet f (pinched f (ofInt f (pos 4)) (ofInt f (pos 0))) (point f (pos 0) (pos 0) (pos 0)) ≡ (false, point f (pos 0) (pos 0) (pos 0)))
+    × (byFeet f (pinched f (ofInt f (pos 1)) (unseen f)) (point f (negsuc 0) (pos 0) (pos 0)) ≡ (false, flatPoint f (unseen f) (ofInt f (pos 0))))
+    × (byFeet f (pinched f (slightly f) (ofInt f (pos 1))) (point f (pos 2) (pos 0) (pos 0)) ≡ (false, flatPoint f (beforeOne f) (ofInt f (pos 0))))
+unfolding add sub mul div lt le eq round ofInt minus plus scale dot smallest largest isFinite plusZero squaredDistance heldIn boxOf dots crossed part along
+    facePoint pointOn closestPoint foot finiteOr heldFoot nearerFoot nearestFoot heldPoint
+pinched-worked binary32 = (refl, refl, refl, refl, refl)
+pinched-worked binary64 = (refl, refl, refl, refl, refl)
+
+-- Tiny: level on ab and ac, nearest on ac, nearest on bc; and level on ac and bc.
+pub tiny-worked : (f : Format)
+    → (byFeet f (tinyRight f) (flatPoint f (share f false 1 2) (share f false 1 2)) ≡ (false, flatPoint f (share f false 1 2) (ofInt f (pos 0))))
+    × (byFeet f (tinyRight f) (flatPoint f (share f false 1 3) (share f false 1 1)) ≡ (false, flatPoint f (ofInt f (pos 0)) (share f false 1 1)))
+    × (byFeet f (tinyRight f) (flatPoint f (share f false 1 1) (share f false 1 2)) ≡ (false, flatPoint f (share f false 5 3) (share f false 3 3)))
+    × (byFeet f (tinyTip f) (flatPoint f (ofInt f (pos 0)) (share f false 3 2)) ≡ (false, flatPoint f (share f true 1 3) (share f false 7 3)))
+unfolding add sub mul div lt le eq round ofInt minus plus scale dot smallest largest isFinite plusZero squaredDistance heldIn boxOf dots crossed part along
+    facePoint pointOn closestPoint foot finiteOr heldFoot nearerFoot nearestFoot heldPoint
+tiny-worked binary32 = (refl, refl, refl, refl)
+tiny-worked binary64 = (refl, refl, refl, refl)
+
+-- ---- boxes and planes
 -- the squared distance to (7,-4,0), whether (4,2,0) and (4,3,0) are inside, the point of the box closest to (7,1,1), the centre, the area, and where
 -- (1,2,2) lies
 pub box-worked : (f : Format)

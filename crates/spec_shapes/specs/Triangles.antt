@@ -1,8 +1,10 @@
 -- The closest point of a triangle: which of the source's seven tests answers first, and the point that it makes.
--- Then the held point of the sure query, which is finite and in the triangle's box even where the closest point is neither.
+-- Then the held point of the sure query, which is finite and in the triangle's box even where the closest point is neither: where that is not finite,
+-- the feet on the edges stand in.
 use mathlib.Core.Bool.{cond, _&&_}
-use lib.Ieee.{Float, Format, add, sub, mul, div, le}
+use lib.Ieee.{Float, Format, add, sub, mul, div, lt, le, eq}
 use Rattle.spec_numbers.specs.Values.{zero, one}
+use Rattle.spec_numbers.specs.Hold.{held}
 use Rattle.spec_numbers.specs.Axes.{Finite}
 use Rattle.spec_shapes.specs.Points.{Point, at, minus, plus, scale, dot, smallest, largest, isFinite, plusZero, squaredDistance}
 use Rattle.spec_shapes.specs.Boxes.{Box, heldIn}
@@ -21,6 +23,10 @@ pub record FiniteCorners (t : Triangle) : Type 0 where
   pub a : Finite (at (t .a))
   pub b : Finite (at (t .b))
   pub c : Finite (at (t .c))
+
+-- what is said of the edges ab, ac and bc, each by its start and its end
+abbrev pub OnEdges : (Point → Point → Type 0) → Triangle → Type 0
+OnEdges P t = P (t .a) (t .b) × P (t .a) (t .c) × P (t .b) (t .c)
 
 -- ---- what the tests look at: the edges ab and ac, each with the point seen from a, from b and from c
 pub record Dots : Type 0 where
@@ -98,17 +104,37 @@ unfoldable pub closestPoint : Format → Triangle → Point → Point
 closestPoint f t p = let d = dots f t p in pointOn f t d (part f d)
 
 -- ---- the sure query's point
--- the stand-in: corner a, where a coordinate of the computed point q is not finite
-unfoldable pub finiteOr : Point → Point → Point
-finiteOr a q = cond (isFinite q) q a
+-- the foot of p on an edge: start + edge × s, s being edge·(p - start) / edge·edge held to 0 and 1; the start itself where edge·edge is zero
+unfoldable pub foot : Format → Point → Point → Point → Point
+foot f start end p =
+    let edge = minus f end start in
+    let size = dot f edge edge in
+    cond (eq size zero) start (along f start edge (held zero one (div f (dot f edge (minus f p start)) size)))
 
--- q or its stand-in, held into the triangle's box, zeros plus zero
-abbrev pub heldFrom : Triangle → Point → Point
-heldFrom t q = plusZero (heldIn (boxOf t) (finiteOr (t .a) q))
+-- q, or its stand-in s where a coordinate of q is not finite
+unfoldable pub finiteOr : Point → Point → Point
+finiteOr s q = cond (isFinite q) q s
+
+-- the foot held into the triangle's box. It is finite for coordinates in range (`foot-as-told`); elsewhere the start stands in, so that no law needs a range.
+unfoldable pub heldFoot : Format → Triangle → Point → Point → Point → Point
+heldFoot f t start end p = heldIn (boxOf t) (finiteOr start (foot f start end p))
+
+-- of two feet the one with the smaller squared distance, the first among equals
+unfoldable pub nearerFoot : Format → Point → Point → Point → Point
+nearerFoot f p first second = cond (lt (squaredDistance f second p) (squaredDistance f first p)) second first
+
+-- the feet on ab, ac and bc, in turn
+unfoldable pub nearestFoot : Format → Triangle → Point → Point
+nearestFoot f t p =
+    nearerFoot f p (nearerFoot f p (heldFoot f t (t .a) (t .b) p) (heldFoot f t (t .a) (t .c) p)) (heldFoot f t (t .b) (t .c) p)
+
+-- the computed point q held into the triangle's box, or the nearest foot where a coordinate of q is not finite; zeros plus zero
+abbrev pub heldFrom : Format → Triangle → Point → Point → Point
+heldFrom f t p q = plusZero (cond (isFinite q) (heldIn (boxOf t) q) (nearestFoot f t p))
 
 -- the computed closest point, held
 unfoldable pub heldPoint : Format → Triangle → Point → Point
-heldPoint f t p = heldFrom t (closestPoint f t p)
+heldPoint f t p = heldFrom f t p (closestPoint f t p)
 
 -- with its squared distance
 pub record Measured : Type 0 where
