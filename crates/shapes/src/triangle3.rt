@@ -170,18 +170,39 @@ impl Triangle3 {
         self.point_on(d, d.part())
     }
 
-    // q held into the triangle's box, with +0 for -0. Where q is not finite, corner a stands for it.
-    pub fn held(self, q: Vec3) -> Vec3
-        ensures { λ r. ⌜ Values.asPoint r ≡ Triangles.heldFrom (Values.asTriangle self) (Values.asPoint q) ⌝ }
+    // The foot of p on an edge, held into the triangle's box.
+    fn held_foot(self, start: Vec3, end: Vec3, p: Vec3) -> Vec3
+        ensures { λ r. ⌜ Values.asPoint r
+            ≡ Triangles.heldFoot binary32 (Values.asTriangle self) (Values.asPoint start) (Values.asPoint end) (Values.asPoint p) ⌝ }
     {
-        self.bbox().hold(finite_or(self.a, q)).plus_zero()
+        self.bbox().hold(finite_or(start, foot(start, end, p)))
+    }
+
+    // The nearest of the feet on ab, ac and bc, the earlier edge among equals.
+    fn nearest_foot(self, p: Vec3) -> Vec3
+        ensures { λ r. ⌜ Values.asPoint r ≡ Triangles.nearestFoot binary32 (Values.asTriangle self) (Values.asPoint p) ⌝ }
+    {
+        let on_ab = self.held_foot(self.a, self.b, p);
+        let on_ac = self.held_foot(self.a, self.c, p);
+        let on_bc = self.held_foot(self.b, self.c, p);
+        nearer_foot(p, nearer_foot(p, on_ab, on_ac), on_bc)
+    }
+
+    // The computed closest point q held into the triangle's box, with +0 for -0. Where q is not finite, the nearest foot of p on an edge stands for it.
+    pub fn held(self, p: Vec3, q: Vec3) -> Vec3
+        ensures { λ r. ⌜ Values.asPoint r ≡ Triangles.heldFrom binary32 (Values.asTriangle self) (Values.asPoint p) (Values.asPoint q) ⌝ }
+    {
+        if q.is_finite() {
+            return self.bbox().hold(q).plus_zero();
+        }
+        self.nearest_foot(p).plus_zero()
     }
 
     // The sure query's point: the closest point, held into the triangle's box.
     pub fn held_point(self, p: Vec3) -> Vec3
         ensures { λ r. ⌜ Values.asPoint r ≡ Triangles.heldPoint binary32 (Values.asTriangle self) (Values.asPoint p) ⌝ }
     {
-        self.held(self.closest_point(p))
+        self.held(p, self.closest_point(p))
     }
 
     // The sure query's point, and its squared distance to p.
@@ -196,9 +217,36 @@ impl Triangle3 {
     }
 }
 
-// q, or a where a coordinate of q is not finite.
-fn finite_or(a: Vec3, q: Vec3) -> Vec3
-    ensures { λ r. ⌜ Values.asPoint r ≡ Triangles.finiteOr (Values.asPoint a) (Values.asPoint q) ⌝ }
+// The foot of p on the edge from start to end: start + edge * s with s from 0 to 1, or the start where the edge has no length.
+fn foot(start: Vec3, end: Vec3, p: Vec3) -> Vec3
+    ensures { λ r. ⌜ Values.asPoint r ≡ Triangles.foot binary32 (Values.asPoint start) (Values.asPoint end) (Values.asPoint p) ⌝ }
 {
-    if q.is_finite() { q } else { a }
+    let edge = end.minus(start);
+    let size = edge.dot(edge);
+    if size == 0.0 {
+        return start;
+    }
+    along(
+        start,
+        edge,
+        floats::held(0.0, 1.0, edge.dot(p.minus(start)) / size),
+    )
+}
+
+// The foot with the smaller squared distance to p, the first among equals.
+fn nearer_foot(p: Vec3, first: Vec3, second: Vec3) -> Vec3
+    ensures { λ r. ⌜ Values.asPoint r ≡ Triangles.nearerFoot binary32 (Values.asPoint p) (Values.asPoint first) (Values.asPoint second) ⌝ }
+{
+    if second.squared_distance(p) < first.squared_distance(p) {
+        second
+    } else {
+        first
+    }
+}
+
+// q, or its stand-in s where a coordinate of q is not finite.
+fn finite_or(s: Vec3, q: Vec3) -> Vec3
+    ensures { λ r. ⌜ Values.asPoint r ≡ Triangles.finiteOr (Values.asPoint s) (Values.asPoint q) ⌝ }
+{
+    if q.is_finite() { q } else { s }
 }

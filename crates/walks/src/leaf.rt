@@ -53,7 +53,7 @@ fn measure(
         Measures::Held => {
             offer(
                 probe[3],
-                hit_at(triangle.held(computed), p, t),
+                hit_at(triangle.held(p, computed), p, t),
                 best,
                 number,
             );

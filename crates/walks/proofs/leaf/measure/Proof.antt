@@ -2,9 +2,9 @@
 use mathlib.Core.Path.{_≡_, ap, _∙_}
 use lib.Ieee.{binary32}
 use Prim.Native.Nat.{ℕ}
-use Rattle.shapes.specs.Values.{asPoint, asTriangle}
+use Rattle.shapes.specs.Values.{asPoint}
 use Rattle.spec_shapes.specs.Points.{Point, squaredDistance}
-use Rattle.spec_shapes.specs.Triangles.{Triangle, closestPoint, heldFrom, heldPoint, measured}
+use Rattle.spec_shapes.specs.Triangles.{heldPoint, measured}
 use Rattle.spec_lists.specs.Reading.{triangleAt}
 use Rattle.spec_search.specs.Answers.{Hit}
 use Rattle.spec_search.specs.Sure.{hit, offered, tookSure}
@@ -33,9 +33,7 @@ returns c =
     let p = pointOf (a .probe .now) in
     let read = after-triangle-at .triangle-at .ensures ∙ ap (triangleAt (a .triangles .now)) (after-wide .wide .ensures) in
     let point : asPoint (after-held .held .result) ≡ heldPoint binary32 (triangleAt (a .triangles .now) (a .t)) p =
-    after-held .held .ensures ∙ ap (heldFrom (asTriangle (after-triangle-at .triangle-at .result))) (after-closest-point .closest-point .ensures
-    ∙ ap (closestPoint binary32 (asTriangle (after-triangle-at .triangle-at .result))) (after-point-of .point-of .ensures))
-    ∙ ap (λ (t : Triangle). heldFrom t (closestPoint binary32 t p)) read in
+    rw (after-held .held .ensures, after-closest-point .closest-point .ensures, after-point-of .point-of .ensures, read) in
     let is : asHit (after-hit-at .hit-at .result) ≡ hit binary32 (a .triangles .now) p (a .t) =
     after-hit-at .hit-at .ensures ∙ ap (λ (x : Point). seen (asPoint (after-held .held .result)) x (a .t)) (after-point-of .point-of .ensures)
     ∙ ap (λ (q : Point). seen q p (a .t)) point in
