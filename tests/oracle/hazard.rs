@@ -1,11 +1,13 @@
 //! Surveys the hazard that stays: collinear and thin triangles whose computed closest point is finite and wrong. One triangle and
 //! one point at a time, the Rust's closest point and the sure query's held point beside the closest point in double precision.
-//! tests/compare builds and runs it.
+//! Where the Rust has no point it surveys what stands in for it: before, corner a; now, what the sure query answers. tests/compare
+//! builds and runs it.
 //!
 //!     hazard [CASES]     cases a row (1,000,000)
 //!
-//! Everything is told in parts of the triangle's longest side. "Thin" is the height over the longest side, as the rounded corners
-//! have it. The measured distance is the root of the squared distance that is answered.
+//! Everything is told in parts of the triangle's longest side, or of the true distance where the three corners are the same; what
+//! stands in for a point also in spacings of f32 at the largest coordinate, since a few of those are rounding. "Thin" is the height
+//! over the longest side, as the rounded corners have it. The measured distance is the root of the squared distance that is answered.
 
 use shark::{
     cases::{make, Rng, Wish, FAR, KINDS, LIMIT},
@@ -97,12 +99,19 @@ struct Off {
 
 struct Seen {
     size: f64,
+    /// The longest side; the true distance where there is none.
+    unit: f64,
     thin: f64,
-    pinched: bool,
+    /// Which corners are the same: all, a and b, a and c, b and c.
+    same: Option<usize>,
     /// The true distance, in longest sides.
     away: f64,
+    /// The spacing of f32 at the largest coordinate of triangle and point, in longest sides.
+    spacing: f64,
     source: Option<Off>,
     sure: Off,
+    /// Corner a, which stood for the computed point where that is none.
+    corner: Off,
     answers: String,
 }
 
@@ -120,20 +129,27 @@ fn look(case: &Case, tell: bool) -> Seen {
     let size = norm(sub(t[2], t[1]));
     let thin = norm(cross(sub(t[1], t[0]), sub(t[2], t[0]))) / (size * size);
     let (truth, away) = case.tris.iter().map(|t| nearest(t, p)).fold((p, f64::INFINITY), |a, b| if b.1 < a.1 { b } else { a });
-    let off = |q: P, squared: f32| Off { point: norm(sub(double(&q), truth)) / size, distance: ((squared as f64).sqrt() - away) / size };
+    let unit = if size > 0.0 { size } else { away };
+    let off = |q: P, squared: f32| Off { point: norm(sub(double(&q), truth)) / unit, distance: ((squared as f64).sqrt() - away) / unit };
+    let nearer = |a: (P, f32), b: (P, f32)| if b.1 < a.1 { b } else { a };
     let computed = case.tris.iter().map(|t| triangle(t).closest_point(&case.point)).map(|q| (q, (q - case.point).norm_squared()));
-    let source = computed.filter(|c| c.1.is_finite()).reduce(|a, b| if b.1 < a.1 { b } else { a });
+    let source = computed.filter(|c| c.1.is_finite()).reduce(nearer);
+    let (corner, corner_squared) = case.tris.iter().map(|t| (t[0], (t[0] - case.point).norm_squared())).reduce(nearer).unwrap();
     let numbers: Vec<f32> = case.tris.iter().flatten().flat_map(|c| [c.x, c.y, c.z]).collect();
     let words = one_leaf(&case.tris).sure(&numbers, &[case.point.x, case.point.y, case.point.z], FAR, 1).expect("the sure query answers")[0];
     let [x, y, z, squared] = [2, 3, 4, 5].map(|i| f32::from_bits(words[i]));
     let [a, b, c] = case.tris[0];
+    let largest = numbers.iter().chain([&case.point.x, &case.point.y, &case.point.z]).fold(0f32, |m, x| m.max(x.abs()));
     Seen {
         size,
+        unit,
         thin,
-        pinched: a == b || b == c || c == a,
-        away: away / size,
+        same: [a == b && b == c, a == b, a == c, b == c].iter().position(|&same| same),
+        away: away / unit,
+        spacing: (f32::from_bits(largest.to_bits() + 1) - largest) as f64 / unit,
         source: source.map(|(q, s)| off(q, s)),
         sure: off(P::new(x, y, z), squared),
+        corner: off(corner, corner_squared),
         answers: if tell { format!("true distance {away:.9e}; sure ({x:?}, {y:?}, {z:?}), distance {:.9e}; the Rust {source:?}", (squared as f64).sqrt()) } else { String::new() },
     }
 }
@@ -162,6 +178,8 @@ struct Side {
     of_distance: f64,
     times_thin_squared: f64,
     in_heights: f64,
+    in_spacings: f64,
+    absolute: f64,
     over: [u64; 2],
 }
 
@@ -170,6 +188,8 @@ impl Side {
         self.point = self.point.max(off.point);
         self.times_thin_squared = self.times_thin_squared.max(off.distance.abs() * seen.thin * seen.thin);
         self.in_heights = self.in_heights.max(off.distance.abs() / seen.thin);
+        self.in_spacings = self.in_spacings.max(off.distance.abs() / seen.spacing);
+        self.absolute = self.absolute.max(off.distance.abs() * seen.unit);
         self.too_far.see(off.distance, case);
         self.too_near.see(-off.distance, case);
         if seen.away >= 0.01 {
@@ -189,12 +209,47 @@ impl Side {
     }
 }
 
+/// The cases in which the Rust has no point, and how far off what stands in for it was and is.
+#[derive(Default, Clone)]
+struct NoPoint {
+    cases: u64,
+    before: Side,
+    now: Side,
+    /// The largest spacing, in longest sides.
+    spacing: f64,
+}
+
+impl NoPoint {
+    fn see(&mut self, seen: &Seen, case: &Case) {
+        self.cases += 1;
+        self.before.see(seen.corner, seen, case);
+        self.now.see(seen.sure, seen, case);
+        self.spacing = self.spacing.max(seen.spacing);
+    }
+
+    fn print(&self, corners: &str) {
+        if self.cases == 0 {
+            return;
+        }
+        println!("      no point, {corners}: {}, at least {:.1e} spacings across", self.cases, 1.0 / self.spacing);
+        for (when, side) in [("before, corner a", &self.before), ("now", &self.now)] {
+            let [far, near] = [&side.too_far, &side.too_near].map(|m| m.value);
+            let share = |n: u64| 100.0 * n as f64 / self.cases as f64;
+            println!(
+                "        {when}: off by over 1e-3 {:.4}%, over 1e-2 {:.4}%; reads too far by {far:.2e}, too near by {near:.2e}; in spacings {:.1e}, absolute {:.1e}; point off {:.2e}",
+                share(side.over[0]), share(side.over[1]), side.in_spacings, side.absolute, side.point
+            );
+        }
+        show("the worst now", if self.now.too_far.value > self.now.too_near.value { &self.now.too_far } else { &self.now.too_near });
+    }
+}
+
 /// One row: how many cases, in how many the Rust has no point, and how far off the others are.
 #[derive(Default, Clone)]
 struct Row {
     cases: u64,
-    no_point: u64,
-    stand_in: Most,
+    /// With three different corners, and with two the same.
+    no_point: [NoPoint; 2],
     source: Side,
     sure: Side,
 }
@@ -203,10 +258,7 @@ impl Row {
     fn see(&mut self, seen: &Seen, case: &Case) {
         self.cases += 1;
         match seen.source {
-            None => {
-                self.no_point += 1;
-                self.stand_in.see(seen.sure.distance.abs(), case);
-            }
+            None => self.no_point[seen.same.is_some() as usize].see(seen, case),
             Some(source) => {
                 self.source.see(source, seen, case);
                 self.sure.see(seen.sure, seen, case);
@@ -218,20 +270,26 @@ impl Row {
         if self.cases == 0 {
             return;
         }
-        println!("  {name}: {} cases; no point in {}, where corner a is off by at most {:.2e}", self.cases, self.no_point, self.stand_in.value);
-        let (rust, sure) = (self.source.line(self.cases - self.no_point), self.sure.line(self.cases - self.no_point));
+        let no_point: u64 = self.no_point.iter().map(|n| n.cases).sum();
+        println!("  {name}: {} cases; no point in {no_point}", self.cases);
+        self.no_point[0].print("three different corners");
+        self.no_point[1].print("two corners the same");
+        if self.cases == no_point {
+            return;
+        }
+        let (rust, sure) = (self.source.line(self.cases - no_point), self.sure.line(self.cases - no_point));
         println!("      sure: {sure}\n      the Rust: {}", if rust == sure { "the same".into() } else { rust });
     }
 }
 
-const CLASSES: [&str; 11] = [
+const CLASSES: [&str; 14] = [
     "0.3 and above", "0.03 to 0.3", "3e-3 to 0.03", "3e-4 to 3e-3", "3e-5 to 3e-4", "3e-6 to 3e-5", "3e-7 to 3e-6", "3e-8 to 3e-7", "below 3e-8",
-    "in one line exactly", "two corners the same",
+    "in one line exactly", "three corners the same", "a = b", "a = c", "b = c",
 ];
 
 fn class(seen: &Seen) -> usize {
-    if seen.pinched {
-        10
+    if let Some(same) = seen.same {
+        10 + same
     } else if seen.thin == 0.0 {
         9
     } else {
@@ -282,6 +340,31 @@ fn line_triangle(r: &mut Rng) -> [P; 3] {
     turned(r, [at(0), at(u), at(w)])
 }
 
+fn scaled(t: [P; 3], by: f64) -> [P; 3] {
+    t.map(|q| rounded(double(&q).map(|x| by * x)))
+}
+
+/// Corners in one line exactly, the longest side 1 to 2 times this long: scaled by a power of 2 they stay in line.
+fn line_of_size(r: &mut Rng, size: f64) -> [P; 3] {
+    let t = line_triangle(r);
+    let [_, b, c] = sorted(&t);
+    scaled(t, (size / norm(sub(c, b))).log2().ceil().exp2())
+}
+
+/// Whole numbers from -1 to 1 times this.
+fn lattice_triangle(r: &mut Rng, size: f32) -> [P; 3] {
+    let mut one = || size * (r.below(3) as f32 - 1.0);
+    [(); 3].map(|_| P::new(one(), one(), one()))
+}
+
+/// Two corners the same, the third 1 to 2 away, or all three the same; at most `out` sides from the origin by each axis.
+fn pinched_triangle(r: &mut Rng, which: u64, out: f64) -> [P; 3] {
+    let (l, d) = (1.0 + r.unit(), unit(r));
+    let a = [out * l * r.both(), out * l * r.both(), out * l * r.both()];
+    let (a, b) = (rounded(a), rounded(along(a, d, l)));
+    [[a, a, b], [a, b, a], [b, a, a], [a, a, a]][which as usize % 4]
+}
+
 /// Over the triangle's longest side or a little past its ends, or over its face; 0 to 10 sides away.
 fn point_by(r: &mut Rng, t: &[P; 3]) -> P {
     let [a, b, c] = sorted(t);
@@ -293,7 +376,7 @@ fn point_by(r: &mut Rng, t: &[P; 3]) -> P {
         let (u, w) = if u + w > 1.0 { (1.0 - u, 1.0 - w) } else { (u, w) };
         along(along(a, sub(b, a), u), sub(c, a), w)
     };
-    let away = l * [0.0, 1e-4, 1e-3, 1e-2, 0.1, 1.0, 10.0][r.below(7)];
+    let away = if l > 0.0 { l } else { 1.0 } * [0.0, 1e-4, 1e-3, 1e-2, 0.1, 1.0, 10.0][r.below(7)];
     rounded(along(foot, unit(r), away * r.unit()))
 }
 
@@ -374,15 +457,21 @@ fn show(what: &str, most: &Most) {
     let hex = |p: &P| format!("{:08x} {:08x} {:08x}", p.x.to_bits(), p.y.to_bits(), p.z.to_bits());
     let all = |f: &dyn Fn(&P) -> String| format!("{} {} {}, point {}", f(&case.tris[0][0]), f(&case.tris[0][1]), f(&case.tris[0][2]), f(&case.point));
     let seen = look(case, true);
-    println!("    after 200,000 small changes {what} {:.3e}, thin {:.2e}: {}\n      {}\n      {}", most.value, seen.thin, all(&decimal), all(&hex), seen.answers);
+    println!("    {what} {:.3e}, thin {:.2e}: {}\n      {}\n      {}", most.value, seen.thin, all(&decimal), all(&hex), seen.answers);
 }
 
 /// Rows by thinness; with `worst` the worst of each, and how far small changes drive it.
 fn survey(title: &str, r: &mut Rng, cases: u64, worst: bool, mut make_one: impl FnMut(&mut Rng, u64) -> Vec<[P; 3]>) {
+    survey_at(title, r, cases, worst, |r, i| {
+        let tris = make_one(r, i);
+        Case { point: point_by(r, &tris[0]), tris }
+    });
+}
+
+fn survey_at(title: &str, r: &mut Rng, cases: u64, worst: bool, mut make_one: impl FnMut(&mut Rng, u64) -> Case) {
     let mut rows = vec![Row::default(); CLASSES.len()];
     for i in 0..cases {
-        let tris = make_one(r, i);
-        let case = Case { point: point_by(r, &tris[0]), tris };
+        let case = make_one(r, i);
         let seen = look(&case, false);
         rows[class(&seen)].see(&seen, &case);
     }
@@ -390,8 +479,22 @@ fn survey(title: &str, r: &mut Rng, cases: u64, worst: bool, mut make_one: impl 
     for (k, row) in rows.iter().enumerate() {
         row.print(CLASSES[k]);
         if worst && k < 10 {
-            show("sure reads too far by", &push_further(r, &row.sure.too_far, k));
+            show("after 200,000 small changes sure reads too far by", &push_further(r, &row.sure.too_far, k));
         }
+    }
+}
+
+/// Rows by size, from ordinary ones to the least subnormals.
+fn by_size(title: &str, r: &mut Rng, cases: u64, make_one: impl Fn(&mut Rng, f64) -> [P; 3]) {
+    println!("{title}");
+    for k in (4..=24).chain([30, 38, 40]) {
+        let mut row = Row::default();
+        for _ in 0..cases / 10 {
+            let t = make_one(r, 10f64.powi(-k));
+            let case = Case { point: point_by(r, &t), tris: vec![t] };
+            row.see(&look(&case, false), &case);
+        }
+        row.print(&format!("1e-{k} to 2e-{k}"));
     }
 }
 
@@ -434,14 +537,17 @@ fn main() {
         }
         row.print(kind);
     }
-    println!("triangles of good shape by size, at most one side from the origin");
-    for k in 4..=20 {
-        let (mut row, scale) = (Row::default(), 10f32.powi(-k));
-        for _ in 0..cases / 10 {
-            let t = thin_triangle(r, 0.6, 1.0).map(|c| c * scale);
-            let case = Case { point: point_by(r, &t), tris: vec![t] };
-            row.see(&look(&case, false), &case);
-        }
-        row.print(&format!("1e-{k} to 2e-{k}"));
+    by_size("triangles of good shape by size, at most one side from the origin", r, cases, |r, size| scaled(thin_triangle(r, 0.6, 1.0), size));
+    by_size("triangles a thousandth as high as long by size", r, cases, |r, size| scaled(thin_triangle(r, 1e-3, 1.0), size));
+    by_size("corners in one line exactly by size", r, cases, line_of_size);
+    by_size("a = b by size", r, cases, |r, size| scaled(pinched_triangle(r, 0, 1.0), size));
+    for (title, out) in [("at most one side from the origin", 1.0), ("ten sides from the origin", 10.0), ("a thousand sides from the origin", 1000.0)] {
+        survey(&format!("two or three corners the same, {title}"), r, 4 * cases, false, |r, i| vec![pinched_triangle(r, i, out)]);
+        survey(&format!("rounded corners of a line, {title}"), r, cases, false, |r, _| vec![thin_triangle(r, 0.0, out)]);
     }
+    // So far that all three corners are in the same direction, at a right angle to a side.
+    survey_at("triangles of 0.001 seen from as far as can be, along axes and diagonals", r, cases, false, |r, _| {
+        let point = lattice_triangle(r, LIMIT)[0];
+        Case { tris: vec![lattice_triangle(r, 0.001)], point }
+    });
 }
