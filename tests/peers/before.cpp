@@ -1,11 +1,12 @@
 // This text's library beside that of an earlier text, in one process, turn about: build, tree check and sure query over both
 // strategies with leaf minimum 1, 4 and 10, processor time, the least of TURNS turns, each first in every other turn. Trees and
-// answers of the two are compared word for word. A line a tree, times in microseconds a call:
+// answers of the two are compared word for word: trees must be the same, and of the points the line tells how many are answered
+// otherwise, since a text may measure what an earlier one did not. A line a tree, times in microseconds a call:
 //
-//     before CASE TREE NODES build NOW BEFORE RATIO check NOW BEFORE RATIO sure NOW BEFORE RATIO
+//     before CASE TREE NODES build NOW BEFORE RATIO check NOW BEFORE RATIO sure NOW BEFORE RATIO otherwise POINTS
 //
 // The earlier library's exports are renamed from timing_ to was_. Where its build is lent no working lists, it passes over those
-// arguments. Its sure query has no rule; this one is asked by rule 1.
+// arguments. Both sure queries are asked by rule 1; of a text before there was a rule, was_sure is declared and called without it.
 //
 //     rt staticlib test_exports          (in the engine's folder, and in that of the earlier text: libtest_exports.a, was.a)
 //     nm -g --defined-only was.a | sed -n 's/.* timing_\(.*\)/timing_\1 was_\1/p' > names && objcopy --redefine-syms names was.a
@@ -29,13 +30,10 @@ using Build = size_t(const float *, size_t, size_t strategy, size_t leaf, size_t
 using Check = uint32_t(const float *, size_t, const uint32_t *, size_t, const uint32_t *, size_t, const float *, size_t, size_t nodes);
 using Sure = uint32_t(const float *, size_t, const uint32_t *, size_t, const uint32_t *, size_t, const float *, size_t, size_t nodes,
                       const float *, size_t, float distance, uint32_t rule, uint32_t *, size_t);
-using SureBefore = uint32_t(const float *, size_t, const uint32_t *, size_t, const uint32_t *, size_t, const float *, size_t, size_t nodes,
-                            const float *, size_t, float distance, uint32_t *, size_t);
 extern "C" {
 Build timing_build, was_build;
 Check timing_check, was_check;
-Sure timing_sure;
-SureBefore was_sure;
+Sure timing_sure, was_sure;
 }
 
 static double now() {
@@ -109,10 +107,8 @@ int main(int argc, char **argv) {
       };
       auto sure = [&](int was) {
         auto &a = answers[was];
-        good &= was ? was_sure(t.data(), t.size(), k.order.data(), n, k.links.data(), k.links.size(), k.boxes.data(), k.boxes.size(), k.nodes,
-                               points.data(), points.size(), limit, a.data(), a.size())
-                    : timing_sure(t.data(), t.size(), k.order.data(), n, k.links.data(), k.links.size(), k.boxes.data(), k.boxes.size(), k.nodes,
-                                  points.data(), points.size(), limit, 1, a.data(), a.size());
+        good &= (was ? was_sure : timing_sure)(t.data(), t.size(), k.order.data(), n, k.links.data(), k.links.size(), k.boxes.data(), k.boxes.size(),
+                                               k.nodes, points.data(), points.size(), limit, 1, a.data(), a.size());
       };
       build(0), build(1);
       if (k.nodes == 0 || k.nodes != trees[1].nodes || k.order != trees[1].order || k.links != trees[1].links ||
@@ -122,8 +118,10 @@ int main(int argc, char **argv) {
       race("build", turns, build);
       race("check", turns, check);
       race("sure", turns, sure);
-      printf("\n");
+      size_t otherwise = 0;
+      for (size_t at = 0; at < answers[0].size(); at += 6) otherwise += memcmp(&answers[0][at], &answers[1][at], 24) != 0;
+      printf(" otherwise %zu\n", otherwise);
       fflush(stdout);
-      if (!good || answers[0] != answers[1]) refused("the answers differ");
+      if (!good) refused("a call is refused");
     }
 }
