@@ -96,7 +96,7 @@
 
 /* Of this header: the first number changes when a host must change. */
 #define GAUGE_VERSION_MAJOR 4
-#define GAUGE_VERSION_MINOR 0
+#define GAUGE_VERSION_MINOR 1
 
 #define GAUGE_MAX_TRIANGLES 65536
 #define GAUGE_MAX_LEAF_MINIMUM 65536
@@ -289,9 +289,10 @@ uint64_t gauge_check(const float *triangles, size_t triangles_length, const uint
  *                distance does not. GAUGE_RULE_BELOW_OR_EQUAL: both count
  *
  * A part that was gauged by one rule keeps it: ask by the same rule, and its readings stay as they were.
- * GAUGE_RULE_BELOW answers what gauge_sure answered before it took a rule. The two differ at a point only
- * where its nearest is at exactly the distance: there the first finds nothing, the second that nearest.
- * The squares are compared, each a float: the answer's squared distance, and distance times itself, rounded.
+ * GAUGE_RULE_BELOW answers what gauge_sure answered before it took a rule, but for triangles that have no
+ * computed point (the last of the hazards). The two differ at a point only where its nearest is at exactly
+ * the distance: there the first finds nothing, the second that nearest. The squares are compared, each a
+ * float: the answer's squared distance, and distance times itself, rounded.
  *
  * Of answers that were kept: a larger distance changes none that was found, nor does
  * GAUGE_RULE_BELOW_OR_EQUAL at the same distance one that GAUGE_RULE_BELOW found. Triangles appended behind
@@ -302,8 +303,10 @@ uint64_t gauge_check(const float *triangles, size_t triangles_length, const uint
  * the surface, those whose squared distance is exactly 0. Corners are, save of triangles that are tiny, thin
  * or without area; a point on a slanting edge or face is mostly a rounding away from it and is not found. A
  * distance of 2^-75 or less is 0 when it is squared.
- * Of a triangle thinner than about 1:100, or without area, the computed point may be off, mostly too far
- * (docs/DIFFERENCES.md, "The hazard that stays").
+ * Of a triangle thinner than about 1:100, or with three different corners in one line, the computed point may
+ * be off, mostly too far (docs/DIFFERENCES.md, "The hazard that stays"). One with two equal corners is measured
+ * as the edge that it is, right to rounding. Before header 4.1 it had no computed point at most points where
+ * the equal corners are a and b, and was measured from there, too far by up to its length.
  *
  * Counted: the points answered, from the front of answers.
  * Refused: GAUGE_RAGGED, GAUGE_NONE, GAUGE_TOO_MANY, GAUGE_COORDINATE, GAUGE_SETTING where rule is neither

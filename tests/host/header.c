@@ -27,7 +27,7 @@ static void expect_numbers(void)
 {
     const uint64_t point = (uint64_t)1 << 63 | 17, layout = (uint64_t)10 << 56 | 14;
     const uint64_t scale = (uint64_t)GAUGE_SCALE << 56, stl = (uint64_t)GAUGE_STL << 56 | 134, box = (uint64_t)GAUGE_TREE_BOX << 56 | 131070;
-    expect(GAUGE_VERSION_MAJOR == 4 && GAUGE_VERSION_MINOR == 0, "the header's version");
+    expect(GAUGE_VERSION_MAJOR == 4 && GAUGE_VERSION_MINOR == 1, "the header's version");
     expect(sizeof(struct gauge_answer) == GAUGE_ANSWER_BYTES && sizeof(float) == 4, "an answer has 24 bytes");
     expect(!gauge_refused(4096) && gauge_number(4096) == 0, "a count is no refusal");
     expect(gauge_refused(point) && gauge_number(point) == GAUGE_POINT && gauge_place(point) == 17, "a refusal of points");
