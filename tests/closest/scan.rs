@@ -1,7 +1,7 @@
-//! The sure query as a plain scan, written from the scope document alone, std only: for each triangle
-//! the computed closest point, corner a where a coordinate is not finite, held into the triangle's
-//! box, zeros plus zero; the smallest squared distance that counts by the rule, the lowest number
-//! among equals.
+//! The sure query as a plain scan, written from the scope document and its request about pinched
+//! triangles alone, std only: for each triangle the computed closest point or, where a coordinate is not
+//! finite, the nearest of its feet on the edges, held into the triangle's box, zeros plus zero; the
+//! smallest squared distance that counts by the rule, the lowest number among equals.
 
 pub type V = [f32; 3];
 
@@ -50,9 +50,12 @@ pub fn closest(t: &[V; 3], p: V) -> V {
     along(along(a, ab, vb * denominator), ac, vc * denominator)
 }
 
-pub fn held(t: &[V; 3], p: V) -> V {
-    let computed = closest(t, p);
-    let mut q = if computed.iter().all(|x| x.is_finite()) { computed } else { t[0] };
+fn squared(q: V, p: V) -> f32 {
+    dot(sub(q, p), sub(q, p))
+}
+
+/// Into the triangle's box, zeros plus zero.
+fn into_box(t: &[V; 3], mut q: V) -> V {
     for i in 0..3 {
         let lo = t[0][i].min(t[1][i]).min(t[2][i]);
         let hi = t[0][i].max(t[1][i]).max(t[2][i]);
@@ -65,6 +68,45 @@ pub fn held(t: &[V; 3], p: V) -> V {
         q[i] += 0.0;
     }
     q
+}
+
+/// Whether the triangle has a computed point: where it has none, a foot stands in.
+pub fn is_computed(t: &[V; 3], p: V) -> bool {
+    closest(t, p).iter().all(|x| x.is_finite())
+}
+
+/// The foot on an edge, held into the triangle's box.
+#[derive(Clone, Copy)]
+pub struct Foot {
+    /// The share of the edge before it is held to 0 and 1; none where edge·edge is zero, and the foot is the start.
+    pub share: Option<f32>,
+    pub point: V,
+    pub squared: f32,
+}
+
+/// On the edges ab, ac and bc.
+pub fn feet(t: &[V; 3], p: V) -> [Foot; 3] {
+    let [a, b, c] = *t;
+    [(a, b), (a, c), (b, c)].map(|(start, end)| {
+        let edge = sub(end, start);
+        let square = dot(edge, edge);
+        let share = if square == 0.0 { None } else { Some(dot(edge, sub(p, start)) / square) };
+        let point = into_box(t, share.map_or(start, |s| along(start, edge, s.max(0.0).min(1.0))));
+        Foot { share, point, squared: squared(point, p) }
+    })
+}
+
+/// The index of the foot that is kept: the nearest, the earlier edge among equals.
+pub fn kept(feet: &[Foot; 3]) -> usize {
+    (1..3).fold(0, |best, k| if feet[k].squared < feet[best].squared { k } else { best })
+}
+
+pub fn held(t: &[V; 3], p: V) -> V {
+    if is_computed(t, p) {
+        return into_box(t, closest(t, p));
+    }
+    let feet = feet(t, p);
+    feet[kept(&feet)].point
 }
 
 /// Whether a squared distance counts: by rule 1 strictly below the limit squared, by rule 2 below or equal.
@@ -81,7 +123,7 @@ pub fn scan_each<const N: usize>(tris: &[[V; 3]], p: V, asked: [(f32, u32); N]) 
     let mut best: [Option<(u32, V, f32)>; N] = [None; N];
     for (k, t) in tris.iter().enumerate() {
         let q = held(t, p);
-        let d = dot(sub(q, p), sub(q, p));
+        let d = squared(q, p);
         for (best, (distance, rule)) in best.iter_mut().zip(asked) {
             if counts(d, distance * distance, rule) && best.map_or(true, |b| d < b.2) {
                 *best = Some((k as u32, q, d));

@@ -64,4 +64,7 @@ extern uint64_t plain_level[2];
 /* How many nodes were far from a point, and of how many of them the far term was not finite. */
 extern uint64_t plain_far, plain_far_not_finite;
 
+/* Of how many triangles that plain_sure measured the closest point was no number, by the edge whose foot was kept: ab, ac, bc. */
+extern uint64_t plain_feet[3];
+
 #endif
