@@ -3,8 +3,9 @@
  *
  *     fuzz CALLS [SEED]
  *
- * First each bad image, each bad STL, each bad tree, each small length, each rule and each step about the distance of
- * a point in turn, then drawings, damages and questions by chance, until so many calls are made. Each list and slice stands flush with a page that
+ * First each bad image, each bad STL, each bad tree, each small length, each rule, each step about the distance of
+ * a point and each kind of foot in turn, then drawings, damages and questions by chance, until so many calls are
+ * made. Each list and slice stands flush with a page that
  * cannot be touched, before it or behind it, and has other bytes beside it: a byte read or written
  * outside ends the program or is counted as a difference, and so is a byte that a refused call writes.
  * The exit status is 0 where nothing differs and, of ENOUGH calls or more, each call was done and refused
@@ -356,15 +357,47 @@ static float bad_coordinate(void)
     return bad[below(sizeof bad / sizeof *bad)];
 }
 
+/* A triangle that may have no computed point: corners that are the same, corners in one line, and sides of about 1e-10, where the
+ * inverse of a square's square is infinite, or so short that their squares run under, seen from where their products with a point do not. */
+enum { SAME, LINE, SHORT, UNDER, DEGENERATE };
+
+static void make_degenerate(float *t, unsigned kind, float size)
+{
+    /* b is a, c is a, c is b, all are one; of many magnitudes, so that differences round */
+    unsigned same = below(4), magnitudes = below(2) ? 24 : 1;
+    float step = ldexpf(1, (int)below(8) - 4), side = ldexpf(1, kind == SHORT ? -31 - (int)below(6) : -70 - (int)below(18));
+    float slope[3], span = ldexpf(side, (int)below(12));
+    for (int k = 0; k < 3; k++) {
+        t[k] = kind == LINE ? (float)below(9) * step : between(-span, span);
+        slope[k] = (float)((int)below(5) - 2) * step;
+    }
+    for (int corner = 1; corner < 3; corner++) {
+        float times = (float)((int)below(7) - 3), length = kind == UNDER && below(2) ? ldexpf(side, -(int)below(12)) : side;
+        for (int k = 0; k < 3; k++)
+            t[3 * corner + k] = t[k] + (kind == LINE ? times * slope[k] : between(-length, length));
+    }
+    for (int k = 0; k < 9 && kind == SAME; k++)
+        t[k] = ldexpf(between(-size, size), -(int)below(magnitudes));
+    if (kind == SAME || below(8) == 0)
+        for (int k = 0; k < 3; k++) {
+            if (same == 0 || same == 3)
+                t[3 + k] = t[k];
+            if (same != 0)
+                t[6 + k] = same == 2 ? t[3 + k] : t[k];
+        }
+}
+
 static void make_drawing(size_t n)
 {
     static const float sizes[] = {1e-40f, 1e-22f, 1e-12f, 1e-3f, 1, 10, 1000, 1048576};
     float size = sizes[below(sizeof sizes / sizeof *sizes)], edge = between(0, 1) * size;
-    unsigned kind = below(9);
+    unsigned kind = below(9 + DEGENERATE);
     for (size_t i = 0; i < n; i++) {
         float *t = drawing + 9 * i;
         float start[3] = {between(-size, size), between(-size, size), between(-size, size)};
-        for (int k = 0; k < 9; k++) {
+        if (kind > 8)
+            make_degenerate(t, kind - 9, size);
+        for (int k = 0; k < 9 && kind < 9; k++) {
             if (kind == 0) /* anywhere */
                 t[k] = between(-size, size);
             else if (kind == 1) /* small, spread out */
@@ -389,12 +422,42 @@ static void make_drawing(size_t n)
     }
 }
 
+static float in_range(float x)
+{
+    return fabsf(x) <= GAUGE_MAX_COORDINATE ? x : 1048576.0f;
+}
+
+/* By an edge, before its start or past its end, and off it by nothing, by up to its length or by much more; or straight over the face. */
+static void make_point_by_edge(const float *t, float *point)
+{
+    unsigned edge = below(3), off = below(4);
+    const float *from = t + (edge == 2 ? 3 : 0), *to = t + (edge == 0 ? 3 : 6), *third = t + (edge == 0 ? 6 : edge == 1 ? 3 : 0);
+    double along[3], side[3], share = below(4) ? between(-0.5f, 1.5f) : (double)below(2), inward = 0, up = 0, length = 0;
+    for (int k = 0; k < 3; k++) {
+        along[k] = (double)to[k] - from[k];
+        side[k] = (double)third[k] - from[k];
+        length = fmax(length, fabs(along[k]));
+    }
+    if (off == 3 && length > 0) {
+        share = between(0, 1);
+        inward = between(0, 1) * (1 - share);
+        up = between(-2, 2) / length;
+    }
+    float far = (float)(off == 1 ? length : off == 2 ? ldexp(length, (int)below(24)) : 0);
+    for (int k = 0; k < 3; k++) {
+        int next = (k + 1) % 3, last = (k + 2) % 3;
+        double across = along[next] * side[last] - along[last] * side[next];
+        point[k] = in_range((float)(from[k] + share * along[k] + inward * side[k] + up * across) + between(-far, far));
+    }
+}
+
 static void make_points(size_t n, size_t triangles)
 {
     for (size_t i = 0; i < n; i++) {
         const float *t = drawing + 9 * below((unsigned)triangles), *u = drawing + 9 * below((unsigned)triangles);
-        unsigned kind = below(7);
-        float s = between(0, 1), r = between(0, 1);
+        unsigned kind = below(9);
+        float s = between(0, 1), r = between(0, 1), by_edge[3];
+        make_point_by_edge(t, by_edge);
         for (int k = 0; k < 3; k++) {
             float corner = t[3 * below(3) + k], x = corner;
             if (kind == 1) /* on a triangle */
@@ -409,7 +472,9 @@ static void make_points(size_t n, size_t triangles)
                 x = between(-1048576, 1048576);
             else if (kind == 6)
                 x = good_bits();
-            touched[3 * i + k] = fabsf(x) <= GAUGE_MAX_COORDINATE ? x : 1048576.0f;
+            else if (kind > 6)
+                x = by_edge[k];
+            touched[3 * i + k] = in_range(x);
         }
     }
 }
@@ -1239,6 +1304,53 @@ static void each_level(void)
     }
 }
 
+/* What the sure query answers where a triangle has no computed point, by hand. 0x1p-33f is about 1e-10. */
+static void each_foot(void)
+{
+    static const struct { float corners[9], point[3]; struct gauge_answer answer; } feet[] = {
+        {{0, 0, 0, 0, 0, 0, 4, 0, 0}, {1, 1, 0}, {1, 0, 1, 0, 0, 1}}, /* the example E7 */
+        {{0, 0, 0, 0, 0, 0, 4, 0, 0}, {9, 0, 3}, {1, 0, 4, 0, 0, 34}}, /* past the end of ac */
+        {{4, 0, 0, 4, 0, 0, 0, 0, 0}, {0, 0, 0}, {1, 0, 0, 0, 0, 0}}, /* at corner c */
+        {{1, 0, 0, 1, 0, 0, 0x1p-30f, 0, 0}, {-1, 0, 0}, {1, 0, 0x1p-30f, 0, 0, 1}}, /* a + (c - a) is 0, which is outside the box */
+        {{1, 0, 0, 1, 0, 0, 0x1.8p-25f, 0, 0}, {-1, 0, 0}, {1, 0, 0x1p-24f, 0, 0, 1}}, /* it is 2^-24, in the box and not c */
+        {{0, 0, 0, 0x1p-24f, -0x1p-24f, 0, 0x1p-25f, 1, 0}, {8, 8, 0}, {1, 0, 0x1p-25f, 1, 0, 113}}, /* past the end of ac and not of the box */
+        {{0, 0, 0, 0x1p-33f, 0, 0, 0, 0x1p-33f, 0}, {0x1p-35f, 0x1p-35f, 0}, {1, 0, 0x1p-35f, 0, 0, 0x1p-70f}}, /* on ab, and ac is level */
+        {{0, 0, 0, 0x1p-33f, 0, 0, 0, 0x1p-33f, 0}, {0x1p-36f, 0x1p-35f, 0}, {1, 0, 0, 0x1p-35f, 0, 0x1p-72f}}, /* on ac */
+        {{0, 0, 0, 0x1p-33f, 0, 0, 0, 0x1p-33f, 0}, {7 * 0x1p-37f, 7 * 0x1p-37f, 0}, {1, 0, 0x1p-34f, 0x1p-34f, 0, 0x1p-73f}}, /* on bc */
+        {{0, 0, 0, 0, 0, 0, 0x1p-70f, 0, 0}, {0x1p-69f, 0, 0}, {1, 0, 0x1p-70f, 0, 0, 0x1p-140f}}, /* the square of ac is subnormal */
+        {{0, 0, 0, 0, 0, 0, 0x1p-80f, 0, 0}, {1, 1, 0}, {1, 0, 0, 0, 0, 2}}, /* it has run under to zero: the start, which is a */
+        {{0, 0, 0x1p-10f, 0x1p-10f, 0, 0, 0, 0, 0}, {-1048576, 0, -1048576}, {1, 0, 0, 0, 0x1p-10f, 0x1p41f}}, /* from far off all are level */
+    };
+    for (size_t k = 0; k < sizeof feet / sizeof *feet; k++) {
+        struct gauge_answer said;
+        memcpy(drawing, feet[k].corners, 36);
+        Drawing d = make_tree(1, usual);
+        gauge_sure(d.triangles, 9, d.order, 1, d.links, 3, d.boxes, 6, 1, (const uint8_t *)feet[k].point, 12, GAUGE_MAX_DISTANCE, 1, (uint8_t *)&said, 24);
+        if (memcmp(&said, &feet[k].answer, 24) != 0)
+            differs("a foot is not where it was put by hand");
+        each_step(d, feet[k].point, 1);
+    }
+}
+
+/* Of each kind of triangle that may have none drawings by chance, each at many points by their edges. */
+static void each_degenerate(void)
+{
+    static const unsigned kinds[] = {SAME, LINE, SHORT, UNDER, SHORT, SHORT}; /* where sides are short each edge may be the nearest */
+    for (unsigned k = 0; k < 240; k++) {
+        size_t n = 1 + below(8), many = sizeof touched / 12;
+        Settings s = {1 + below(2), 1 + below(3), 64};
+        float size = ldexpf(1, (int)below(90) - 70);
+        for (size_t i = 0; i < n; i++)
+            make_degenerate(drawing + 9 * i, kinds[k % 6], size);
+        for (size_t i = 0; i < many; i++)
+            make_point_by_edge(drawing + 9 * below((unsigned)n), touched + 3 * i);
+        Drawing d = make_tree(n, s);
+        float distance = below(2) ? GAUGE_MAX_DISTANCE : level_distance(d, touched);
+        both_rules(d, bytes_of(touched, sizeof touched), distance);
+        ask_points(SOURCE, d, bytes_of(touched, sizeof touched), distance, 0, 24 * many);
+    }
+}
+
 static void in_turn(size_t n)
 {
     Slice points = bytes_of(touched, 36);
@@ -1515,6 +1627,10 @@ static int wrong_ends(void)
         fprintf(stderr, "fuzz: no node was far, or every far term was finite\n");
         wrong++;
     }
+    if (calls >= ENOUGH && (plain_feet[0] == 0 || plain_feet[1] == 0 || plain_feet[2] == 0)) {
+        fprintf(stderr, "fuzz: on one edge no foot was kept\n");
+        wrong++;
+    }
     return wrong;
 }
 
@@ -1536,6 +1652,8 @@ int main(int argc, char **argv)
         for (size_t n = 2; n <= 32; n *= 2)
             in_turn(n);
     each_level();
+    each_foot();
+    each_degenerate();
     each_depth();
     each_max();
     ask_limits();
@@ -1563,6 +1681,8 @@ int main(int argc, char **argv)
     }
     printf("at exactly the distance: %llu points by rule 1, %llu by rule 2; of %llu squared distances that a distance was sought for, %llu have one\n",
            (unsigned long long)plain_level[0], (unsigned long long)plain_level[1], (unsigned long long)roots_sought, (unsigned long long)roots_met);
+    printf("triangles measured without a computed point: %llu, %llu and %llu with a foot on ab, ac and bc\n",
+           (unsigned long long)plain_feet[0], (unsigned long long)plain_feet[1], (unsigned long long)plain_feet[2]);
     printf("seed %llu: %llu calls, %llu differences; %llu angles, %llu of them more than 2^-20 off; %llu far terms, %llu of them not finite\n",
            (unsigned long long)seed, (unsigned long long)calls, (unsigned long long)(differences + unknown), (unsigned long long)plain_angles,
            (unsigned long long)plain_angles_off, (unsigned long long)plain_far, (unsigned long long)plain_far_not_finite);
