@@ -324,6 +324,60 @@ fn long_with_rules(cases: &mut Vec<Vec<u8>>, random: &mut Random) {
     }
 }
 
+/// What is printed where a triangle has no computed point, by hand: two corners the same, as in the example E7, and sides of 2^-33, seen
+/// from 2^-35 and 2^-36 beside the corner a.
+fn feet(cases: &mut Vec<Vec<u8>>) {
+    const SHORT: f32 = 1.0 / 8589934592.0;
+    let pinched = [0.0, 0.0, 0.0, 0.0, 0.0, 0.0, 4.0, 0.0, 0.0];
+    let short = [0.0, 0.0, 0.0, SHORT, 0.0, 0.0, 0.0, SHORT, 0.0];
+    for (triangle, points, printed) in [
+        (pinched, vec![1.0, 1.0, 0.0], "0 found 0 3f800000 00000000 00000000 3f800000\n"),
+        (pinched, vec![9.0, 0.0, 3.0, 4.0, 0.0, 0.0], "0 found 0 40800000 00000000 00000000 42080000\n1 found 0 40800000 00000000 00000000 00000000\n"),
+        (short, vec![SHORT / 4.0, SHORT / 4.0, 0.0], "0 found 0 2e000000 00000000 00000000 1c800000\n"),
+        (short, vec![SHORT / 8.0, SHORT / 4.0, 0.0], "0 found 0 00000000 2e000000 00000000 1b800000\n"),
+    ] {
+        let run = Run { triangles: triangle.to_vec(), points, ..document() };
+        assert_eq!(reading::printed(&run.input()), format!("triangles 1 nodes 1 depth 1\n{printed}"));
+        each_rule(cases, &run);
+    }
+}
+
+/// Triangles that may have no computed point: corners that are the same, in one line, so near each other that the inverse of a square's
+/// square is infinite, or that squares run under; points by their edges.
+fn without_points(cases: &mut Vec<Vec<u8>>, random: &mut Random, kind: usize) {
+    let (triangles, points) = (1 + random.next(6), 1 + random.next(8));
+    let mut run = random.run(triangles, points);
+    let unit = [1.0, 0.25, 1.0 / (1u64 << 37) as f32, 1.0 / (1u128 << (72 + random.next(8))) as f32][kind];
+    for t in run.triangles.chunks_mut(9) {
+        if kind > 0 {
+            t.iter_mut().for_each(|x| *x = (random.next(33) as f32 - 16.0) * unit);
+        }
+        let (a, step, turns) = ([t[0], t[1], t[2]], [t[3], t[4], t[5]], [random.next(9) as f32 - 4.0, random.next(9) as f32 - 4.0]);
+        match (kind, random.next(6)) {
+            (0, 0) => t.copy_within(0..3, 6),
+            (0, 1) => t.copy_within(3..6, 6),
+            (0, 2) => (3..9).for_each(|i| t[i] = a[i % 3]),
+            (0, _) => t.copy_within(0..3, 3),
+            (1, _) => (3..9).for_each(|i| t[i] = a[i % 3] + turns[i / 6] * step[i % 3]),
+            _ => {}
+        }
+    }
+    for p in run.points.chunks_mut(3) {
+        let t = &run.triangles[9 * random.next(triangles) as usize..][..9];
+        let (start, end, third) = [(0, 3, 6), (0, 6, 3), (3, 6, 0)][random.next(3) as usize];
+        let over_edge = (random.next(13) as f32 / 8.0 - 0.25, 0.0);
+        let over_face = ((1 + random.next(4)) as f32 / 8.0, (1 + random.next(3)) as f32 / 8.0);
+        let ((share, inward), off) = ([over_edge, over_face][random.next(2) as usize], [0.0, 0.0, 1.0, 64.0][random.next(4) as usize]);
+        for i in 0..3 {
+            let (edge, side) = (t[end + i] - t[start + i], t[third + i] - t[start + i]);
+            let x = t[start + i] + share * edge + inward * side + off * (random.next(33) as f32 / 16.0 - 1.0) * edge;
+            p[i] = x.clamp(-1048576.0, 1048576.0);
+        }
+    }
+    run.distance = [1.0, 4194304.0][random.next(2) as usize];
+    cases.push([run.input(), rule(1 + random.next(2) as u16)].concat());
+}
+
 fn main() {
     let paths: Vec<String> = std::env::args().skip(1).collect();
     let mut cases = Vec::new();
@@ -348,6 +402,10 @@ fn main() {
         run.points = (0..3 * points).map(|_| random.coordinate(0)).collect();
         run.distance = random.next(4) as f32;
         each_rule(&mut cases, &run);
+    }
+    feet(&mut cases);
+    for i in 0..100 {
+        without_points(&mut cases, &mut random, [0, 2, 1, 2, 3, 2][i % 6]);
     }
     let mut inputs = std::fs::File::create(&paths[0]).unwrap();
     let mut answers = std::fs::File::create(&paths[1]).unwrap();
