@@ -50,7 +50,7 @@ pub fn closest(t: &[V; 3], p: V) -> V {
     along(along(a, ab, vb * denominator), ac, vc * denominator)
 }
 
-fn squared(q: V, p: V) -> f32 {
+pub fn squared(q: V, p: V) -> f32 {
     dot(sub(q, p), sub(q, p))
 }
 

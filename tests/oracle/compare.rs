@@ -2,11 +2,12 @@
 //! sure query against a plain scan. Prints counts and the first that differ, and ends with status 1 where any does.
 //! tests/compare builds and runs it.
 //!
-//!     compare [REQUESTS [POINTS [LARGE [LARGE_POINTS [LEVEL [WIDER]]]]]]
+//!     compare [REQUESTS [POINTS [LARGE [LARGE_POINTS [LEVEL [WIDER [FEET]]]]]]]
 //!
 //! 200,000 requests of up to 4,096 triangles and 10,000,000 points of as large drawings, then 408 requests of 4,096 to 65,536
 //! triangles and 100,000 points of drawings of 4,097 to 65,536, each by both measuring rules; then 5,000,000 points at exactly the
-//! distance of their nearest and a float more or less; then 5,000,000 points before and after a wider search and a patch.
+//! distance of their nearest and a float more or less; then 5,000,000 points before and after a wider search and a patch; then
+//! 2,000,000 points by the edges of triangles of which many have no computed point.
 //!
 //! This engine is given the numbers as they were made, minus zeros too; the oracle and the scan read each as itself plus zero.
 
@@ -20,6 +21,8 @@ use std::{collections::BTreeMap, time::Instant};
 
 #[path = "beside/asked.rs"]
 mod asked;
+#[path = "beside/degenerate.rs"]
+mod degenerate;
 #[path = "beside/engine.rs"]
 mod engine;
 #[path = "beside/scan.rs"]
@@ -52,13 +55,17 @@ const E: f32 = 1.0 / 1073741824.0;
 const NEAR: [f32; 9] = [-1.0, -4.0, 0.0, -E, 0.0, 0.0, -2.0, -4.0, 0.0];
 
 /// The smallest input for each: name, strategy, triangles, point, distance (leaf minimum 1, depth 40).
-const FAULTS: [(&str, u16, &[[f32; 9]], [f32; 3], f32); 20] = [
+const FAULTS: [(&str, u16, &[[f32; 9]], [f32; 3], f32); 24] = [
     ("last leaf read past its end", 1, &[T0], [0.0, 0.0, 1.0], 4.0),
     ("neighbouring leaf's first triangle measured", 1, &[WIDE, BESIDE], [4.0, 4.0, 0.0], 1.0),
     ("an answer that a larger distance changes", 1, &[WIDE, BESIDE], [4.0, 4.0, 0.0], 3.0),
     ("pinched, a = b", 1, &[PINCHED], [1.0, 1.0, 0.0], 10.0),
     ("pinched, a = b, asked at corner c", 1, &[[4.0, 0.0, 0.0, 4.0, 0.0, 0.0, 0.0, 0.0, 0.0]], [0.0, 0.0, 0.0], 10.0),
     ("pinched, a = b, with another far off", 1, &[PINCHED, AWAY], [1.0, 1.0, 0.0], 1000.0),
+    ("pinched, a = c", 1, &[[0.0, 0.0, 0.0, 4.0, 0.0, 0.0, 0.0, 0.0, 0.0]], [1.0, 1.0, 0.0], 10.0),
+    ("pinched, b = c", 1, &[[0.0, 0.0, 0.0, 4.0, 0.0, 0.0, 4.0, 0.0, 0.0]], [1.0, 1.0, 0.0], 10.0),
+    ("three corners the same", 1, &[[0.0, 0.0, 0.0, 0.0, 0.0, 0.0, 0.0, 0.0, 0.0]], [1.0, 1.0, 0.0], 10.0),
+    ("pinched, a = b, the square of its edge runs under", 1, &[[0.0, 0.0, 0.0, 0.0, 0.0, 0.0, 1e-24, 0.0, 0.0]], [1.0, 1.0, 0.0], 10.0),
     ("corners apart, asked from far off", 1, &[[0.0, 0.0, 0.001, 0.001, 0.0, 0.0, 0.0, 0.0, 0.0]], [-1048576.0, 0.0, -1048576.0], FAR),
     ("tiny", 1, &[[0.0, 0.0, 0.0, 1e-10, 0.0, 0.0, 0.0, 1e-10, 0.0]], [3e-11, 3e-11, 0.0], 1.0),
     ("beyond the limit, in the root", 1, &[T0], [100.0, 0.0, 0.0], 1.0),
@@ -98,7 +105,7 @@ fn faults() {
 
 /// How the source's answer and the sure one by rule 1 differ, if they do.
 fn why(source: Answer, sure: Answer, limit: f32, list: &[[[f32; 3]; 3]], p: [f32; 3]) -> &'static str {
-    let no_point = |t: u32| !scan::closest(&list[t as usize], p).iter().all(|x| x.is_finite());
+    let no_point = |t: u32| !scan::is_computed(&list[t as usize], p);
     match (source, sure) {
         _ if words(source) == words(sure) => "the same answer",
         (None, None) => "the same answer",
@@ -647,6 +654,118 @@ fn wider(count: u64) -> u64 {
     kept.print() + narrowed.print() + revised.print() + patched.print() + alone.print()
 }
 
+/// The oracle's kinds of which triangles may have no computed point, and two ordinary ones.
+const THEIR_KINDS: [&str; 10] = ["pinched", "collinear", "axisline", "lattice", "sliver", "tiny", "underflow", "negzero", "soup", "sphere"];
+
+/// What the scan answered before there were feet: corner a stood in.
+fn by_corner_a(list: &[[[f32; 3]; 3]], p: [f32; 3], distance: f32, rule: u32) -> Answer {
+    let mut best: Answer = None;
+    for (k, t) in list.iter().enumerate() {
+        let q = if scan::is_computed(t, p) { scan::held(t, p) } else { t[0] };
+        let d = scan::squared(q, p);
+        if scan::counts(d, distance * distance, rule) && best.map_or(true, |b| d < b.2) {
+            best = Some((k as u32, q, d));
+        }
+    }
+    best
+}
+
+/// What the plain reading says of the feet that were answered.
+#[derive(Default)]
+struct Feet {
+    /// By the edge that is kept.
+    edges: [u64; 3],
+    /// The start because edge·edge is zero, and of these those whose edge is not; then the share held at 0, at 1, and between.
+    starts: u64,
+    run_under: u64,
+    shares: [u64; 3],
+    /// Another edge is as near, and of these those where it has another point.
+    level: u64,
+    apart: u64,
+    /// The largest share before it is held. None is infinite: a side of below 2^-75 has the square zero, and no point is farther off than 2^23.
+    most: f32,
+}
+
+impl Feet {
+    fn note(&mut self, t: &[[f32; 3]; 3], p: [f32; 3]) {
+        let feet = scan::feet(t, p);
+        let kept = scan::kept(&feet);
+        self.edges[kept] += 1;
+        match feet[kept].share {
+            None => {
+                self.starts += 1;
+                self.run_under += (t[[0, 0, 1][kept]] != t[[1, 2, 2][kept]]) as u64;
+            }
+            Some(share) => self.shares[if share <= 0.0 { 0 } else if share >= 1.0 { 1 } else { 2 }] += 1,
+        }
+        let mut others = (0..3).filter(|&k| k != kept && feet[k].squared == feet[kept].squared).peekable();
+        self.level += others.peek().is_some() as u64;
+        self.apart += others.any(|k| feet[k].point != feet[kept].point) as u64;
+        self.most = feet.iter().filter_map(|foot| foot.share).fold(self.most, |most, share| most.max(share.abs()));
+    }
+
+    fn print(&self) {
+        let [ab, ac, bc] = self.edges;
+        let [at_0, at_1, between] = self.shares;
+        println!("  {} answers lie on a triangle without a computed point: {ab} on ab, {ac} on ac, {bc} on bc", ab + ac + bc);
+        println!("  {} are a start because edge·edge is zero, of {} the edge is not; the share is held at 0 in {at_0}, at 1 in {at_1}, between in {between}, at most {:e}", self.starts, self.run_under, self.most);
+        println!("  {} have another edge as near, {} of them at another point", self.level, self.apart);
+    }
+}
+
+/// Where triangles have no computed point. Points are by the edges, of the oracle's kinds every second one; trees are built by each
+/// strategy or, half of them, by no builder.
+fn feet(count: u64) -> u64 {
+    const EACH: usize = 50;
+    let (start, mut r) = (Instant::now(), Rng::new(10));
+    let mut sure = Tally::new("sure answers by the feet, against a plain scan");
+    let (mut seen, mut old, mut points, mut largest, mut i) = (Feet::default(), 0u64, 0u64, 0usize, 0u64);
+    while points < count {
+        let (own, turn) = (i % 2 == 0, i as usize / 2);
+        let kind = if own { degenerate::KINDS[turn % degenerate::KINDS.len()] } else { THEIR_KINDS[turn % THEIR_KINDS.len()] };
+        let most = [8, 8, 64][r.below(3)];
+        let size = if r.one_in(300) { [4096, 65 + r.below(4031)][r.below(2)] } else { 1 + r.below(most) };
+        let wish = Wish { points: Some(EACH), ..Wish::default() };
+        let mut a = Asked::new(if own { "soup" } else { kind }, 21_000_000 + i, size, &wish);
+        if own {
+            a.given = (0..size).flat_map(|_| degenerate::triangle(kind, &mut r)).flatten().collect();
+        }
+        let n = a.given.len() / 9;
+        for k in 0..EACH {
+            if own || k % 2 == 0 {
+                let t = r.below(n);
+                a.given_points[3 * k..3 * k + 3].copy_from_slice(&degenerate::by_edge(&a.given[9 * t..9 * t + 9], &mut r));
+            }
+        }
+        let read = |x: &[f32]| [x[0] + 0.0, x[1] + 0.0, x[2] + 0.0];
+        let list: Vec<[[f32; 3]; 3]> = a.given.chunks_exact(9).map(|t| [read(&t[..3]), read(&t[3..6]), read(&t[6..])]).collect();
+        let built = r.one_in(2);
+        let tree = if built { Tree::build(&a.given, 1 + r.below(2), 1 + r.below(4), 64) } else { grown(&list, &mut r) };
+        largest = largest.max(n);
+        let nearest = scan::scan(&list, read(&a.given_points), FAR, 1).and_then(|b| square_root_of(b.2));
+        let d = [FAR, FAR, a.distance, nearest.unwrap_or(FAR)][r.below(4)];
+        let ours = RULES.map(|rule| tree.sure(&a.given, &a.given_points, d, rule));
+        for (k, p) in a.given_points.chunks_exact(3).map(read).enumerate() {
+            let answers = scan::scan_each(&list, p, RULES.map(|rule| (d, rule)));
+            for (by, answer) in answers.into_iter().enumerate() {
+                let (got, want) = (ours[by].as_ref().map(|o| o[k]), words(answer));
+                let name = || format!("{kind} {i} of {n}, tree {}, distance={d:?} rule={}", if built { "built" } else { "grown" }, RULES[by]);
+                sure.note(got == Some(want), || format!("{}: point {k} {p:?}: {got:x?}, not {want:x?}", name()));
+                if let Some((t, ..)) = answer.filter(|(t, ..)| !scan::is_computed(&list[*t as usize], p)) {
+                    seen.note(&list[t as usize], p);
+                }
+                old += (words(by_corner_a(&list, p, d, RULES[by])) != want) as u64;
+            }
+        }
+        points += EACH as u64;
+        i += 1;
+    }
+    println!("{points} points by the feet, {i} drawings of up to {largest} triangles over {} kinds of shape, half of the trees by no builder, {:.0} s", degenerate::KINDS.len() + THEIR_KINDS.len(), start.elapsed().as_secs_f64());
+    seen.print();
+    println!("  {old} answers were others when corner a stood in");
+    sure.print()
+}
+
 /// One triangle too many is refused by every call, and nothing is written.
 fn too_many() -> u64 {
     let mut refused = Tally::new("calls with 65,537 triangles, refused");
@@ -670,10 +789,11 @@ fn too_many() -> u64 {
 fn main() {
     let mut args = std::env::args().skip(1).map(|a| a.parse().expect("a number"));
     let mut next = |usual| args.next().unwrap_or(usual);
-    let (trees, points, large, large_points, level, wide) = (next(200_000), next(10_000_000), next(408), next(100_000), next(5_000_000), next(5_000_000));
+    let (trees, points, large, large_points) = (next(200_000), next(10_000_000), next(408), next(100_000));
+    let (level, wide, by_feet) = (next(5_000_000), next(5_000_000), next(2_000_000));
     faults();
     let small = requests(trees, request) + scans(points, small_size);
-    let differ = small + requests(large, large_request) + scans(large_points, large_size) + too_many() + levels(level) + wider(wide);
+    let differ = small + requests(large, large_request) + scans(large_points, large_size) + too_many() + levels(level) + wider(wide) + feet(by_feet);
     println!("{differ} differ");
     std::process::exit((differ > 0) as i32);
 }
