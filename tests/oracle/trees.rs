@@ -1,7 +1,7 @@
 //! Makes crates/test_trees/stdin: trees and source answers of the Rust, and sure answers of the
-//! plain scan in tests/closest/scan.rs, over all of the oracle's kinds of shape and its findings. Put
-//! this file and scan.rs into the oracle's src/bin/ (scan.rs in a folder src/bin/scan/) and run it
-//! there:
+//! plain scan in tests/closest/scan.rs, over all of the oracle's kinds of shape and its findings, then
+//! over triangles that may have no computed point. Put this file, scan.rs and degenerate.rs into the
+//! oracle's src/bin/ (the last two in a folder src/bin/scan/) and run it there:
 //!
 //!     cargo run --release --offline --bin trees findings/*.bin > crates/test_trees/stdin
 //!
@@ -10,12 +10,15 @@
 //! numbers a node, 6 words of the source answer a point, 6 words of the sure answer by rule 1 a point.
 
 use shark::{
-    cases::{make, Wish, KINDS},
-    request::{Request, P},
+    cases::{make, Rng, Wish, FAR, KINDS},
+    request::{Request, Settings, P},
     run::{caught, Any, Found, Variant},
 };
 use std::io::Write;
 
+#[path = "scan/degenerate.rs"]
+mod degenerate;
+#[allow(dead_code)]
 #[path = "scan/scan.rs"]
 mod scan;
 
@@ -53,6 +56,23 @@ fn case(r: Request, out: &mut Vec<u32>) {
     points.iter().for_each(|p| answer(out, scan::scan(&list, v(p), d, 1)));
 }
 
+/// One to three triangles that may have no computed point, and twenty points by their edges.
+fn without_points(kind: &str, seed: u64) -> Request {
+    let mut r = Rng::new(seed);
+    let given: Vec<f32> = (0..1 + seed % 3).flat_map(|_| degenerate::triangle(kind, &mut r)).flatten().collect();
+    let p = |x: &[f32]| P::new(x[0], x[1], x[2]);
+    let points = (0..20).map(|_| {
+        let t = 9 * r.below(given.len() / 9);
+        p(&degenerate::by_edge(&given[t..t + 9], &mut r))
+    });
+    Request {
+        points: Some(points.collect()),
+        settings: Some(Settings { version: 1, strategy: 1 + seed as u16 % 2, leaf_minimum: 1, depth: 40 }),
+        triangles: Some(given.chunks_exact(9).map(|t| [p(&t[..3]), p(&t[3..6]), p(&t[6..])]).collect()),
+        distance: Some(FAR),
+    }
+}
+
 fn main() {
     let args: Vec<String> = std::env::args().skip(1).collect();
     let mut out = Vec::new();
@@ -68,6 +88,9 @@ fn main() {
             let size = 1 + (seed as usize * 5) % 17;
             case(make(kind, seed, size, &Wish { points: Some(7), ..Wish::default() }), &mut out);
         }
+    }
+    for (kind, seeds) in degenerate::KINDS.into_iter().zip([8, 28, 16, 8]) {
+        (1..=seeds).for_each(|seed| case(without_points(kind, seed), &mut out));
     }
     let bytes: Vec<u8> = out.iter().flat_map(|w| w.to_le_bytes()).collect();
     std::io::stdout().write_all(&bytes).unwrap();
