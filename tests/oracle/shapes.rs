@@ -1,10 +1,13 @@
 //! Makes crates/test_shapes/stdin: what the Rust's own Box3, Plane3 and Triangle3 answer, over all
-//! of the oracle's kinds of shape. Put it into the oracle's src/bin/ and run it there:
+//! of the oracle's kinds of shape, and the sure query's point by the plain scan in tests/closest/scan.rs.
+//! Put this file and scan.rs into the oracle's src/bin/ (scan.rs in a folder src/bin/scan/) and run it
+//! there:
 //!
 //!     cargo run --release --offline --bin shapes > crates/test_shapes/stdin
 //!
-//! A case is 62 words, u32 little-endian: triangles T and U and a point p, then the answers in the
-//! order of `answers` below. Every NaN is written as 7fc00000.
+//! A case is 66 words, u32 little-endian: triangles T and U and a point p, then the answers in the
+//! order of `answers` below, then the sure query's point on T and its squared distance. Every NaN is
+//! written as 7fc00000.
 
 use shark::{
     cases::{make, Wish, KINDS},
@@ -15,6 +18,10 @@ use shark::{
     request::P,
 };
 use std::io::Write;
+
+#[allow(dead_code)]
+#[path = "scan/scan.rs"]
+mod scan;
 
 const SEEDS: u64 = 30;
 const PER_SEED: usize = 4;
@@ -68,6 +75,10 @@ fn main() {
                 t.iter().chain(&u).chain([&p]).for_each(|c| put(&mut out, c));
                 let of = |t: &[P; 3]| Triangle3::new(t[0], t[1], t[2]);
                 answers(&mut out, &of(&t), &of(&u), &p);
+                let v = |p: &P| [p.x, p.y, p.z];
+                let held = scan::held(&[v(&t[0]), v(&t[1]), v(&t[2])], v(&p));
+                out.extend(held.map(word));
+                out.push(word(scan::squared(held, v(&p))));
             }
         }
     }
