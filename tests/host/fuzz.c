@@ -1314,6 +1314,8 @@ static void each_foot(void)
         {{1, 0, 0, 1, 0, 0, 0x1p-30f, 0, 0}, {-1, 0, 0}, {1, 0, 0x1p-30f, 0, 0, 1}}, /* a + (c - a) is 0, which is outside the box */
         {{1, 0, 0, 1, 0, 0, 0x1.8p-25f, 0, 0}, {-1, 0, 0}, {1, 0, 0x1p-24f, 0, 0, 1}}, /* it is 2^-24, in the box and not c */
         {{0, 0, 0, 0x1p-24f, -0x1p-24f, 0, 0x1p-25f, 1, 0}, {8, 8, 0}, {1, 0, 0x1p-25f, 1, 0, 113}}, /* past the end of ac and not of the box */
+        /* on ac, since that on bc is nearer only until it is held into the box, and level then */
+        {{0, -2, 0, 0x1p-23f, -0x1.fffffep0f, 0, -2, 0x1p-21f, 0}, {-11, 9, 0}, {1, 0, -2, 0x1p-21f, 0, 162}},
         {{0, 0, 0, 0x1p-33f, 0, 0, 0, 0x1p-33f, 0}, {0x1p-35f, 0x1p-35f, 0}, {1, 0, 0x1p-35f, 0, 0, 0x1p-70f}}, /* on ab, and ac is level */
         {{0, 0, 0, 0x1p-33f, 0, 0, 0, 0x1p-33f, 0}, {0x1p-36f, 0x1p-35f, 0}, {1, 0, 0, 0x1p-35f, 0, 0x1p-72f}}, /* on ac */
         {{0, 0, 0, 0x1p-33f, 0, 0, 0, 0x1p-33f, 0}, {7 * 0x1p-37f, 7 * 0x1p-37f, 0}, {1, 0, 0x1p-34f, 0x1p-34f, 0, 0x1p-73f}}, /* on bc */

@@ -110,6 +110,34 @@ unfolding add sub mul div lt le eq round ofInt minus plus scale dot smallest lar
 tiny-worked binary32 = (refl, refl, refl, refl)
 tiny-worked binary64 = (refl, refl, refl, refl)
 
+-- a needle (0,-2,0) (d,-2+d,0) (-2,4d,0), d being the spacing below 2
+abbrev needle : Format → Triangle
+needle f = record {
+  a = flatPoint f (ofInt f (pos 0)) (ofInt f (negsuc 1));
+  b = flatPoint f (spacing f) (below f);
+  c = flatPoint f (ofInt f (negsuc 1)) (four f);
+}
+  where
+    spacing : Format → Float
+    spacing binary32 = fin false 1 (negsuc 22)
+    spacing binary64 = fin false 1 (negsuc 51)
+
+    below : Format → Float
+    below binary32 = fin true (2 ^ 24 - 1) (negsuc 22)
+    below binary64 = fin true (2 ^ 53 - 1) (negsuc 51)
+
+    four : Format → Float
+    four binary32 = fin false 1 (negsuc 20)
+    four binary64 = fin false 1 (negsuc 49)
+
+-- Seen square to ab the needle has no closest point. The foot on bc is past the end of the box, and nearer than that on ac until it is held; then the two
+-- are level, and that on ac, which is c, is kept.
+pub needle-worked : (f : Format) → byFeet f (needle f) (point f (negsuc 10) (pos 9) (pos 0)) ≡ (false, needle f .c)
+unfolding add sub mul div lt le eq round ofInt minus plus scale dot smallest largest isFinite plusZero squaredDistance heldIn boxOf dots crossed part along
+    facePoint pointOn closestPoint foot finiteOr heldFoot nearerFoot nearestFoot heldPoint
+needle-worked binary32 = refl
+needle-worked binary64 = refl
+
 -- ---- boxes and planes
 -- the squared distance to (7,-4,0), whether (4,2,0) and (4,3,0) are inside, the point of the box closest to (7,1,1), the centre, the area, and where
 -- (1,2,2) lies
