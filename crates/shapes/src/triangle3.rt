@@ -244,9 +244,9 @@ fn nearer_foot(p: Vec3, first: Vec3, second: Vec3) -> Vec3
     }
 }
 
-// q, or its stand-in s where a coordinate of q is not finite.
-fn finite_or(s: Vec3, q: Vec3) -> Vec3
-    ensures { λ r. ⌜ Values.asPoint r ≡ Triangles.finiteOr (Values.asPoint s) (Values.asPoint q) ⌝ }
+// q, or a where a coordinate of q is not finite.
+fn finite_or(a: Vec3, q: Vec3) -> Vec3
+    ensures { λ r. ⌜ Values.asPoint r ≡ Triangles.finiteOr (Values.asPoint a) (Values.asPoint q) ⌝ }
 {
-    if q.is_finite() { q } else { s }
+    if q.is_finite() { q } else { a }
 }

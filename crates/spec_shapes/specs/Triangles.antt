@@ -111,9 +111,9 @@ foot f start end p =
     let size = dot f edge edge in
     cond (eq size zero) start (along f start edge (held zero one (div f (dot f edge (minus f p start)) size)))
 
--- q, or its stand-in s where a coordinate of q is not finite
+-- q, or a where a coordinate of q is not finite
 unfoldable pub finiteOr : Point → Point → Point
-finiteOr s q = cond (isFinite q) q s
+finiteOr a q = cond (isFinite q) q a
 
 -- the foot held into the triangle's box. It is finite for coordinates in range (`foot-as-told`); elsewhere the start stands in, so that no law needs a range.
 unfoldable pub heldFoot : Format → Triangle → Point → Point → Point → Point
