@@ -40,7 +40,7 @@ module _ (f : Format) (start end p : Point) (S : PointWithin (2 ^ 20) start) (E 
           let step = scale-within f (2 ^ 21) 1 edge _ edge-within (share-within f _ _ over under (h tt)) (power f 21 (lit≤ tt)) in
           plus-within f (2 ^ 21) (2 ^ 21) _ _ (point-within-more start (lit≤ tt) S) step (power f 22 (lit≤ tt))
 
-  -- its start never stands in for it
+  -- so the guard never acts: what is held and compared is the foot as the request tells it
   pub foot-as-told : finiteOr start (foot f start end p) ≡ foot f start end p
   unfolding finiteOr
   foot-as-told = rw (is-true (isFinite (foot f start end p)) (within-is-finite (2 ^ 22) (foot f start end p) foot-within))

@@ -59,6 +59,15 @@ abbrev beforeOne : Format → Float
 beforeOne binary32 = fin false (2 ^ 24 - 1) (negsuc 23)
 beforeOne binary64 = fin false (2 ^ 53 - 1) (negsuc 52)
 
+-- a side whose square runs under to zero, and a place from which its two ends are not equally far
+abbrev runsUnder : Format → Float
+runsUnder binary32 = fin false 1 (negsuc 79)
+runsUnder binary64 = fin false 1 (negsuc 539)
+
+abbrev pastIt : Format → Float
+pastIt binary32 = fin false 1 (negsuc 59)
+pastIt binary64 = fin false 1 (negsuc 519)
+
 module _ (f : Format) where
   abbrev flatPoint : Float → Float → Point
   flatPoint x y = record { x = x; y = y; z = ofInt f (pos 0) }
@@ -86,18 +95,19 @@ module _ (f : Format) where
   abbrev byFeet : Triangle → Point → Bool × Point
   byFeet t p = (isFinite (closestPoint f t p), heldPoint f t p)
 
--- Pinched: over the side, past its end, at corner c; and with an end that start + edge misses: it goes past, and the foot is held into the box, or it
--- falls short, and the foot stays there.
+-- Pinched: over the side, past its end, at corner c; with an end that start + edge misses: it goes past, and the foot is held into the box, or it falls
+-- short, and the foot stays there; and with a side whose square is zero, which is its start.
 pub pinched-worked : (f : Format)
     → (byFeet f (pinched f (ofInt f (pos 0)) (ofInt f (pos 4))) (point f (pos 1) (pos 1) (pos 0)) ≡ (false, point f (pos 1) (pos 0) (pos 0)))
     × (byFeet f (pinched f (ofInt f (pos 0)) (ofInt f (pos 4))) (point f (pos 9) (pos 1) (pos 0)) ≡ (false, point f (pos 4) (pos 0) (pos 0)))
     × (byFeet f (pinched f (ofInt f (pos 4)) (ofInt f (pos 0))) (point f (pos 0) (pos 0) (pos 0)) ≡ (false, point f (pos 0) (pos 0) (pos 0)))
     × (byFeet f (pinched f (ofInt f (pos 1)) (unseen f)) (point f (negsuc 0) (pos 0) (pos 0)) ≡ (false, flatPoint f (unseen f) (ofInt f (pos 0))))
     × (byFeet f (pinched f (slightly f) (ofInt f (pos 1))) (point f (pos 2) (pos 0) (pos 0)) ≡ (false, flatPoint f (beforeOne f) (ofInt f (pos 0))))
+    × (byFeet f (pinched f (ofInt f (pos 0)) (runsUnder f)) (flatPoint f (pastIt f) (ofInt f (pos 0))) ≡ (false, point f (pos 0) (pos 0) (pos 0)))
 unfolding add sub mul div lt le eq round ofInt minus plus scale dot smallest largest isFinite plusZero squaredDistance heldIn boxOf dots crossed part along
     facePoint pointOn closestPoint foot finiteOr heldFoot nearerFoot nearestFoot heldPoint
-pinched-worked binary32 = (refl, refl, refl, refl, refl)
-pinched-worked binary64 = (refl, refl, refl, refl, refl)
+pinched-worked binary32 = (refl, refl, refl, refl, refl, refl)
+pinched-worked binary64 = (refl, refl, refl, refl, refl, refl)
 
 -- Tiny: level on ab and ac, nearest on ac, nearest on bc; and level on ac and bc.
 pub tiny-worked : (f : Format)
