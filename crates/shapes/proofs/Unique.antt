@@ -2,13 +2,13 @@
 use mathlib.Core.Path.{_≡_, ap, refl, sym, _∙_}
 use Rattle.spec_shapes.specs.Points.{Point}
 use Rattle.shapes.specs.declared.vec3.Vec3.{Vec3}
-use Rattle.shapes.specs.Values.{asPoint, asBox, asTriangle, asDots, asPart, asMeasured, asPlane}
+use Rattle.shapes.specs.Values.{asPoint, asBox, asTriangle, asDots, asPart, asSpot, asPlane}
 use Rattle.spec_shapes.specs.Boxes.{Box}
 use Rattle.shapes.specs.declared.box3.Box3.{Box3}
 use Rattle.spec_shapes.specs.Triangles as Triangles
 use Rattle.shapes.specs.declared.triangle3.Triangle3.{Triangle3}
 use Rattle.shapes.specs.declared.triangle3.Dots.{Dots}
-use Rattle.shapes.specs.declared.triangle3.Measured.{Measured}
+use Rattle.shapes.specs.declared.triangle3.Spot.{Spot}
 use Rattle.shapes.specs.declared.triangle3.Part.{Part}
 use Rattle.shapes.specs.declared.triangle3.Part.the-variants.{Face, CornerA, CornerB, CornerC, EdgeAB, EdgeAC, EdgeBC}
 use Rattle.spec_shapes.specs.Planes.{Plane}
@@ -66,12 +66,11 @@ part-is EdgeBC = refl
 pub part-unique : (a b : Part) → asPart a ≡ asPart b → a ≡ b
 part-unique a b e = sym (part-is a) ∙ ap backPart e ∙ part-is b
 
-abbrev backMeasured : Triangles.Measured → Measured
-backMeasured m = record { point = backPoint (m .point); squared = m .squared }
-
--- what a measured point stands for fixes it
-pub measured-unique : (a b : Measured) → asMeasured a ≡ asMeasured b → a ≡ b
-measured-unique a b e = ap backMeasured e
+-- what a spot stands for fixes it
+pub spot-unique : (a b : Spot) → asSpot a ≡ asSpot b → a ≡ b
+spot-unique a b e =
+    ap (λ (part : Part). record { point = a .point; part = part }) (part-unique (a .part) (b .part) (ap (λ (s : Triangles.Spot). s .part) e))
+    ∙ ap (λ (point : Vec3). record { point = point; part = b .part }) (ap (λ (s : Triangles.Spot). backPoint (s .point)) e)
 
 abbrev backPlane : Plane → Plane3
 backPlane p = record { normal = backPoint (p .normal); distance = p .distance }

@@ -9,7 +9,7 @@ use Rattle.shapes.specs.declared.box3.Box3.{Box3}
 use Rattle.spec_shapes.specs.Triangles as Triangles
 use Rattle.shapes.specs.declared.triangle3.Triangle3.{Triangle3}
 use Rattle.shapes.specs.declared.triangle3.Dots.{Dots}
-use Rattle.shapes.specs.declared.triangle3.Measured.{Measured}
+use Rattle.shapes.specs.declared.triangle3.Spot.{Spot}
 use Rattle.shapes.specs.declared.triangle3.Part.{Part}
 use Rattle.shapes.specs.declared.triangle3.Part.the-variants.{Face, CornerA, CornerB, CornerC, EdgeAB, EdgeAC, EdgeBC}
 use Rattle.spec_shapes.specs.Planes.{Plane}
@@ -41,8 +41,8 @@ asPart EdgeAB = Triangles.edgeAB
 asPart EdgeAC = Triangles.edgeAC
 asPart EdgeBC = Triangles.edgeBC
 
-abbrev pub asMeasured : Measured → Triangles.Measured
-asMeasured m = record { point = asPoint (m .point); squared = m .squared }
+abbrev pub asSpot : Spot → Triangles.Spot
+asSpot s = record { point = asPoint (s .point); part = asPart (s .part) }
 
 abbrev pub asPlane : Plane3 → Plane
 asPlane p = record { normal = asPoint (p .normal); distance = p .distance }

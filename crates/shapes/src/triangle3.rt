@@ -1,6 +1,8 @@
-// A triangle, its box, the source's closest point of it, and the sure query's point of it.
+// A triangle, its box, the source's closest point of it, and the sure query's point of it, each with the part that was hit.
 ghost use mathlib.Core.Path.{_≡_};
 ghost use lib.Ieee.{binary32};
+ghost use Rattle.spec_shapes.specs.Points as Points;
+ghost use Rattle.spec_shapes.specs.Boxes as Boxes;
 ghost use Rattle.spec_shapes.specs.Triangles as Triangles;
 ghost use Rattle.shapes.specs.Values as Values;
 use crate::box3::Box3;
@@ -23,6 +25,12 @@ pub enum Part {
     EdgeBC,
 }
 
+// A point of a triangle, and the part that was hit.
+pub struct Spot {
+    pub point: Vec3,
+    pub part: Part,
+}
+
 // What the tests for the closest part compare: the dot products of the edges ab and ac with the point as seen from a (d1, d2),
 // from b (d3, d4) and from c (d5, d6).
 pub struct Dots {
@@ -34,10 +42,45 @@ pub struct Dots {
     pub d6: f32,
 }
 
-// The sure query's point of a triangle, and its squared distance.
-pub struct Measured {
-    pub point: Vec3,
-    pub squared: f32,
+impl Part {
+    // The number by which an answer tells the part.
+    pub fn number(self) -> u32
+        ensures { λ r. ⌜ r ≡ Triangles.partNumber (Values.asPart self) ⌝ }
+    {
+        match self {
+            Part::Face => 0,
+            Part::CornerA => 1,
+            Part::CornerB => 2,
+            Part::CornerC => 3,
+            Part::EdgeAB => 4,
+            Part::EdgeAC => 5,
+            Part::EdgeBC => 6,
+        }
+    }
+}
+
+impl Spot {
+    // With its point held into the box. The part stays.
+    fn hold(self, bounds: Box3) -> Spot
+        ensures { λ r. ⌜ Values.asSpot r ≡ Triangles.moved (Boxes.heldIn (Values.asBox bounds)) (Values.asSpot self) ⌝ }
+    {
+        let part = self.part;
+        Spot {
+            point: bounds.hold(self.point),
+            part,
+        }
+    }
+
+    // With +0 for -0.
+    fn plus_zero(self) -> Spot
+        ensures { λ r. ⌜ Values.asSpot r ≡ Triangles.moved Points.plusZero (Values.asSpot self) ⌝ }
+    {
+        let part = self.part;
+        Spot {
+            point: self.point.plus_zero(),
+            part,
+        }
+    }
 }
 
 // ab - cd
@@ -162,12 +205,16 @@ impl Triangle3 {
         }
     }
 
-    // The source's closest point of the triangle to p.
-    pub fn closest_point(self, p: Vec3) -> Vec3
-        ensures { λ r. ⌜ Values.asPoint r ≡ Triangles.closestPoint binary32 (Values.asTriangle self) (Values.asPoint p) ⌝ }
+    // The source's closest point of the triangle to p, and the test that answered.
+    pub fn closest_spot(self, p: Vec3) -> Spot
+        ensures { λ r. ⌜ Values.asSpot r ≡ Triangles.closestSpot binary32 (Values.asTriangle self) (Values.asPoint p) ⌝ }
     {
         let d = self.dots(p);
-        self.point_on(d, d.part())
+        let part = d.part();
+        Spot {
+            point: self.point_on(d, part),
+            part,
+        }
     }
 
     // The foot of p on an edge, held into the triangle's box.
@@ -178,42 +225,43 @@ impl Triangle3 {
         self.bbox().hold(finite_or(start, foot(start, end, p)))
     }
 
-    // The nearest of the feet on ab, ac and bc, the earlier edge among equals.
-    fn nearest_foot(self, p: Vec3) -> Vec3
-        ensures { λ r. ⌜ Values.asPoint r ≡ Triangles.nearestFoot binary32 (Values.asTriangle self) (Values.asPoint p) ⌝ }
+    // That foot, with its part: the edge, or the corner where the edge starts if it has no length.
+    fn foot_spot(self, start: Vec3, end: Vec3, corner: Part, edge: Part, p: Vec3) -> Spot
+        ensures { λ r. ⌜ Values.asSpot r
+            ≡ Triangles.footSpot binary32 (Values.asTriangle self) (Values.asPoint start) (Values.asPoint end) (Values.asPart corner) (Values.asPart edge)
+            (Values.asPoint p) ⌝ }
     {
-        let on_ab = self.held_foot(self.a, self.b, p);
-        let on_ac = self.held_foot(self.a, self.c, p);
-        let on_bc = self.held_foot(self.b, self.c, p);
+        Spot {
+            point: self.held_foot(start, end, p),
+            part: foot_part(start, end, corner, edge),
+        }
+    }
+
+    // The nearest of the feet on ab, ac and bc, the earlier edge among equals.
+    fn nearest_foot(self, p: Vec3) -> Spot
+        ensures { λ r. ⌜ Values.asSpot r ≡ Triangles.nearestFoot binary32 (Values.asTriangle self) (Values.asPoint p) ⌝ }
+    {
+        let on_ab = self.foot_spot(self.a, self.b, Part::CornerA, Part::EdgeAB, p);
+        let on_ac = self.foot_spot(self.a, self.c, Part::CornerA, Part::EdgeAC, p);
+        let on_bc = self.foot_spot(self.b, self.c, Part::CornerB, Part::EdgeBC, p);
         nearer_foot(p, nearer_foot(p, on_ab, on_ac), on_bc)
     }
 
     // The computed closest point q held into the triangle's box, with +0 for -0. Where q is not finite, the nearest foot of p on an edge stands for it.
-    pub fn held(self, p: Vec3, q: Vec3) -> Vec3
-        ensures { λ r. ⌜ Values.asPoint r ≡ Triangles.heldFrom binary32 (Values.asTriangle self) (Values.asPoint p) (Values.asPoint q) ⌝ }
+    pub fn held(self, p: Vec3, q: Spot) -> Spot
+        ensures { λ r. ⌜ Values.asSpot r ≡ Triangles.heldFrom binary32 (Values.asTriangle self) (Values.asPoint p) (Values.asSpot q) ⌝ }
     {
-        if q.is_finite() {
-            return self.bbox().hold(q).plus_zero();
+        if q.point.is_finite() {
+            return q.hold(self.bbox()).plus_zero();
         }
         self.nearest_foot(p).plus_zero()
     }
 
     // The sure query's point: the closest point, held into the triangle's box.
-    pub fn held_point(self, p: Vec3) -> Vec3
-        ensures { λ r. ⌜ Values.asPoint r ≡ Triangles.heldPoint binary32 (Values.asTriangle self) (Values.asPoint p) ⌝ }
+    pub fn held_spot(self, p: Vec3) -> Spot
+        ensures { λ r. ⌜ Values.asSpot r ≡ Triangles.heldSpot binary32 (Values.asTriangle self) (Values.asPoint p) ⌝ }
     {
-        self.held(p, self.closest_point(p))
-    }
-
-    // The sure query's point, and its squared distance to p.
-    pub fn measure(self, p: Vec3) -> Measured
-        ensures { λ r. ⌜ Values.asMeasured r ≡ Triangles.measured binary32 (Values.asTriangle self) (Values.asPoint p) ⌝ }
-    {
-        let point = self.held_point(p);
-        Measured {
-            point,
-            squared: point.squared_distance(p),
-        }
+        self.held(p, self.closest_spot(p))
     }
 }
 
@@ -233,11 +281,20 @@ fn foot(start: Vec3, end: Vec3, p: Vec3) -> Vec3
     )
 }
 
-// The foot with the smaller squared distance to p, the first among equals.
-fn nearer_foot(p: Vec3, first: Vec3, second: Vec3) -> Vec3
-    ensures { λ r. ⌜ Values.asPoint r ≡ Triangles.nearerFoot binary32 (Values.asPoint p) (Values.asPoint first) (Values.asPoint second) ⌝ }
+// The part that a foot on the edge from start to end hits: the edge, or the corner where it starts if it has no length.
+fn foot_part(start: Vec3, end: Vec3, corner: Part, edge: Part) -> Part
+    ensures { λ r. ⌜ Values.asPart r
+        ≡ Triangles.footPart binary32 (Values.asPoint start) (Values.asPoint end) (Values.asPart corner) (Values.asPart edge) ⌝ }
 {
-    if second.squared_distance(p) < first.squared_distance(p) {
+    let side = end.minus(start);
+    if side.dot(side) == 0.0 { corner } else { edge }
+}
+
+// The foot with the smaller squared distance to p, the first among equals.
+fn nearer_foot(p: Vec3, first: Spot, second: Spot) -> Spot
+    ensures { λ r. ⌜ Values.asSpot r ≡ Triangles.nearerFoot binary32 (Values.asPoint p) (Values.asSpot first) (Values.asSpot second) ⌝ }
+{
+    if second.point.squared_distance(p) < first.point.squared_distance(p) {
         second
     } else {
         first

@@ -3,7 +3,7 @@
 use mathlib.Core.Path.{_≡_, refl}
 use mathlib.Core.Bool.{Bool, true, false, not, cond}
 use lib.Dec.{T}
-use lib.Ieee.{Format, lt, eq, le}
+use lib.Ieee.{Float, Format, lt, eq, le}
 use Rattle.spec_numbers.specs.Values.{zero, Number}
 use Rattle.spec_numbers.specs.Axes.{Axis, Finite, distance2}
 use Rattle.spec_numbers.proofs.Order.{reflexive, transitive, lt→le, not-lt→le, finite-number, finite-between}
@@ -12,7 +12,7 @@ use Rattle.spec_numbers.proofs.Nearest.{distance-not-below, distance-number, he
 use Rattle.spec_numbers.proofs.PlusZero.{plus-zero-finite, plus-zero-not-below, plus-zero-not-above, plus-zero-no-minus-zero}
 use Rattle.spec_shapes.specs.Points.{Point, on, at, minus, dot, isFinite, plusZero, squaredDistance}
 use Rattle.spec_shapes.specs.Boxes.{Box, heldIn, heldSquared, Inside, Contains, Proper}
-use Rattle.spec_shapes.specs.Triangles.{Triangle, boxOf, closestPoint, finiteOr, heldFoot, nearerFoot, nearestFoot, heldPoint, FiniteCorners, OnEdges}
+use Rattle.spec_shapes.specs.Triangles.{Triangle, boxOf, Spot, closestSpot, closestPoint, finiteOr, heldFoot, footSpot, nearerFoot, nearestFoot, moved, heldSpot, heldPoint, FiniteCorners, OnEdges}
 use Rattle.spec_shapes.proofs.OnAxes.{held-on, plus-zero-on, finite-by-test}
 use Rattle.spec_shapes.proofs.Bounds.{box-proper, contains-inside}
 
@@ -52,7 +52,8 @@ record KeptIn (b : Box) (a : Point) : Type 0 where
   isFinite : Finite (at a)
   inside : Inside b a
 
-picked : (P : Point → Type 0) (b : Bool) (x y : Point) → (T b → P x) → P y → P (cond b x y)
+-- what is so of both is so of the one that is picked
+pub picked : {A : Type 0} (P : A → Type 0) (b : Bool) (x y : A) → (T b → P x) → P y → P (cond b x y)
 picked P true x y X Y = X tt
 picked P false x y X Y = Y
 
@@ -65,76 +66,82 @@ module _ (f : Format) (t : Triangle) (F : FiniteCorners t) (p : Point) where
   unfolding heldFoot finiteOr
   foot-kept start end S = held-kept (boxOf t) (box-proper t F) _ (picked (λ (a : Point). Finite (at a)) (isFinite _) _ start (finite-by-test _) S)
 
-  nearer-kept : (a b : Point) → KeptIn (boxOf t) a → KeptIn (boxOf t) b → KeptIn (boxOf t) (nearerFoot f p a b)
-  unfolding nearerFoot
-  nearer-kept a b A B = picked (KeptIn (boxOf t)) (lt (squaredDistance f b p) (squaredDistance f a p)) b a (λ h. B) A
+  -- a spot whose point is kept
+  abbrev Kept : Spot → Type 0
+  Kept s = KeptIn (boxOf t) (s .point)
 
-  nearer-no-farther : (a b : Point) → Finite (at a) → Finite (at b) → Finite (at p)
-      → T (le (squaredDistance f (nearerFoot f p a b) p) (squaredDistance f a p)) × T (le (squaredDistance f (nearerFoot f p a b) p) (squaredDistance f b p))
+  nearer-kept : (a b : Spot) → Kept a → Kept b → Kept (nearerFoot f p a b)
   unfolding nearerFoot
-  nearer-no-farther a b A B P = go (lt (squaredDistance f b p) (squaredDistance f a p)) (λ h. h) (λ h. h)
+  nearer-kept a b A B = picked Kept (lt (squaredDistance f (b .point) p) (squaredDistance f (a .point) p)) b a (λ h. B) A
+
+  -- how far a spot is
+  abbrev far : Spot → Float
+  far s = squaredDistance f (s .point) p
+
+  nearer-no-farther : (a b : Spot) → Kept a → Kept b → Finite (at p) → T (le (far (nearerFoot f p a b)) (far a)) × T (le (far (nearerFoot f p a b)) (far b))
+  unfolding nearerFoot
+  nearer-no-farther a b A B P = go (lt (far b) (far a)) (λ h. h) (λ h. h)
     where
-      m : Number (squaredDistance f a p)
-      m = squared-number f a p A P
+      m : Number (far a)
+      m = squared-number f (a .point) p (A .isFinite) P
 
-      n : Number (squaredDistance f b p)
-      n = squared-number f b p B P
+      n : Number (far b)
+      n = squared-number f (b .point) p (B .isFinite) P
 
-      go : (c : Bool) → (T c → T (lt (squaredDistance f b p) (squaredDistance f a p)))
-          → (T (not c) → T (not (lt (squaredDistance f b p) (squaredDistance f a p))))
-          → T (le (squaredDistance f (cond c b a) p) (squaredDistance f a p)) × T (le (squaredDistance f (cond c b a) p) (squaredDistance f b p))
+      go : (c : Bool) → (T c → T (lt (far b) (far a))) → (T (not c) → T (not (lt (far b) (far a))))
+          → T (le (far (cond c b a)) (far a)) × T (le (far (cond c b a)) (far b))
       go true h k = (lt→le _ _ (h tt), reflexive _ n)
       go false h k = (reflexive _ m, not-lt→le _ _ n m (k tt))
 
-  nearest-kept : KeptIn (boxOf t) (nearestFoot f t p)
-  unfolding nearestFoot
+  nearest-kept : Kept (nearestFoot f t p)
+  unfolding nearestFoot footSpot
   nearest-kept = nearer-kept _ _ (nearer-kept _ _ (foot-kept (t .a) (t .b) (F .a)) (foot-kept (t .a) (t .c) (F .a))) (foot-kept (t .b) (t .c) (F .b))
 
   -- the nearest foot is no farther than any of the three
   pub nearest-foot-no-farther : Finite (at p)
-      → OnEdges (λ start end. T (le (squaredDistance f (nearestFoot f t p) p) (squaredDistance f (heldFoot f t start end p) p))) t
-  unfolding nearestFoot
+      → OnEdges (λ start end. T (le (squaredDistance f (nearestFoot f t p .point) p) (squaredDistance f (heldFoot f t start end p) p))) t
+  unfolding nearestFoot footSpot
   nearest-foot-no-farther P =
       let x = foot-kept (t .a) (t .b) (F .a) in
       let y = foot-kept (t .a) (t .c) (F .a) in
       let z = foot-kept (t .b) (t .c) (F .b) in
-      let early = nearer-no-farther _ _ (x .isFinite) (y .isFinite) P in
-      let all = nearer-no-farther _ _ (nearer-kept _ _ x y .isFinite) (z .isFinite) P in
+      let early = nearer-no-farther _ _ x y P in
+      let all = nearer-no-farther _ _ (nearer-kept _ _ x y) z P in
       (transitive _ _ _ (all .0) (early .0), transitive _ _ _ (all .0) (early .1), all .1)
 
   -- ---- the held point, before its zeros are made plus zero
-  kept : Point
-  kept = let q = closestPoint f t p in cond (isFinite q) (heldIn (boxOf t) q) (nearestFoot f t p)
+  kept : Spot
+  kept = let q = closestSpot f t p in cond (isFinite (q .point)) (moved (heldIn (boxOf t)) q) (nearestFoot f t p)
 
-  held-is : heldPoint f t p ≡ plusZero kept
-  unfolding heldPoint kept
+  held-is : heldPoint f t p ≡ plusZero (kept .point)
+  unfolding heldSpot kept
   held-is = refl
 
-  kept-in : KeptIn (boxOf t) kept
+  kept-in : Kept kept
   unfolding kept
   kept-in =
       let q = closestPoint f t p in
-      picked (KeptIn (boxOf t)) (isFinite q) _ _ (λ h. held-kept (boxOf t) (box-proper t F) q (finite-by-test q h)) nearest-kept
+      picked Kept (isFinite q) _ _ (λ h. held-kept (boxOf t) (box-proper t F) q (finite-by-test q h)) nearest-kept
 
-  -- where the computed point is finite it is that point, held: feet are asked nowhere else
-  pub finite-is-held : isFinite (closestPoint f t p) ≡ true → heldPoint f t p ≡ plusZero (heldIn (boxOf t) (closestPoint f t p))
-  unfolding heldPoint
+  -- where the computed point is finite it is that point, held, and the test that answered: feet are asked nowhere else, and holding changes no part
+  pub finite-is-held : isFinite (closestPoint f t p) ≡ true → heldSpot f t p ≡ moved (λ q. plusZero (heldIn (boxOf t) q)) (closestSpot f t p)
+  unfolding heldSpot
   finite-is-held h = rw h
 
   -- the sure query's point is finite, though the source's closest point may not be
   pub held-point-finite : Finite (at (heldPoint f t p))
-  held-point-finite i = rw (held-is, plus-zero-on kept i) (plus-zero-finite (on i kept) (kept-in .isFinite i))
+  held-point-finite i = rw (held-is, plus-zero-on (kept .point) i) (plus-zero-finite (on i (kept .point)) (kept-in .isFinite i))
 
   -- the sure query's point lies in the triangle's box
   pub held-point-inside : Inside (boxOf t) (heldPoint f t p)
   held-point-inside = record {
-    low = λ i. rw (held-is, plus-zero-on kept i) (transitive _ _ _ (kept-in .inside .low i) (plus-zero-not-below _ (kept-in .isFinite i)));
-    high = λ i. rw (held-is, plus-zero-on kept i) (transitive _ _ _ (plus-zero-not-above _ (kept-in .isFinite i)) (kept-in .inside .high i));
+    low = λ i. rw (held-is, plus-zero-on (kept .point) i) (transitive _ _ _ (kept-in .inside .low i) (plus-zero-not-below _ (kept-in .isFinite i)));
+    high = λ i. rw (held-is, plus-zero-on (kept .point) i) (transitive _ _ _ (plus-zero-not-above _ (kept-in .isFinite i)) (kept-in .inside .high i));
   }
 
   -- no coordinate of the sure query's point is -0
   pub held-point-no-minus-zero : (i : Axis) → T (eq (on i (heldPoint f t p)) zero) → on i (heldPoint f t p) ≡ zero
-  held-point-no-minus-zero i = rw (held-is, plus-zero-on kept i) (plus-zero-no-minus-zero (on i kept))
+  held-point-no-minus-zero i = rw (held-is, plus-zero-on (kept .point) i) (plus-zero-no-minus-zero (on i (kept .point)))
 
   -- the squared distance to the sure query's point is not below zero
   pub held-squared-not-below : Finite (at p) → T (le zero (squaredDistance f (heldPoint f t p) p))

@@ -5,3 +5,4 @@ pub mod Plain
 pub mod Worked
 pub mod Within
 pub mod Feet
+pub mod Parts

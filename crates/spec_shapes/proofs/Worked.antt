@@ -1,24 +1,28 @@
 -- Shapes worked out: a point of the triangle (0,0,0) (4,0,0) (0,4,0) for each of the seven tests of the closest point, triangles that have no closest
--- point, and what no law says of boxes and planes.
+-- point, each with the number of the part that is told, and what no law says of boxes and planes.
 use mathlib.Core.Path.{_≡_, refl}
 use mathlib.Core.Bool.{Bool, true, false}
-use mathlib.Core.List.{List, [], _∷_}
+use mathlib.Core.List.{[], _∷_}
 use Prim.Native.Nat.{ℕ, _+_, _-_, _^_}
 use lib.IntN.{ℤ, pos, negsuc}
 use lib.Ieee.{Float, Format, binary32, binary64, fin, add, sub, mul, div, lt, le, eq, round, ofInt}
 use Rattle.spec_numbers.specs.Axes.{X}
 use Rattle.spec_shapes.specs.Points.{Point, minus, plus, scale, dividedBy, dot, smallest, largest, isUnder, isFinite, plusZero, squaredDistance}
-use Rattle.spec_shapes.specs.Boxes.{Box, centre, sizes, area, volume, offsetOn, offset, withExcess, withOutside, boxSquared, containsPoint, closestInBox, heldIn}
+use Rattle.spec_shapes.specs.Boxes.{Box, centre, sizes, area, offsetOn, offset, withExcess, withOutside, boxSquared, containsPoint, closestInBox, heldIn}
 use Rattle.spec_shapes.specs.Planes.{Plane, unit, reach, meetsBox}
-use Rattle.spec_shapes.specs.Triangles.{Triangle, boxOf, dots, crossed, part, along, facePoint, pointOn, closestPoint, foot, finiteOr, heldFoot, nearerFoot, nearestFoot, heldPoint}
+use Rattle.spec_shapes.specs.Triangles.{Triangle, boxOf, dots, crossed, part, partNumber, along, facePoint, pointOn, Spot, closestSpot, closestPoint, foot, finiteOr, heldFoot, footPart, footSpot, nearerFoot, nearestFoot, heldSpot}
+
+-- a spot as it is told: the number of its part, and its point
+abbrev told : Spot → ℕ × Point
+told s = (partNumber (s .part), s .point)
 
 module _ (f : Format) where
   abbrev point : ℤ → ℤ → ℤ → Point
   point x y z = record { x = ofInt f x; y = ofInt f y; z = ofInt f z }
 
-  abbrev closestTo : ℤ → ℤ → ℤ → Point
+  abbrev closestTo : ℤ → ℤ → ℤ → ℕ × Point
   closestTo x y z =
-      closestPoint f (record { a = point (pos 0) (pos 0) (pos 0); b = point (pos 4) (pos 0) (pos 0); c = point (pos 0) (pos 4) (pos 0) }) (point x y z)
+      told (closestSpot f (record { a = point (pos 0) (pos 0) (pos 0); b = point (pos 4) (pos 0) (pos 0); c = point (pos 0) (pos 4) (pos 0) }) (point x y z))
 
   -- (0,0,0) to (4,2,0)
   abbrev flat : Box
@@ -32,10 +36,10 @@ pub closest-worked : (f : Format)
     → (closestTo f (pos 1) (pos 2) (pos 5)
     ∷ closestTo f (negsuc 0) (negsuc 1) (pos 0) ∷ closestTo f (pos 6) (negsuc 0) (pos 0) ∷ closestTo f (negsuc 0) (pos 6) (pos 0)
     ∷ closestTo f (pos 1) (negsuc 2) (pos 0) ∷ closestTo f (negsuc 2) (pos 1) (pos 0) ∷ closestTo f (pos 3) (pos 5) (pos 0) ∷ [])
-    ≡ (point f (pos 1) (pos 2) (pos 0)
-    ∷ point f (pos 0) (pos 0) (pos 0) ∷ point f (pos 4) (pos 0) (pos 0) ∷ point f (pos 0) (pos 4) (pos 0)
-    ∷ point f (pos 1) (pos 0) (pos 0) ∷ point f (pos 0) (pos 1) (pos 0) ∷ point f (pos 1) (pos 3) (pos 0) ∷ [])
-unfolding add sub mul div lt le eq round ofInt minus plus scale dot dots crossed part along facePoint pointOn closestPoint
+    ≡ ((0, point f (pos 1) (pos 2) (pos 0))
+    ∷ (1, point f (pos 0) (pos 0) (pos 0)) ∷ (2, point f (pos 4) (pos 0) (pos 0)) ∷ (3, point f (pos 0) (pos 4) (pos 0))
+    ∷ (4, point f (pos 1) (pos 0) (pos 0)) ∷ (5, point f (pos 0) (pos 1) (pos 0)) ∷ (6, point f (pos 1) (pos 3) (pos 0)) ∷ [])
+unfolding add sub mul div lt le eq round ofInt minus plus scale dot dots crossed part partNumber along facePoint pointOn closestSpot
 closest-worked binary32 = refl
 closest-worked binary64 = refl
 
@@ -68,6 +72,15 @@ abbrev pastIt : Format → Float
 pastIt binary32 = fin false 1 (negsuc 59)
 pastIt binary64 = fin false 1 (negsuc 519)
 
+-- twice that side, and a place from which the side's ends are still not equally far though its product with the side runs under too
+abbrev twiceIt : Format → Float
+twiceIt binary32 = fin false 1 (negsuc 78)
+twiceIt binary64 = fin false 1 (negsuc 538)
+
+abbrev justPastIt : Format → Float
+justPastIt binary32 = fin false 1 (negsuc 69)
+justPastIt binary64 = fin false 1 (negsuc 534)
+
 module _ (f : Format) where
   abbrev flatPoint : Float → Float → Point
   flatPoint x y = record { x = x; y = y; z = ofInt f (pos 0) }
@@ -91,34 +104,43 @@ module _ (f : Format) where
     c = flatPoint (ofInt f (pos 0)) (share f false 1 0);
   }
 
-  -- the held point, where the computed one is not finite
-  abbrev byFeet : Triangle → Point → Bool × Point
-  byFeet t p = (isFinite (closestPoint f t p), heldPoint f t p)
+  -- (0,0,0) and two more on a line, no edge of which has a square
+  abbrev tinyLine : Triangle
+  tinyLine = record {
+    a = flatPoint (ofInt f (pos 0)) (ofInt f (pos 0));
+    b = flatPoint (runsUnder f) (ofInt f (pos 0));
+    c = flatPoint (twiceIt f) (ofInt f (pos 0));
+  }
 
--- Pinched: over the side, past its end, at corner c; with an end that start + edge misses: it goes past, and the foot is held into the box, or it falls
--- short, and the foot stays there; and with a side whose square is zero, which is its start.
+  -- the held point, where the computed one is not finite
+  abbrev byFeet : Triangle → Point → Bool × ℕ × Point
+  byFeet t p = (isFinite (closestPoint f t p), partNumber (heldSpot f t p .part), heldSpot f t p .point)
+
+-- Pinched: over the side, past its end and at corner c, all on the edge; with an end that start + edge misses: it goes past, and the foot is held into the
+-- box, or it falls short, and the foot stays there; and with a side whose square is zero, which is its start, a corner.
 pub pinched-worked : (f : Format)
-    → (byFeet f (pinched f (ofInt f (pos 0)) (ofInt f (pos 4))) (point f (pos 1) (pos 1) (pos 0)) ≡ (false, point f (pos 1) (pos 0) (pos 0)))
-    × (byFeet f (pinched f (ofInt f (pos 0)) (ofInt f (pos 4))) (point f (pos 9) (pos 1) (pos 0)) ≡ (false, point f (pos 4) (pos 0) (pos 0)))
-    × (byFeet f (pinched f (ofInt f (pos 4)) (ofInt f (pos 0))) (point f (pos 0) (pos 0) (pos 0)) ≡ (false, point f (pos 0) (pos 0) (pos 0)))
-    × (byFeet f (pinched f (ofInt f (pos 1)) (unseen f)) (point f (negsuc 0) (pos 0) (pos 0)) ≡ (false, flatPoint f (unseen f) (ofInt f (pos 0))))
-    × (byFeet f (pinched f (slightly f) (ofInt f (pos 1))) (point f (pos 2) (pos 0) (pos 0)) ≡ (false, flatPoint f (beforeOne f) (ofInt f (pos 0))))
-    × (byFeet f (pinched f (ofInt f (pos 0)) (runsUnder f)) (flatPoint f (pastIt f) (ofInt f (pos 0))) ≡ (false, point f (pos 0) (pos 0) (pos 0)))
-unfolding add sub mul div lt le eq round ofInt minus plus scale dot smallest largest isFinite plusZero squaredDistance heldIn boxOf dots crossed part along
-    facePoint pointOn closestPoint foot finiteOr heldFoot nearerFoot nearestFoot heldPoint
+    → (byFeet f (pinched f (ofInt f (pos 0)) (ofInt f (pos 4))) (point f (pos 1) (pos 1) (pos 0)) ≡ (false, 5, point f (pos 1) (pos 0) (pos 0)))
+    × (byFeet f (pinched f (ofInt f (pos 0)) (ofInt f (pos 4))) (point f (pos 9) (pos 1) (pos 0)) ≡ (false, 5, point f (pos 4) (pos 0) (pos 0)))
+    × (byFeet f (pinched f (ofInt f (pos 4)) (ofInt f (pos 0))) (point f (pos 0) (pos 0) (pos 0)) ≡ (false, 5, point f (pos 0) (pos 0) (pos 0)))
+    × (byFeet f (pinched f (ofInt f (pos 1)) (unseen f)) (point f (negsuc 0) (pos 0) (pos 0)) ≡ (false, 5, flatPoint f (unseen f) (ofInt f (pos 0))))
+    × (byFeet f (pinched f (slightly f) (ofInt f (pos 1))) (point f (pos 2) (pos 0) (pos 0)) ≡ (false, 5, flatPoint f (beforeOne f) (ofInt f (pos 0))))
+    × (byFeet f (pinched f (ofInt f (pos 0)) (runsUnder f)) (flatPoint f (pastIt f) (ofInt f (pos 0))) ≡ (false, 1, point f (pos 0) (pos 0) (pos 0)))
+unfolding add sub mul div lt le eq round ofInt minus plus scale dot smallest largest isFinite plusZero squaredDistance heldIn boxOf dots crossed part
+    partNumber along facePoint pointOn closestSpot foot finiteOr heldFoot footPart footSpot nearerFoot nearestFoot heldSpot
 pinched-worked binary32 = (refl, refl, refl, refl, refl, refl)
 pinched-worked binary64 = (refl, refl, refl, refl, refl, refl)
 
--- Tiny: level on ab and ac, nearest on ac, nearest on bc; and level on ac and bc.
+-- Tiny: level on ab and ac, nearest on ac, nearest on bc; level on ac and bc; and three edges without a square, of which bc starts nearest.
 pub tiny-worked : (f : Format)
-    → (byFeet f (tinyRight f) (flatPoint f (share f false 1 2) (share f false 1 2)) ≡ (false, flatPoint f (share f false 1 2) (ofInt f (pos 0))))
-    × (byFeet f (tinyRight f) (flatPoint f (share f false 1 3) (share f false 1 1)) ≡ (false, flatPoint f (ofInt f (pos 0)) (share f false 1 1)))
-    × (byFeet f (tinyRight f) (flatPoint f (share f false 1 1) (share f false 1 2)) ≡ (false, flatPoint f (share f false 5 3) (share f false 3 3)))
-    × (byFeet f (tinyTip f) (flatPoint f (ofInt f (pos 0)) (share f false 3 2)) ≡ (false, flatPoint f (share f true 1 3) (share f false 7 3)))
-unfolding add sub mul div lt le eq round ofInt minus plus scale dot smallest largest isFinite plusZero squaredDistance heldIn boxOf dots crossed part along
-    facePoint pointOn closestPoint foot finiteOr heldFoot nearerFoot nearestFoot heldPoint
-tiny-worked binary32 = (refl, refl, refl, refl)
-tiny-worked binary64 = (refl, refl, refl, refl)
+    → (byFeet f (tinyRight f) (flatPoint f (share f false 1 2) (share f false 1 2)) ≡ (false, 4, flatPoint f (share f false 1 2) (ofInt f (pos 0))))
+    × (byFeet f (tinyRight f) (flatPoint f (share f false 1 3) (share f false 1 1)) ≡ (false, 5, flatPoint f (ofInt f (pos 0)) (share f false 1 1)))
+    × (byFeet f (tinyRight f) (flatPoint f (share f false 1 1) (share f false 1 2)) ≡ (false, 6, flatPoint f (share f false 5 3) (share f false 3 3)))
+    × (byFeet f (tinyTip f) (flatPoint f (ofInt f (pos 0)) (share f false 3 2)) ≡ (false, 5, flatPoint f (share f true 1 3) (share f false 7 3)))
+    × (byFeet f (tinyLine f) (flatPoint f (justPastIt f) (ofInt f (pos 0))) ≡ (false, 2, flatPoint f (runsUnder f) (ofInt f (pos 0))))
+unfolding add sub mul div lt le eq round ofInt minus plus scale dot smallest largest isFinite plusZero squaredDistance heldIn boxOf dots crossed part
+    partNumber along facePoint pointOn closestSpot foot finiteOr heldFoot footPart footSpot nearerFoot nearestFoot heldSpot
+tiny-worked binary32 = (refl, refl, refl, refl, refl)
+tiny-worked binary64 = (refl, refl, refl, refl, refl)
 
 -- a needle (0,-2,0) (d,-2+d,0) (-2,4d,0), d being the spacing below 2
 abbrev needle : Format → Triangle
@@ -142,9 +164,9 @@ needle f = record {
 
 -- Seen square to ab the needle has no closest point. The foot on bc is past the end of the box, and nearer than that on ac until it is held; then the two
 -- are level, and that on ac, which is c, is kept.
-pub needle-worked : (f : Format) → byFeet f (needle f) (point f (negsuc 10) (pos 9) (pos 0)) ≡ (false, needle f .c)
-unfolding add sub mul div lt le eq round ofInt minus plus scale dot smallest largest isFinite plusZero squaredDistance heldIn boxOf dots crossed part along
-    facePoint pointOn closestPoint foot finiteOr heldFoot nearerFoot nearestFoot heldPoint
+pub needle-worked : (f : Format) → byFeet f (needle f) (point f (negsuc 10) (pos 9) (pos 0)) ≡ (false, 5, needle f .c)
+unfolding add sub mul div lt le eq round ofInt minus plus scale dot smallest largest isFinite plusZero squaredDistance heldIn boxOf dots crossed part
+    partNumber along facePoint pointOn closestSpot foot finiteOr heldFoot footPart footSpot nearerFoot nearestFoot heldSpot
 needle-worked binary32 = refl
 needle-worked binary64 = refl
 

@@ -1,7 +1,9 @@
--- The closest point of a triangle: which of the source's seven tests answers first, and the point that it makes.
+-- The closest point of a triangle: which of the source's seven tests answers first, and the point that it makes. The test tells the part that was hit.
 -- Then the held point of the sure query, which is finite and in the triangle's box even where the closest point is neither: where that is not finite,
--- the feet on the edges stand in.
+-- the feet on the edges stand in, and the edge that is kept tells the part.
+use mathlib.Core.Path.{_≡_}
 use mathlib.Core.Bool.{cond, _&&_}
+use Prim.Native.Nat.{ℕ}
 use lib.Ieee.{Float, Format, add, sub, mul, div, lt, le, eq}
 use Rattle.spec_numbers.specs.Values.{zero, one}
 use Rattle.spec_numbers.specs.Hold.{held}
@@ -67,6 +69,16 @@ vc f d = crossed f (d .d1) (d .d4) (d .d3) (d .d2)
 pub data Part : Type 0 where
   face cornerA cornerB cornerC edgeAB edgeAC edgeBC : Part
 
+-- the number by which an answer tells it
+unfoldable pub partNumber : Part → ℕ
+partNumber face = 0
+partNumber cornerA = 1
+partNumber cornerB = 2
+partNumber cornerC = 3
+partNumber edgeAB = 4
+partNumber edgeAC = 5
+partNumber edgeBC = 6
+
 unfoldable pub part : Format → Dots → Part
 part f d =
     cond (le (d .d1) zero && le (d .d2) zero) cornerA
@@ -99,9 +111,17 @@ pointOn f t d edgeBC =
     let toB = sub f (d .d4) (d .d3) in
     along f (t .b) (minus f (t .c) (t .b)) (div f toB (add f toB (sub f (d .d5) (d .d6))))
 
--- the source's closest point
-unfoldable pub closestPoint : Format → Triangle → Point → Point
-closestPoint f t p = let d = dots f t p in pointOn f t d (part f d)
+-- a point of a triangle, and the part that was hit
+pub record Spot : Type 0 where
+  pub point : Point
+  pub part : Part
+
+-- the source's closest point, and the test that answered
+unfoldable pub closestSpot : Format → Triangle → Point → Spot
+closestSpot f t p = let d = dots f t p in record { point = pointOn f t d (part f d); part = part f d }
+
+abbrev pub closestPoint : Format → Triangle → Point → Point
+closestPoint f t p = closestSpot f t p .point
 
 -- ---- the sure query's point
 -- the foot of p on an edge: start + edge × s, s being edge·(p - start) / edge·edge held to 0 and 1; the start itself where edge·edge is zero
@@ -119,27 +139,56 @@ finiteOr a q = cond (isFinite q) q a
 unfoldable pub heldFoot : Format → Triangle → Point → Point → Point → Point
 heldFoot f t start end p = heldIn (boxOf t) (finiteOr start (foot f start end p))
 
+-- the part that a foot hits: the edge, at its ends too; its starting corner where edge·edge is zero
+unfoldable pub footPart : Format → Point → Point → Part → Part → Part
+footPart f start end corner edge = cond (eq (dot f (minus f end start) (minus f end start)) zero) corner edge
+
+unfoldable pub footSpot : Format → Triangle → Point → Point → Part → Part → Point → Spot
+footSpot f t start end corner edge p = record { point = heldFoot f t start end p; part = footPart f start end corner edge }
+
 -- of two feet the one with the smaller squared distance, the first among equals
-unfoldable pub nearerFoot : Format → Point → Point → Point → Point
-nearerFoot f p first second = cond (lt (squaredDistance f second p) (squaredDistance f first p)) second first
+unfoldable pub nearerFoot : Format → Point → Spot → Spot → Spot
+nearerFoot f p first second = cond (lt (squaredDistance f (second .point) p) (squaredDistance f (first .point) p)) second first
 
 -- the feet on ab, ac and bc, in turn
-unfoldable pub nearestFoot : Format → Triangle → Point → Point
+unfoldable pub nearestFoot : Format → Triangle → Point → Spot
 nearestFoot f t p =
-    nearerFoot f p (nearerFoot f p (heldFoot f t (t .a) (t .b) p) (heldFoot f t (t .a) (t .c) p)) (heldFoot f t (t .b) (t .c) p)
+    nearerFoot f p
+    (nearerFoot f p (footSpot f t (t .a) (t .b) cornerA edgeAB p) (footSpot f t (t .a) (t .c) cornerA edgeAC p))
+    (footSpot f t (t .b) (t .c) cornerB edgeBC p)
+
+-- another point for a spot: the part stays
+abbrev pub moved : (Point → Point) → Spot → Spot
+moved to s = record { point = to (s .point); part = s .part }
 
 -- the computed point q held into the triangle's box, or the nearest foot where a coordinate of q is not finite; zeros plus zero
-abbrev pub heldFrom : Format → Triangle → Point → Point → Point
-heldFrom f t p q = plusZero (cond (isFinite q) (heldIn (boxOf t) q) (nearestFoot f t p))
+abbrev pub heldFrom : Format → Triangle → Point → Spot → Spot
+heldFrom f t p q = moved plusZero (cond (isFinite (q .point)) (moved (heldIn (boxOf t)) q) (nearestFoot f t p))
 
 -- the computed closest point, held
-unfoldable pub heldPoint : Format → Triangle → Point → Point
-heldPoint f t p = heldFrom f t p (closestPoint f t p)
+unfoldable pub heldSpot : Format → Triangle → Point → Spot
+heldSpot f t p = heldFrom f t p (closestSpot f t p)
 
--- with its squared distance
-pub record Measured : Type 0 where
-  pub point : Point
-  pub squared : Float
+abbrev pub heldPoint : Format → Triangle → Point → Point
+heldPoint f t p = heldSpot f t p .point
 
-unfoldable pub measured : Format → Triangle → Point → Measured
-measured f t p = let q = heldPoint f t p in record { point = q; squared = squaredDistance f q p }
+-- ---- what a part tells
+-- of a point that is told with a corner: it is that corner, zeros plus zero
+abbrev pub AtCorner : Triangle → Part → Point → Type 0
+AtCorner t face q = Unit {0}
+AtCorner t cornerA q = q ≡ plusZero (t .a)
+AtCorner t cornerB q = q ≡ plusZero (t .b)
+AtCorner t cornerC q = q ≡ plusZero (t .c)
+AtCorner t edgeAB q = Unit {0}
+AtCorner t edgeAC q = Unit {0}
+AtCorner t edgeBC q = Unit {0}
+
+-- of a foot: it is on an edge, or on a corner where an edge starts
+abbrev pub OnEdgeOrStart : Part → Type 0
+OnEdgeOrStart face = ⊥
+OnEdgeOrStart cornerA = Unit {0}
+OnEdgeOrStart cornerB = Unit {0}
+OnEdgeOrStart cornerC = ⊥
+OnEdgeOrStart edgeAB = Unit {0}
+OnEdgeOrStart edgeAC = Unit {0}
+OnEdgeOrStart edgeBC = Unit {0}

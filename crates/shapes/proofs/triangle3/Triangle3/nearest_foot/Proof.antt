@@ -9,7 +9,7 @@ unfolding nearestFoot
 returns c =
     let on-bc = c .before .before in
     let on-ac = on-bc .before in
-    rw (c .nearer-foot2 .ensures, c .before .nearer-foot .ensures, on-bc .held-foot3 .ensures, on-ac .held-foot2 .ensures, on-ac .before .held-foot .ensures)
+    rw (c .nearer-foot2 .ensures, c .before .nearer-foot .ensures, on-bc .foot-spot3 .ensures, on-ac .foot-spot2 .ensures, on-ac .before .foot-spot .ensures)
 
 pub nearest-foot-spec : {M : Type 1} → statement M
 nearest-foot-spec = tie.close
