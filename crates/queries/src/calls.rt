@@ -1,4 +1,4 @@
-// The public queries, over any lists at all: six words a point, or a refusal that changes nothing.
+// The public queries, over any lists at all: an answer a point, or a refusal that changes nothing.
 ghost use mathlib.Core.Path.{_≡_};
 ghost use Prim.Native.Nat.{_*_, _≤_};
 ghost use lib.ListN.{length};
@@ -21,6 +21,7 @@ use lists::verdict::Verdict;
 use lists::verdict::room_refusal;
 use tree::calls::tree_refusal;
 use walks::answer::Query;
+use walks::words::ANSWER_WIDTH;
 use walks::words::put_answer;
 
 // The first of the tests 1 to 6, 71 to 75, 8 and 9 that refuses.
@@ -43,7 +44,7 @@ fn query_refusal(
     if drawing.refuses() {
         return drawing;
     }
-    let early = rule_refusal_by(query).or(room_refusal(room / 6, point_count(points)));
+    let early = rule_refusal_by(query).or(room_refusal(room / ANSWER_WIDTH, point_count(points)));
     if early.refuses() {
         return early;
     }
@@ -65,7 +66,7 @@ fn put_answers(
     answers: &mut [u32],
 )
     requires { ⌜ Calls.Askable (now triangles) (now order) (now links) (now boxes) nodes (now points) distance ⌝ }
-    requires { ⌜ 6 * Reading.pointCount (now points) ≤ length (now answers) ⌝ }
+    requires { ⌜ Answers.answerWidth * Reading.pointCount (now points) ≤ length (now answers) ⌝ }
     ensures { λ _. ⌜ now (answers .exit)
         ≡ Tables.overwrite 0 (Calls.answerWords binary32 (Calls.answerBy binary32 (Values.asQuery query) (now (triangles .entry)) (now (order .entry))
         (now (links .entry)) (now (boxes .entry)) nodes distance) (now (points .entry))) (now (answers .entry)) ⌝ }
@@ -84,7 +85,7 @@ fn put_answers(
             touched,
             distance,
         );
-        put_answer(answers, 6 * k, answer);
+        put_answer(answers, ANSWER_WIDTH * k, answer);
         k += 1;
     }
 }
@@ -138,7 +139,7 @@ fn ask(
 
 // For each point the nearest held surface point within the search distance, the lowest triangle number among equals:
 // what a scan of all triangles finds. By rule 1 what is exactly at the distance is not within it, by rule 2 it is.
-// `answers` holds six words a point at its front. A refusal changes nothing.
+// `answers` holds an answer a point at its front. A refusal changes nothing.
 pub fn sure_query(
     triangles: &[f32],
     order: &[u32],
@@ -170,7 +171,7 @@ pub fn sure_query(
     )
 }
 
-// For each point what the search of the Rust answers, with its leaf range repaired. `answers` holds six words a point at its front.
+// For each point what the search of the Rust answers, with its leaf range repaired. `answers` holds an answer a point at its front.
 // A refusal changes nothing.
 pub fn source_query(
     triangles: &[f32],

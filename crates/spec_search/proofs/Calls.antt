@@ -21,7 +21,7 @@ use Rattle.spec_tree.proofs.Order.{permutes-length}
 use Rattle.spec_tree.proofs.Accepted.{accepted-listed, listing-some}
 use Rattle.spec_tree.proofs.Hangs.{listing-hangs, listing-sound}
 use Rattle.spec_tree.proofs.Unchanged.{tree-passed}
-use Rattle.spec_search.specs.Answers.{Query, Answer, nothing, found, sixWords}
+use Rattle.spec_search.specs.Answers.{Query, Answer, nothing, found, answerWidth, wordsOf}
 use Rattle.spec_search.specs.Safe.{NodeSafe}
 use Rattle.spec_search.specs.Marked.{noTriangle}
 use Rattle.spec_search.specs.Calls.{queryRefusal, answerWords, afterQuery, Searchable, Askable}
@@ -63,11 +63,11 @@ module _ (query : Query) (triangles : List Float) (order links : List ℕ) (boxe
     (room : ℕ) where
   -- lists that pass the tests have what the searches need, and the lent list has room for all answers
   pub query-passed : queryRefusal query triangles order links boxes nodes points distance room ≡ passes
-      → Askable triangles order links boxes nodes points distance × (6 * pointCount points ≤ room)
+      → Askable triangles order links boxes nodes points distance × (answerWidth * pointCount points ≤ room)
   unfolding queryRefusal
   query-passed h =
       let all = all-pass _ h in
-      let fits : pointCount points ≤ room / 6 = room-passed _ _ (all .1 .1 .0) in (
+      let fits : pointCount points ≤ room / answerWidth = room-passed _ _ (all .1 .1 .0) in (
         record {
           searchable = record {
             triangles-good = triangles-passed triangles (all .0);
@@ -80,6 +80,12 @@ module _ (query : Query) (triangles : List Float) (order links : List ℕ) (boxe
       )
 
 -- ---- the lent list afterwards
+-- every answer is as wide: the k-th of them stands at k times the width
+pub answer-wide : (f : Format) (a : Answer) → length (wordsOf f a) ≡ answerWidth
+unfolding wordsOf
+answer-wide f nothing = refl
+answer-wide f (found h) = refl
+
 module _ (f : Format) (answer : Point → Answer) (points : List Float) (old : List ℕ) where
   -- on a refusal the lent list stays as it was
   pub as-it-was : (v : Verdict) → refuses v ≡ true → old ≡ afterQuery f answer points v old
@@ -92,29 +98,24 @@ module _ (f : Format) (answer : Point → Answer) (points : List Float) (old : L
   is-answered v new e h = rw e h
 
   -- ---- the loop over the points
-  six-long : (a : Answer) → length (sixWords f a) ≡ 6
-  unfolding sixWords
-  six-long nothing = refl
-  six-long (found h) = refl
-
   -- k of n answers stand at the front of out
   abbrev pub Answered : (n : ℕ) (out : List ℕ) (k : ℕ) → Type 0
-  Answered n out k = Run (λ j. sixWords f (answer (pointAt points (3 * j)))) 0 n old out k
+  Answered n out k = Run (λ j. wordsOf f (answer (pointAt points (3 * j)))) 0 n old out k
 
   -- start: no answer is written
   pub answered-start : (n : ℕ) → Answered n old 0
-  answered-start n = run-start (λ j. sixWords f (answer (pointAt points (3 * j)))) 6 0 n old
+  answered-start n = run-start (λ j. wordsOf f (answer (pointAt points (3 * j)))) answerWidth 0 n old
 
   -- turn: the next point's answer is written behind the others
-  pub answered-more : (n : ℕ) (out new : List ℕ) (k : ℕ) (a : Answer) → 6 * n ≤ length old → k < n → Answered n out k → a ≡ answer (pointAt points (3 * k))
-      → new ≡ overwrite (6 * k) (sixWords f a) out → Answered n new (k + 1)
+  pub answered-more : (n : ℕ) (out new : List ℕ) (k : ℕ) (a : Answer) → answerWidth * n ≤ length old → k < n → Answered n out k
+      → a ≡ answer (pointAt points (3 * k)) → new ≡ overwrite (answerWidth * k) (wordsOf f a) out → Answered n new (k + 1)
   answered-more n out new k a room l r e h =
-      run-front (λ j. sixWords f (answer (pointAt points (3 * j)))) 6 n old out new k (λ j. six-long (answer (pointAt points (3 * j)))) room l r
-      (h ∙ ap (λ (b : Answer). overwrite (6 * k) (sixWords f b) out) e)
+      run-front (λ j. wordsOf f (answer (pointAt points (3 * j)))) answerWidth n old out new k (λ j. answer-wide f (answer (pointAt points (3 * j)))) room l r
+      (h ∙ ap (λ (b : Answer). overwrite (answerWidth * k) (wordsOf f b) out) e)
 
   -- end: every point is answered, and what is behind the answers is as it was
   pub answered-end : (n : ℕ) (out : List ℕ) (k : ℕ) → n ≡ pointCount points → n ≤ k → Answered n out k → out ≡ overwrite 0 (answerWords f answer points) old
   unfolding answerWords
   answered-end n out k e l r =
-      run-end (λ j. sixWords f (answer (pointAt points (3 * j)))) 0 n old out k l r
-      ∙ ap (λ (m : ℕ). overwrite 0 (concatMap (λ j. sixWords f (answer (pointAt points (3 * j)))) m) old) e
+      run-end (λ j. wordsOf f (answer (pointAt points (3 * j)))) 0 n old out k l r
+      ∙ ap (λ (m : ℕ). overwrite 0 (concatMap (λ j. wordsOf f (answer (pointAt points (3 * j)))) m) old) e

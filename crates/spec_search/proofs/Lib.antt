@@ -13,3 +13,4 @@ pub mod Alike
 pub mod Marked
 pub mod Wider
 pub mod Worked
+pub mod Parts

@@ -12,7 +12,7 @@ use Rattle.spec_numbers.specs.Axes.{Finite}
 use Rattle.spec_numbers.proofs.Order.{le→not-lt}
 use Rattle.spec_shapes.specs.Points.{Point, at, squaredDistance}
 use Rattle.spec_shapes.specs.Boxes.{Box, heldSquared, Contains, Proper}
-use Rattle.spec_shapes.specs.Triangles.{heldPoint, measured}
+use Rattle.spec_shapes.specs.Triangles.{heldPoint}
 use Rattle.spec_shapes.proofs.Held.{held-squared-number, box-is-nearer}
 use Rattle.spec_lists.specs.Limits.{deepest}
 use Rattle.spec_lists.specs.Reading.{triangleAt, boxAt, triangleCount}
@@ -54,7 +54,7 @@ module _ (f : Format) (triangles : List Float) (good : GoodTriangles triangles) 
 
   -- no triangle under a box is nearer than the box
   no-nearer : (t : ℕ) → t < n → (b : Box) → Proper b → Contains b (boxAt triangles t) → lt (hit f triangles p t .squared) (heldSquared f b p) ≡ false
-  unfolding hit measured boxAt
+  unfolding hit boxAt
   no-nearer t l b B c =
       is-false (lt (squaredDistance f (heldPoint f (triangleAt triangles t) p) p) (heldSquared f b p))
       (le→not-lt (heldSquared f b p) (squaredDistance f (heldPoint f (triangleAt triangles t) p) p)

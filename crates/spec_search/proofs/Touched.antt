@@ -10,7 +10,6 @@ use Rattle.spec_numbers.specs.Axes.{Finite}
 use Rattle.spec_numbers.proofs.Order.{number-right, eq→le, transitive, antisymmetric}
 use Rattle.spec_numbers.proofs.Square.{square-not-below, square-keeps-order, abs-grows-downward}
 use Rattle.spec_shapes.specs.Points.{Point, at}
-use Rattle.spec_shapes.specs.Triangles.{measured}
 use Rattle.spec_shapes.proofs.Held.{held-squared-not-below}
 use Rattle.spec_lists.specs.Reading.{triangleAt, triangleCount}
 use Rattle.spec_lists.specs.Passed.{GoodTriangles}
@@ -58,7 +57,7 @@ module _ (f : Format) (distance : Float) (low : T (le zero distance)) (high : T 
 
   module _ (triangles : List Float) (good : GoodTriangles triangles) (p : Point) (P : Finite (at p)) where
     hit-not-below : (t : ℕ) → t < triangleCount triangles → T (le zero (hit f triangles p t .squared))
-    unfolding hit measured
+    unfolding hit
     hit-not-below t l = held-squared-not-below f (triangleAt triangles t) (corners-finite triangles (good .coordinates) t (triangle-inside triangles t l)) p P
 
     -- a triangle counts exactly where the squared distance to its held point is zero

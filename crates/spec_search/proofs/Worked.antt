@@ -6,11 +6,11 @@ use mathlib.Core.Bool.{false}
 use mathlib.Core.List.{List, [], _∷_, _++_}
 use Prim.Native.Nat.{ℕ}
 use lib.IntN.{ℤ, pos, negsuc}
-use lib.Ieee.{Float, Format, binary32, binary64, fin, add, sub, mul, div, lt, le, eq, round, ofInt}
+use lib.Ieee.{Float, Format, binary32, binary64, fin, add, sub, mul, div, lt, le, eq, round, ofInt, toBits}
 use Rattle.spec_numbers.specs.Same.{same}
 use Rattle.spec_shapes.specs.Points.{Point, minus, plus, scale, dot, smallest, largest, isUnder, isFinite, plusZero, squaredDistance}
 use Rattle.spec_shapes.specs.Boxes.{union, withExcess, withOutside, boxSquared, containsPoint, heldIn, heldSquared}
-use Rattle.spec_shapes.specs.Triangles.{boxOf, dots, crossed, part, along, facePoint, pointOn, closestPoint, heldPoint, measured}
+use Rattle.spec_shapes.specs.Triangles.{boxOf, dots, crossed, part, along, facePoint, pointOn, partNumber, closestSpot, heldSpot}
 use Rattle.spec_lists.specs.Refusals.{Verdict, passes, refused, firstRefusal, isCoordinate, isDistance, firstBad, raggedRefusal, noneRefusal, tooManyRefusal, coordinateRefusal, trianglesRefusal, roomRefusal, pointsRefusal, distanceRefusal}
 use Rattle.spec_lists.specs.Reading.{numberAt, pointAt, triangleAt, boxAt, triangleCount, pointCount}
 use Rattle.spec_tree.specs.Trees.{Tree, leaf, branch, numbers, nodeCount, joinedTo, joined, boxOver, rootFrom, linksFrom, boxesOf}
@@ -19,7 +19,7 @@ use Rattle.spec_tree.specs.Accepted.{sameBox, present}
 use Rattle.spec_tree.specs.Reasons as Reasons
 use Rattle.spec_tree.specs.Reasons.{failingFrom, refusedWhere, isNew, orderRefusal, countRefusal, scanLeaf, listingRefusal, levelUnder, isShallow, depthRefusal, isBoxed, boxRefusal, reason}
 use Rattle.spec_tree.specs.Refusals.{treeRefusal}
-use Rattle.spec_search.specs.Answers.{sure, source, Answer, nothing, found}
+use Rattle.spec_search.specs.Answers.{sure, source, Answer, nothing, found, wordsOf}
 use Rattle.spec_search.specs.Walk.{Sought, tookAll, nodeWalk, pairWalk, rootWalk, fold}
 use Rattle.spec_search.specs.Rules.{Rule, strictlyBelow, belowOrEqual, ruleOf, ruleRefusal, limitSquared, limitOf, counts}
 use Rattle.spec_search.specs.Sure.{offered, isSkipped, hit, tookSure, scan, nodeSquared, skippedSure, rightNearer, sureWalk}
@@ -67,8 +67,8 @@ module _ (f : Format) where
       let walked = markedWalk f t0t1 (numbers two) (linksFrom 0 0 two) (boxesOf (boxAt t0t1) two) (nodeCount two) (onX x) (limitOf f rule distance) in
       record { best = unmarked (walked .best); measured = walked .measured }
 
-  abbrev foundAt : ℕ → ℤ → Float → Answer
-  foundAt triangle x squared = found (record { point = onX (n x); squared = squared; triangle = triangle })
+  abbrev foundAt : ℕ → ℕ → ℤ → Float → Answer
+  foundAt triangle part x squared = found (record { point = onX (n x); squared = squared; triangle = triangle; part = part })
 
   -- 5.5 is 11 / 2, 4.5 is 9 / 2, and 20.25, which is 4.5 squared, is 81 / 4
   abbrev between : Float
@@ -85,9 +85,9 @@ module _ (f : Format) where
 pub source-worked : (f : Format)
     → (sourceIn f (t0t1 f) (two f) (between f) (n f (pos 5)) ∷ sourceIn f (t0t1 f) (two f) (between f) (reach f)
     ∷ sourceIn f (t0 f) (one f) (n f (pos 100)) (n f (pos 1)) ∷ [])
-    ≡ (foundAt f 1 (pos 10) (level f) ∷ nothing ∷ foundAt f 0 (pos 1) (n f (pos 9801)) ∷ [])
+    ≡ (foundAt f 1 1 (pos 10) (level f) ∷ nothing ∷ foundAt f 0 2 (pos 1) (n f (pos 9801)) ∷ [])
 unfolding add sub mul div lt le eq round ofInt minus plus scale dot smallest largest isUnder isFinite plusZero squaredDistance union withExcess
-    withOutside boxSquared containsPoint heldIn heldSquared boxOf dots crossed part along facePoint pointOn closestPoint heldPoint measured
+    withOutside boxSquared containsPoint heldIn heldSquared boxOf dots crossed part along facePoint pointOn closestSpot partNumber heldSpot
     numberAt pointAt triangleAt boxAt triangleCount numbers nodeCount joinedTo joined boxOver rootFrom linksFrom boxesOf range tookAll nodeWalk
     pairWalk rootWalk fold limitSquared counts offered isSkipped hit tookSure scan nodeSquared skippedSure rightNearer sureWalk sourceHit keepSmaller
     tookSource enters sourceWalk sureAnswer sourceAnswer
@@ -100,9 +100,9 @@ pub sure-worked : (f : Format)
     → (sureIn f strictlyBelow (t0t1 f) (between f) (n f (pos 5)) ∷ sureIn f strictlyBelow (t0t1 f) (between f) (reach f)
     ∷ sureIn f belowOrEqual (t0t1 f) (between f) (reach f) ∷ sureIn f strictlyBelow (t0 f) (n f (pos 1)) (n f (pos 0))
     ∷ sureIn f belowOrEqual (t0 f) (n f (pos 1)) (n f (pos 0)) ∷ sureIn f belowOrEqual (t0 f) (n f (pos 100)) (n f (pos 1)) ∷ [])
-    ≡ (foundAt f 0 (pos 1) (level f) ∷ nothing ∷ foundAt f 0 (pos 1) (level f) ∷ nothing ∷ foundAt f 0 (pos 1) (n f (pos 0)) ∷ nothing ∷ [])
+    ≡ (foundAt f 0 2 (pos 1) (level f) ∷ nothing ∷ foundAt f 0 2 (pos 1) (level f) ∷ nothing ∷ foundAt f 0 2 (pos 1) (n f (pos 0)) ∷ nothing ∷ [])
 unfolding add sub mul div lt le eq round ofInt minus plus scale dot smallest largest isUnder isFinite plusZero squaredDistance union withExcess
-    withOutside boxSquared containsPoint heldIn heldSquared boxOf dots crossed part along facePoint pointOn closestPoint heldPoint measured
+    withOutside boxSquared containsPoint heldIn heldSquared boxOf dots crossed part along facePoint pointOn closestSpot partNumber heldSpot
     numberAt pointAt triangleAt boxAt triangleCount numbers nodeCount joinedTo joined boxOver rootFrom linksFrom boxesOf range tookAll nodeWalk
     pairWalk rootWalk fold limitSquared counts offered isSkipped hit tookSure scan nodeSquared skippedSure rightNearer sureWalk sourceHit keepSmaller
     tookSource enters sourceWalk sureAnswer sourceAnswer
@@ -114,10 +114,10 @@ sure-worked binary64 = refl
 pub walk-worked : (f : Format)
     → (walkIn f strictlyBelow (between f) (n f (pos 5)) ∷ walkIn f strictlyBelow (n f (pos 9)) (n f (pos 50))
     ∷ walkIn f strictlyBelow (between f) (reach f) ∷ walkIn f belowOrEqual (between f) (reach f) ∷ [])
-    ≡ (record { best = foundAt f 0 (pos 1) (level f); measured = 2 } ∷ record { best = foundAt f 1 (pos 10) (n f (pos 1)); measured = 1 }
-    ∷ record { best = nothing; measured = 0 } ∷ record { best = foundAt f 0 (pos 1) (level f); measured = 2 } ∷ [])
+    ≡ (record { best = foundAt f 0 2 (pos 1) (level f); measured = 2 } ∷ record { best = foundAt f 1 1 (pos 10) (n f (pos 1)); measured = 1 }
+    ∷ record { best = nothing; measured = 0 } ∷ record { best = foundAt f 0 2 (pos 1) (level f); measured = 2 } ∷ [])
 unfolding add sub mul div lt le eq round ofInt minus plus scale dot smallest largest isUnder isFinite plusZero squaredDistance union withExcess
-    withOutside boxSquared containsPoint heldIn heldSquared boxOf dots crossed part along facePoint pointOn closestPoint heldPoint measured
+    withOutside boxSquared containsPoint heldIn heldSquared boxOf dots crossed part along facePoint pointOn closestSpot partNumber heldSpot
     numberAt pointAt triangleAt boxAt triangleCount numbers nodeCount joinedTo joined boxOver rootFrom linksFrom boxesOf range tookAll nodeWalk
     pairWalk rootWalk fold limitSquared counts offered isSkipped hit tookSure scan nodeSquared skippedSure rightNearer sureWalk sourceHit keepSmaller
     tookSource enters sourceWalk sureAnswer sourceAnswer
@@ -128,15 +128,21 @@ walk-worked binary64 = refl
 pub marked-worked : (f : Format)
     → (markedIn f strictlyBelow (between f) (n f (pos 5)) ∷ markedIn f strictlyBelow (between f) (reach f)
     ∷ markedIn f belowOrEqual (between f) (reach f) ∷ markedIn f belowOrEqual (n f (pos 100)) (n f (pos 1)) ∷ [])
-    ≡ (record { best = foundAt f 0 (pos 1) (level f); measured = 2 } ∷ record { best = nothing; measured = 0 }
-    ∷ record { best = foundAt f 0 (pos 1) (level f); measured = 2 } ∷ record { best = nothing; measured = 0 } ∷ [])
+    ≡ (record { best = foundAt f 0 2 (pos 1) (level f); measured = 2 } ∷ record { best = nothing; measured = 0 }
+    ∷ record { best = foundAt f 0 2 (pos 1) (level f); measured = 2 } ∷ record { best = nothing; measured = 0 } ∷ [])
 unfolding add sub mul div lt le eq round ofInt minus plus scale dot smallest largest isUnder isFinite plusZero squaredDistance union withExcess
-    withOutside boxSquared containsPoint heldIn heldSquared boxOf dots crossed part along facePoint pointOn closestPoint heldPoint measured
+    withOutside boxSquared containsPoint heldIn heldSquared boxOf dots crossed part along facePoint pointOn closestSpot partNumber heldSpot
     numberAt pointAt triangleAt boxAt triangleCount numbers nodeCount joinedTo joined boxOver rootFrom linksFrom boxesOf range tookAll nodeWalk
     pairWalk rootWalk fold limitSquared counts offered isSkipped hit tookSure scan nodeSquared skippedSure rightNearer sureWalk sourceHit keepSmaller
     tookSource enters sourceWalk sureAnswer sourceAnswer kept markedWalk
 marked-worked binary32 = refl
 marked-worked binary64 = refl
+
+-- an answer's numbers: found, triangle, the bits of (1,0,0) and of 20.25, part; and nothing
+pub words-worked : (wordsOf binary32 (foundAt binary32 3 2 (pos 1) (level binary32)) ∷ wordsOf binary32 nothing ∷ [])
+    ≡ ((1 ∷ 3 ∷ 0x3f80_0000 ∷ 0 ∷ 0 ∷ 0x41a2_0000 ∷ 2 ∷ []) ∷ (0 ∷ 0 ∷ 0 ∷ 0 ∷ 0 ∷ 0 ∷ 0 ∷ []) ∷ [])
+unfolding wordsOf toBits ofInt round
+words-worked = refl
 
 -- the numbers of the rules, and of none
 pub rules-worked : (ruleOf 1 ∷ ruleOf 2 ∷ []) ≡ (strictlyBelow ∷ belowOrEqual ∷ [])
@@ -204,24 +210,24 @@ abbrev closer : Float
 closer = fin false 23 (negsuc 1)
 
 abbrev unpatched : Format → Answer
-unpatched f = foundAt f 0 (pos 1) (fin false 361 (negsuc 3))
+unpatched f = foundAt f 0 2 (pos 1) (fin false 361 (negsuc 3))
 
 abbrev patched : Format → Answer
-patched f = foundAt f 1 (pos 10) (fin false 289 (negsuc 3))
+patched f = foundAt f 1 1 (pos 10) (fin false 289 (negsuc 3))
 
 abbrev standing : Format → Answer
-standing f = foundAt f 0 (pos 1) (level f)
+standing f = foundAt f 0 2 (pos 1) (level f)
 
 abbrev come : Format → Answer
-come f = foundAt f 1 (pos 10) (n f (pos 4))
+come f = foundAt f 1 1 (pos 10) (n f (pos 4))
 
 -- at 5.5 T1 is level with T0, whose answer stands; at 5.75 T1 is nearer; at 8, where T0 is too far, T1 is found, and T0 by the wider search
 pub patch-worked : (f : Format) → (answersAt f (between f) ∷ answersAt f closer ∷ answersAt f (n f (pos 8)) ∷ [])
     ≡ ((standing f ∷ standing f ∷ standing f ∷ standing f ∷ standing f ∷ [])
     ∷ (unpatched f ∷ patched f ∷ patched f ∷ unpatched f ∷ unpatched f ∷ [])
-    ∷ (nothing ∷ come f ∷ come f ∷ foundAt f 0 (pos 1) (n f (pos 49)) ∷ nothing ∷ []) ∷ [])
+    ∷ (nothing ∷ come f ∷ come f ∷ foundAt f 0 2 (pos 1) (n f (pos 49)) ∷ nothing ∷ []) ∷ [])
 unfolding add sub mul div lt le eq round ofInt minus plus scale dot smallest largest isUnder isFinite plusZero squaredDistance union heldIn boxOf dots
-    crossed part along facePoint pointOn closestPoint heldPoint measured numberAt pointAt triangleAt triangleCount range fold ruleOf
+    crossed part along facePoint pointOn closestSpot partNumber heldSpot numberAt pointAt triangleAt triangleCount range fold ruleOf
     limitSquared counts offered hit tookSure scan sureAnswer
 patch-worked binary32 = refl
 patch-worked binary64 = refl
@@ -242,10 +248,10 @@ sourceAround f distance =
 
 -- the source query has no such law: within 1 it finds the first, because of its box, and within 3 the second
 pub source-widened : (f : Format) → (sourceAround f (pos 1) ∷ sourceAround f (pos 3) ∷ [])
-    ≡ (found (record { point = flat f (pos 2) (pos 2); squared = n f (pos 8); triangle = 0 })
-    ∷ found (record { point = flat f (pos 6) (pos 4); squared = n f (pos 4); triangle = 1 }) ∷ [])
+    ≡ (found (record { point = flat f (pos 2) (pos 2); squared = n f (pos 8); triangle = 0; part = 6 })
+    ∷ found (record { point = flat f (pos 6) (pos 4); squared = n f (pos 4); triangle = 1; part = 1 }) ∷ [])
 unfolding add sub mul div lt le eq round ofInt minus plus scale dot smallest largest isUnder plusZero squaredDistance union withExcess withOutside
-    boxSquared containsPoint boxOf dots crossed part along facePoint pointOn closestPoint numberAt pointAt triangleAt boxAt triangleCount numbers
+    boxSquared containsPoint boxOf dots crossed part along facePoint pointOn closestSpot partNumber numberAt pointAt triangleAt boxAt triangleCount numbers
     nodeCount joinedTo joined boxOver rootFrom linksFrom boxesOf tookAll pairWalk nodeWalk rootWalk limitSquared sourceHit keepSmaller tookSource enters
     sourceWalk sourceAnswer
 source-widened binary32 = refl

@@ -1,4 +1,4 @@
--- The two public queries over lists of points: what they refuse, and what they write, six numbers a point.
+-- The two public queries over lists of points: what they refuse, and what they write, an answer a point.
 use mathlib.Core.Path.{_≡_}
 use mathlib.Core.Bool.{true}
 use mathlib.Core.List.{List, [], _∷_}
@@ -11,7 +11,7 @@ use Rattle.spec_lists.specs.Passed.{GoodTriangles, GoodPoints, GoodDistance}
 use Rattle.spec_lists.specs.Refusals.{Verdict, passes, firstRefusal, trianglesRefusal, roomRefusal, pointsRefusal, distanceRefusal, afterVerdict}
 use Rattle.spec_tree.specs.Accepted.{accepted}
 use Rattle.spec_tree.specs.Refusals.{treeRefusal}
-use Rattle.spec_search.specs.Answers.{Query, sure, source, Answer, sixWords}
+use Rattle.spec_search.specs.Answers.{Query, sure, source, Answer, answerWidth, wordsOf}
 use Rattle.spec_search.specs.Rules.{Rule, ruleOf, ruleRefusal, limitSquared, limitOf}
 use Rattle.spec_search.specs.Sure.{scan}
 use Rattle.spec_search.specs.Source.{sourceWalk}
@@ -21,13 +21,13 @@ abbrev pub ruleRefusalBy : Query → Verdict
 ruleRefusalBy (sure rule) = ruleRefusal rule
 ruleRefusalBy source = passes
 
--- 1 to 6, 71 to 75, 8, 9, the first that applies; `room` is the lent list's length, and an answer takes six
+-- 1 to 6, 71 to 75, 8, 9, the first that applies; `room` is the lent list's length, and an answer takes its width of it
 unfoldable pub queryRefusal : Query → (triangles : List Float) (order links : List ℕ) (boxes : List Float) (nodes : ℕ) (points : List Float)
     (distance : Float) (room : ℕ) → Verdict
 queryRefusal query triangles order links boxes nodes points distance room =
     firstRefusal
     (trianglesRefusal triangles
-    ∷ ruleRefusalBy query ∷ roomRefusal (room / 6) (pointCount points)
+    ∷ ruleRefusalBy query ∷ roomRefusal (room / answerWidth) (pointCount points)
     ∷ treeRefusal triangles order links boxes nodes
     ∷ pointsRefusal points
     ∷ distanceRefusal distance
@@ -35,7 +35,7 @@ queryRefusal query triangles order links boxes nodes points distance room =
 
 -- the answers to all points, concatenated
 unfoldable pub answerWords : Format → (Point → Answer) → List Float → List ℕ
-answerWords f answer points = concatMap (λ k. sixWords f (answer (pointAt points (3 * k)))) (pointCount points)
+answerWords f answer points = concatMap (λ k. wordsOf f (answer (pointAt points (3 * k)))) (pointCount points)
 
 -- the lent list afterwards: the answers from the front, what was there behind them; on a refusal as it was
 unfoldable pub afterQuery : Format → (Point → Answer) → List Float → Verdict → List ℕ → List ℕ

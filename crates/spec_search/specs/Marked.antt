@@ -30,7 +30,12 @@ startSquared strictlyBelow squared = inf false
 startSquared belowOrEqual squared = squared
 
 abbrev pub start : Limit → Hit
-start limit = record { point = record { x = zero; y = zero; z = zero }; squared = startSquared (limit .rule) (limit .squared); triangle = noTriangle }
+start limit = record {
+  point = record { x = zero; y = zero; z = zero };
+  squared = startSquared (limit .rule) (limit .squared);
+  triangle = noTriangle;
+  part = 0;
+}
 
 -- the whole walk, from the root
 unfoldable pub markedWalk : Format → List Float → List ℕ → List ℕ → List Float → ℕ → Point → Limit → Sought Answer

@@ -4,13 +4,13 @@ use mathlib.Core.Bool.{Bool, true, false, not, cond, _||_}
 use mathlib.Core.List.{List}
 use Prim.Native.Nat.{ℕ, _-_}
 use lib.Ieee.{Float, Format, inf, lt}
-use Rattle.spec_shapes.specs.Points.{Point, squaredDistance}
+use Rattle.spec_shapes.specs.Points.{Point}
 use Rattle.spec_shapes.specs.Boxes.{boxSquared, containsPoint}
-use Rattle.spec_shapes.specs.Triangles.{closestPoint}
+use Rattle.spec_shapes.specs.Triangles.{closestSpot}
 use Rattle.spec_lists.specs.Limits.{deepest}
 use Rattle.spec_lists.specs.Reading.{triangleAt}
 use Rattle.spec_tree.specs.Trees.{nodeBox}
-use Rattle.spec_search.specs.Answers.{Hit, Answer, nothing, found}
+use Rattle.spec_search.specs.Answers.{Hit, hitAt, Answer, nothing, found}
 use Rattle.spec_search.specs.Walk.{Search, Sought, rootWalk}
 use Rattle.spec_search.specs.Sure.{atFirst}
 
@@ -19,11 +19,9 @@ abbrev pub smallest : Answer → Float
 smallest nothing = inf false
 smallest (found k) = k .squared
 
--- what is measured of triangle t: its computed closest point
+-- what is measured of triangle t: its computed closest point, and the part whose test answered
 unfoldable pub sourceHit : Format → List Float → Point → ℕ → Hit
-sourceHit f triangles p t =
-    let q = closestPoint f (triangleAt triangles t) p in
-    record { point = q; squared = squaredDistance f q p; triangle = t }
+sourceHit f triangles p t = hitAt f (closestSpot f (triangleAt triangles t) p) p t
 
 -- the strictly smaller one is kept: among equals, the one that was measured first
 unfoldable pub keepSmaller : Hit → Answer → Answer

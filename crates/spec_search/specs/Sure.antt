@@ -7,16 +7,16 @@ use lib.Dec.{ltb}
 use lib.Ieee.{Float, Format, lt, eq}
 use Rattle.spec_shapes.specs.Points.{Point}
 use Rattle.spec_shapes.specs.Boxes.{heldSquared}
-use Rattle.spec_shapes.specs.Triangles.{measured}
+use Rattle.spec_shapes.specs.Triangles.{heldSpot}
 use Rattle.spec_lists.specs.Limits.{deepest}
 use Rattle.spec_lists.specs.Reading.{triangleAt, triangleCount}
 use Rattle.spec_tree.specs.Order.{range}
 use Rattle.spec_tree.specs.Trees.{nodeBox}
-use Rattle.spec_search.specs.Answers.{Hit, Answer, nothing, found}
+use Rattle.spec_search.specs.Answers.{Hit, hitAt, Answer, nothing, found}
 use Rattle.spec_search.specs.Rules.{Limit, counts}
 use Rattle.spec_search.specs.Walk.{Search, Sought, nodeWalk, fold}
 
--- h is smaller than what is kept, or level with it at a lower number
+-- h is smaller than what is kept, or level with it at a lower number; the part has no say
 abbrev pub better : Hit → Answer → Bool
 better h nothing = true
 better h (found k) = lt (h .squared) (k .squared) || (eq (h .squared) (k .squared) && ltb (h .triangle) (k .triangle))
@@ -35,9 +35,9 @@ unfoldable pub isSkipped : Limit → Float → Answer → Bool
 isSkipped limit d k = not (counts limit d) || above d k
 
 module _ (f : Format) (triangles : List Float) (p : Point) where
-  -- what is measured of triangle t: its held point
+  -- what is measured of triangle t: its held point, and its part
   unfoldable pub hit : ℕ → Hit
-  hit t = let m = measured f (triangleAt triangles t) p in record { point = m .point; squared = m .squared; triangle = t }
+  hit t = hitAt f (heldSpot f (triangleAt triangles t) p) p t
 
   unfoldable pub tookSure : Limit → ℕ → Answer → Answer
   tookSure limit t k = offered limit (hit t) k

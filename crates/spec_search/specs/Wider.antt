@@ -41,7 +41,7 @@ narrowedTo limit (found h) = cond (counts limit (h .squared)) (found h) nothing
 -- ---- triangles appended
 -- what was measured of a triangle that stands behind n others
 abbrev pub numbered : ℕ → Hit → Hit
-numbered n h = record { point = h .point; squared = h .squared; triangle = n + h .triangle }
+numbered n h = record { point = h .point; squared = h .squared; triangle = n + h .triangle; part = h .part }
 
 -- and answered
 abbrev pub numberedFrom : ℕ → Answer → Answer

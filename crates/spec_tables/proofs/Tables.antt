@@ -176,13 +176,15 @@ module _ {A : Type 0} where
       ∙ ap (λ (l : List A). take p old ++ d ∷ l) (drop-at front rest (suc p) long)
       ∙ ap (λ (k : ℕ). take p old ++ d ∷ (tail ++ drop k old)) more)
 
-  -- six stores one after the other are one overwrite
-  pub six-overwrite : (at : ℕ) (a b c d e f : A) (old : List A) → at + 6 ≤ length old
-      → set (set (set (set (set (set old at a) (at + 1) b) (at + 2) c) (at + 3) d) (at + 4) e) (at + 5) f ≡ overwrite at (a ∷ b ∷ c ∷ d ∷ e ∷ f ∷ []) old
-  six-overwrite at a b c d e f old h =
+  -- seven stores one after the other are one overwrite
+  pub seven-overwrite : (at : ℕ) (a b c d e f g : A) (old : List A) → at + 7 ≤ length old
+      → set (set (set (set (set (set (set old at a) (at + 1) b) (at + 2) c) (at + 3) d) (at + 4) e) (at + 5) f) (at + 6) g
+      ≡ overwrite at (a ∷ b ∷ c ∷ d ∷ e ∷ f ∷ g ∷ []) old
+  seven-overwrite at a b c d e f g old h =
       let p1 : at + 1 ≡ suc at = omega arith in
       let p2 : at + 2 ≡ suc (suc at) = omega arith in
       let p3 : at + 3 ≡ suc (suc (suc at)) = omega arith in
       let p4 : at + 4 ≡ suc (suc (suc (suc at))) = omega arith in
       let p5 : at + 5 ≡ suc (suc (suc (suc (suc at)))) = omega arith in
-      rw (p1, p2, p3, p4, p5) (sets-overwrite at (a ∷ b ∷ c ∷ d ∷ e ∷ f ∷ []) old h)
+      let p6 : at + 6 ≡ suc (suc (suc (suc (suc (suc at))))) = omega arith in
+      rw (p1, p2, p3, p4, p5, p6) (sets-overwrite at (a ∷ b ∷ c ∷ d ∷ e ∷ f ∷ g ∷ []) old h)

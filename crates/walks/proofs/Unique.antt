@@ -10,11 +10,11 @@ use Rattle.walks.specs.Values.{asAnswer, asSought}
 
 abbrev back : Answers.Answer → Answer
 back Answers.nothing = Nothing
-back (Answers.found h) = Found (h .point .x) (h .point .y) (h .point .z) (h .squared) (h .triangle)
+back (Answers.found h) = Found (h .point .x) (h .point .y) (h .point .z) (h .squared) (h .triangle) (h .part)
 
 back-is : (a : Answer) → back (asAnswer a) ≡ a
 back-is Nothing = refl
-back-is (Found x y z squared triangle) = refl
+back-is (Found x y z squared triangle part) = refl
 
 -- what an answer stands for fixes it
 pub answer-unique : (a b : Answer) → asAnswer a ≡ asAnswer b → a ≡ b

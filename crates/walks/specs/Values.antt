@@ -27,11 +27,12 @@ asMeasures Held = Kept.held
 asMeasures Computed = Kept.computed
 
 abbrev pub asHit : Hit → Answers.Hit
-asHit h = record { point = asPoint (h .point); squared = h .squared; triangle = h .triangle }
+asHit h = record { point = asPoint (h .point); squared = h .squared; triangle = h .triangle; part = h .part }
 
 abbrev pub asAnswer : Answer → Answers.Answer
 asAnswer Nothing = Answers.nothing
-asAnswer (Found x y z squared triangle) = Answers.found (record { point = record { x = x; y = y; z = z }; squared = squared; triangle = triangle })
+asAnswer (Found x y z squared triangle part) =
+    Answers.found (record { point = record { x = x; y = y; z = z }; squared = squared; triangle = triangle; part = part })
 
 abbrev pub asSought : Sought → Walk.Sought Answers.Answer
 asSought s = record { best = asAnswer (s .best); measured = s .measured }
@@ -45,10 +46,10 @@ pointOf four = record { x = getD four 0 nan; y = getD four 1 nan; z = getD four 
 abbrev pub fourthOf : List Float → Float
 fourthOf four = getD four 3 nan
 
--- what is kept, as a hit
-abbrev pub hitOf : List Float → ℕ → Answers.Hit
-hitOf best number = record { point = pointOf best; squared = fourthOf best; triangle = number }
+-- what is kept, as a hit: four numbers, and which triangle and which part of it
+abbrev pub hitOf : List Float → List ℕ → Answers.Hit
+hitOf best which = record { point = pointOf best; squared = fourthOf best; triangle = getD which 0 0; part = getD which 1 0 }
 
 -- what a search keeps, and how many triangles it measured
-abbrev pub soughtOf : List Float → ℕ → ℕ → Walk.Sought Answers.Answer
-soughtOf best number measured = record { best = kept (hitOf best number); measured = measured }
+abbrev pub soughtOf : List Float → List ℕ → ℕ → Walk.Sought Answers.Answer
+soughtOf best which measured = record { best = kept (hitOf best which); measured = measured }

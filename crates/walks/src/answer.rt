@@ -19,7 +19,7 @@ pub struct Probe {
     pub limit: f32,
 }
 
-// Nothing, or the surface point that was found, with its squared distance and the number of its triangle.
+// Nothing, or the surface point that was found, with its squared distance, the number of its triangle and that of the part that was hit.
 pub enum Answer {
     Nothing,
     Found {
@@ -28,6 +28,7 @@ pub enum Answer {
         z: f32,
         squared: f32,
         triangle: u32,
+        part: u32,
     },
 }
 
@@ -36,6 +37,7 @@ pub struct Hit {
     pub point: Vec3,
     pub squared: f32,
     pub triangle: u32,
+    pub part: u32,
 }
 
 // The best answer so far, and how many triangles were measured.

@@ -1,4 +1,4 @@
-// What a walk keeps, lent from call to call: a point with its squared distance in four numbers, and the number of its triangle.
+// What a walk keeps, lent from call to call: a point with its squared distance in four numbers, and the numbers of its triangle and of its part.
 // An infinite squared distance stands for nothing kept.
 ghost use mathlib.Core.Path.{_≡_};
 ghost use Rattle.shapes.specs.Values as Shapes;
@@ -26,12 +26,12 @@ pub fn point_of(four: &[f32; 4]) -> Vec3
     }
 }
 
-// Leaves the hit in the four numbers and the triangle number.
-fn keep(hit: Hit, best: &mut [f32; 4], number: &mut u32)
-    ensures { λ _. ⌜ Values.hitOf (now (best .exit)) (now (number .exit)) ≡ Values.asHit hit ⌝ }
+// Leaves the hit in the four numbers and in the two that say which triangle and which part of it.
+fn keep(hit: Hit, best: &mut [f32; 4], which: &mut [u32; 2])
+    ensures { λ _. ⌜ Values.hitOf (now (best .exit)) (now (which .exit)) ≡ Values.asHit hit ⌝ }
 {
     *best = [hit.point.x, hit.point.y, hit.point.z, hit.squared];
-    *number = hit.triangle;
+    *which = [hit.triangle, hit.part];
 }
 
 // Whether a squared distance counts: it is strictly below the limit.
@@ -42,44 +42,44 @@ fn does_count(limit: f32, squared: f32) -> bool
 }
 
 // Whether the hit is smaller than what is kept, or equal to it with a lower triangle number.
-fn is_nearer(hit: Hit, best: &[f32; 4], number: u32) -> bool
-    ensures { λ r. ⌜ r ≡ Kept.nearer (Values.asHit hit) (Values.hitOf (now (best .entry)) number) ⌝ }
+fn is_nearer(hit: Hit, best: &[f32; 4], which: &[u32; 2]) -> bool
+    ensures { λ r. ⌜ r ≡ Kept.nearer (Values.asHit hit) (Values.hitOf (now (best .entry)) (now (which .entry))) ⌝ }
 {
-    (hit.squared < best[3]) | ((hit.squared == best[3]) & (hit.triangle < number))
+    (hit.squared < best[3]) | ((hit.squared == best[3]) & (hit.triangle < which[0]))
 }
 
 // Whether a box at this squared distance is skipped: the distance does not count, or is above the best so far.
-pub fn is_skipped(limit: f32, squared: f32, best: &[f32; 4], number: u32) -> bool
-    ensures { λ r. ⌜ r ≡ Sure.isSkipped (Kept.below limit) squared (Kept.kept (Values.hitOf (now (best .entry)) number)) ⌝ }
+pub fn is_skipped(limit: f32, squared: f32, best: &[f32; 4], which: &[u32; 2]) -> bool
+    ensures { λ r. ⌜ r ≡ Sure.isSkipped (Kept.below limit) squared (Kept.kept (Values.hitOf (now (best .entry)) (now (which .entry)))) ⌝ }
 {
     !does_count(limit, squared) | (best[3] < squared)
 }
 
 // Keeps the hit where it counts and is nearer. The sure query uses it.
-pub fn offer(limit: f32, hit: Hit, best: &mut [f32; 4], number: &mut u32)
-    ensures { λ _. ⌜ Kept.kept (Values.hitOf (now (best .exit)) (now (number .exit)))
-        ≡ Sure.offered (Kept.below limit) (Values.asHit hit) (Kept.kept (Values.hitOf (now (best .entry)) (now (number .entry)))) ⌝ }
+pub fn offer(limit: f32, hit: Hit, best: &mut [f32; 4], which: &mut [u32; 2])
+    ensures { λ _. ⌜ Kept.kept (Values.hitOf (now (best .exit)) (now (which .exit)))
+        ≡ Sure.offered (Kept.below limit) (Values.asHit hit) (Kept.kept (Values.hitOf (now (best .entry)) (now (which .entry)))) ⌝ }
 {
-    if does_count(limit, hit.squared) & is_nearer(hit, best, *number) {
-        keep(hit, best, number);
+    if does_count(limit, hit.squared) & is_nearer(hit, best, which) {
+        keep(hit, best, which);
         return;
     }
 }
 
 // Keeps the hit where it is strictly smaller. The source query uses it.
-pub fn keep_smaller(hit: Hit, best: &mut [f32; 4], number: &mut u32)
-    ensures { λ _. ⌜ Kept.kept (Values.hitOf (now (best .exit)) (now (number .exit)))
-        ≡ Source.keepSmaller (Values.asHit hit) (Kept.kept (Values.hitOf (now (best .entry)) (now (number .entry)))) ⌝ }
+pub fn keep_smaller(hit: Hit, best: &mut [f32; 4], which: &mut [u32; 2])
+    ensures { λ _. ⌜ Kept.kept (Values.hitOf (now (best .exit)) (now (which .exit)))
+        ≡ Source.keepSmaller (Values.asHit hit) (Kept.kept (Values.hitOf (now (best .entry)) (now (which .entry)))) ⌝ }
 {
     if hit.squared < best[3] {
-        keep(hit, best, number);
+        keep(hit, best, which);
         return;
     }
 }
 
 // What is kept, as an answer.
-pub fn answer_of(best: &[f32; 4], number: u32) -> Answer
-    ensures { λ r. ⌜ Values.asAnswer r ≡ Kept.kept (Values.hitOf (now (best .entry)) number) ⌝ }
+pub fn answer_of(best: &[f32; 4], which: &[u32; 2]) -> Answer
+    ensures { λ r. ⌜ Values.asAnswer r ≡ Kept.kept (Values.hitOf (now (best .entry)) (now (which .entry))) ⌝ }
 {
     if best[3] == 1.0 / 0.0 {
         return Answer::Nothing;
@@ -89,15 +89,16 @@ pub fn answer_of(best: &[f32; 4], number: u32) -> Answer
         y: best[1],
         z: best[2],
         squared: best[3],
-        triangle: number,
+        triangle: which[0],
+        part: which[1],
     }
 }
 
 // What is kept at the end of a sure query, as an answer: where it is still the marker, nothing.
-pub fn unmarked_answer(best: &[f32; 4], number: u32) -> Answer
-    ensures { λ r. ⌜ Values.asAnswer r ≡ Marked.unmarked (Kept.kept (Values.hitOf (now (best .entry)) number)) ⌝ }
+pub fn unmarked_answer(best: &[f32; 4], which: &[u32; 2]) -> Answer
+    ensures { λ r. ⌜ Values.asAnswer r ≡ Marked.unmarked (Kept.kept (Values.hitOf (now (best .entry)) (now (which .entry)))) ⌝ }
 {
-    if (best[3] == 1.0 / 0.0) | (number == NO_TRIANGLE) {
+    if (best[3] == 1.0 / 0.0) | (which[0] == NO_TRIANGLE) {
         return Answer::Nothing;
     }
     Answer::Found {
@@ -105,6 +106,7 @@ pub fn unmarked_answer(best: &[f32; 4], number: u32) -> Answer
         y: best[1],
         z: best[2],
         squared: best[3],
-        triangle: number,
+        triangle: which[0],
+        part: which[1],
     }
 }

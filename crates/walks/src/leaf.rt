@@ -4,10 +4,10 @@ ghost use Prim.Native.Nat.{_+_, _-_, _*_, _^_, _≤_, _<_};
 ghost use lib.ListN.{length};
 ghost use lib.Ieee.{binary32};
 ghost use Rattle.shapes.specs.Values as Shapes;
-ghost use Rattle.spec_shapes.specs.Points as Points;
 ghost use Rattle.spec_lists.specs.Reading as Reading;
 ghost use Rattle.spec_tables.specs.Tables as Tables;
 ghost use Rattle.spec_tree.specs.Order as Order;
+ghost use Rattle.spec_search.specs.Answers as Answers;
 ghost use Rattle.spec_search.specs.Walk as Walk;
 ghost use Rattle.spec_search.specs.Kept as Kept;
 ghost use Rattle.walks.specs.Values as Values;
@@ -17,18 +17,21 @@ use crate::kept::keep_smaller;
 use crate::kept::offer;
 use crate::kept::point_of;
 use lists::reading::triangle_at;
+use shapes::triangle3::Spot;
 use shapes::vec3::Vec3;
 use tree::nodes::wide;
 
-// A triangle's point, with its squared distance from p.
-fn hit_at(point: Vec3, p: Vec3, t: u32) -> Hit
-    ensures { λ r. ⌜ Values.asHit r
-        ≡ record { point = Shapes.asPoint point; squared = Points.squaredDistance binary32 (Shapes.asPoint point) (Shapes.asPoint p); triangle = t } ⌝ }
+// A triangle's point and its part, with the squared distance from p.
+fn hit_at(spot: Spot, p: Vec3, t: u32) -> Hit
+    ensures { λ r. ⌜ Values.asHit r ≡ Answers.hitAt binary32 (Shapes.asSpot spot) (Shapes.asPoint p) t ⌝ }
 {
+    let point = spot.point;
+    let part = spot.part;
     Hit {
         point,
         squared: point.squared_distance(p),
         triangle: t,
+        part: part.number(),
     }
 }
 
@@ -39,27 +42,27 @@ fn measure(
     probe: &[f32; 4],
     measures: Measures,
     best: &mut [f32; 4],
-    number: &mut u32,
+    which: &mut [u32; 2],
 )
     requires { ⌜ 9 * t + 9 ≤ length (now triangles) ⌝ }
-    ensures { λ _. ⌜ Kept.kept (Values.hitOf (now (best .exit)) (now (number .exit)))
+    ensures { λ _. ⌜ Kept.kept (Values.hitOf (now (best .exit)) (now (which .exit)))
         ≡ Kept.tookBy (Values.asMeasures measures) binary32 (now (triangles .entry)) (Values.pointOf (now (probe .entry)))
-        (Values.fourthOf (now (probe .entry))) t (Kept.kept (Values.hitOf (now (best .entry)) (now (number .entry)))) ⌝ }
+        (Values.fourthOf (now (probe .entry))) t (Kept.kept (Values.hitOf (now (best .entry)) (now (which .entry)))) ⌝ }
 {
     let p = point_of(probe);
     let triangle = triangle_at(triangles, wide(t));
-    let computed = triangle.closest_point(p);
+    let computed = triangle.closest_spot(p);
     match measures {
         Measures::Held => {
             offer(
                 probe[3],
                 hit_at(triangle.held(p, computed), p, t),
                 best,
-                number,
+                which,
             );
         }
         Measures::Computed => {
-            keep_smaller(hit_at(computed, p, t), best, number);
+            keep_smaller(hit_at(computed, p, t), best, which);
         }
     }
 }
@@ -72,17 +75,17 @@ fn measure_slice(
     measures: Measures,
     measured: usize,
     best: &mut [f32; 4],
-    number: &mut u32,
+    which: &mut [u32; 2],
 ) -> usize
     requires { ⌜ Order.EntriesBelow (Reading.triangleCount (now triangles)) (now slice) ⌝ }
     requires { ⌜ measured + length (now slice) < 2 ^ 64 ⌝ }
-    ensures { λ r. ⌜ Values.soughtOf (now (best .exit)) (now (number .exit)) r
+    ensures { λ r. ⌜ Values.soughtOf (now (best .exit)) (now (which .exit)) r
         ≡ Walk.tookAll (Kept.tookBy (Values.asMeasures measures) binary32 (now (triangles .entry)) (Values.pointOf (now (probe .entry)))
-        (Values.fourthOf (now (probe .entry)))) (now (slice .entry)) (Values.soughtOf (now (best .entry)) (now (number .entry)) measured) ⌝ }
+        (Values.fourthOf (now (probe .entry)))) (now (slice .entry)) (Values.soughtOf (now (best .entry)) (now (which .entry)) measured) ⌝ }
 {
     let mut i = 0;
     while i < slice.len() {
-        measure(triangles, slice[i], probe, measures, best, number);
+        measure(triangles, slice[i], probe, measures, best, which);
         i += 1;
     }
     measured + i
@@ -98,15 +101,15 @@ pub fn measure_leaf(
     measures: Measures,
     measured: usize,
     best: &mut [f32; 4],
-    number: &mut u32,
+    which: &mut [u32; 2],
 ) -> usize
     requires { ⌜ Order.EntriesBelow (Reading.triangleCount (now triangles)) (now order) ⌝ }
     requires { ⌜ (first ≤ last) × (last ≤ length (now order)) ⌝ }
     requires { ⌜ measured + (last - first) < 2 ^ 64 ⌝ }
-    ensures { λ r. ⌜ Values.soughtOf (now (best .exit)) (now (number .exit)) r
+    ensures { λ r. ⌜ Values.soughtOf (now (best .exit)) (now (which .exit)) r
         ≡ Walk.tookAll (Kept.tookBy (Values.asMeasures measures) binary32 (now (triangles .entry)) (Values.pointOf (now (probe .entry)))
         (Values.fourthOf (now (probe .entry)))) (Tables.slice (now (order .entry)) first (last - first))
-        (Values.soughtOf (now (best .entry)) (now (number .entry)) measured) ⌝ }
+        (Values.soughtOf (now (best .entry)) (now (which .entry)) measured) ⌝ }
 {
     measure_slice(
         triangles,
@@ -115,6 +118,6 @@ pub fn measure_leaf(
         measures,
         measured,
         best,
-        number,
+        which,
     )
 }

@@ -41,12 +41,12 @@ pub fn look(
     node: usize,
     measured: usize,
     best: &mut [f32; 4],
-    number: &mut u32,
+    which: &mut [u32; 2],
 ) -> usize
     requires { ⌜ Safe.NodeSafe (now triangles) (now order) (now links) (now boxes) depth node measured ⌝ }
-    ensures { λ r. ⌜ Values.soughtOf (now (best .exit)) (now (number .exit)) r
+    ensures { λ r. ⌜ Values.soughtOf (now (best .exit)) (now (which .exit)) r
         ≡ Walk.rootWalk (Source.sourceSearch binary32 (now (triangles .entry)) (now (boxes .entry)) (Values.pointOf (now (probe .entry))) (Values.fourthOf
-        (now (probe .entry)))) (now (order .entry)) (now (links .entry)) depth node (Values.soughtOf (now (best .entry)) (now (number .entry)) measured) ⌝ }
+        (now (probe .entry)))) (now (order .entry)) (now (links .entry)) depth node (Values.soughtOf (now (best .entry)) (now (which .entry)) measured) ⌝ }
 {
     let here = links_of(links, node);
     if here.kind == 1 {
@@ -59,7 +59,7 @@ pub fn look(
             Measures::Computed,
             measured,
             best,
-            number,
+            which,
         );
     }
     let below = depth - 1;
@@ -73,7 +73,7 @@ pub fn look(
         here.right,
         measured,
         best,
-        number,
+        which,
     );
     look_if_entered(
         triangles,
@@ -85,7 +85,7 @@ pub fn look(
         here.left,
         then,
         best,
-        number,
+        which,
     )
 }
 
@@ -100,12 +100,12 @@ pub fn look_if_entered(
     node: usize,
     measured: usize,
     best: &mut [f32; 4],
-    number: &mut u32,
+    which: &mut [u32; 2],
 ) -> usize
     requires { ⌜ Safe.NodeSafe (now triangles) (now order) (now links) (now boxes) depth node measured ⌝ }
-    ensures { λ r. ⌜ Values.soughtOf (now (best .exit)) (now (number .exit)) r
+    ensures { λ r. ⌜ Values.soughtOf (now (best .exit)) (now (which .exit)) r
         ≡ Walk.nodeWalk (Source.sourceSearch binary32 (now (triangles .entry)) (now (boxes .entry)) (Values.pointOf (now (probe .entry))) (Values.fourthOf
-        (now (probe .entry)))) (now (order .entry)) (now (links .entry)) depth node (Values.soughtOf (now (best .entry)) (now (number .entry)) measured) ⌝ }
+        (now (probe .entry)))) (now (order .entry)) (now (links .entry)) depth node (Values.soughtOf (now (best .entry)) (now (which .entry)) measured) ⌝ }
 {
     if does_enter(boxes, node, probe) {
         return look(
@@ -118,7 +118,7 @@ pub fn look_if_entered(
             node,
             measured,
             best,
-            number,
+            which,
         );
     }
     measured
@@ -140,7 +140,7 @@ pub fn search(
 {
     let four = [probe.point.x, probe.point.y, probe.point.z, probe.limit];
     let mut best = [0.0, 0.0, 0.0, 1.0 / 0.0];
-    let mut number: u32 = 0;
+    let mut which = [0u32; 2];
     let measured = look(
         triangles,
         order,
@@ -151,9 +151,9 @@ pub fn search(
         nodes - 1,
         0,
         &mut best,
-        &mut number,
+        &mut which,
     );
-    let found = answer_of(&best, number);
+    let found = answer_of(&best, &which);
     Sought {
         best: found,
         measured,

@@ -48,16 +48,16 @@ pub fn node_walk(
     squared: f32,
     measured: usize,
     best: &mut [f32; 4],
-    number: &mut u32,
+    which: &mut [u32; 2],
 ) -> usize
     requires { ⌜ Safe.NodeSafe (now (now triangles)) (now (now order)) (now (now links)) (now (now boxes)) depth node measured ⌝ }
     requires { ⌜ squared ≡ Sure.nodeSquared binary32 (now (now boxes)) (Values.pointOf (now probe)) node ⌝ }
-    ensures { λ r. ⌜ Values.soughtOf (now (best .exit)) (now (number .exit)) r
+    ensures { λ r. ⌜ Values.soughtOf (now (best .exit)) (now (which .exit)) r
         ≡ Walk.nodeWalk (Sure.sureSearch binary32 (now (now (triangles .entry))) (now (now (boxes .entry))) (Values.pointOf (now (probe .entry)))
         (Kept.below (Values.fourthOf (now (probe .entry))))) (now (now (order .entry))) (now (now (links .entry))) depth node
-        (Values.soughtOf (now (best .entry)) (now (number .entry)) measured) ⌝ }
+        (Values.soughtOf (now (best .entry)) (now (which .entry)) measured) ⌝ }
 {
-    if is_skipped(probe[3], squared, best, *number) {
+    if is_skipped(probe[3], squared, best, which) {
         return measured;
     }
     let here = links_of(*links, node);
@@ -71,7 +71,7 @@ pub fn node_walk(
             Measures::Held,
             measured,
             best,
-            number,
+            which,
         );
     }
     pair_walk(
@@ -85,7 +85,7 @@ pub fn node_walk(
         here.right,
         measured,
         best,
-        number,
+        which,
     )
 }
 
@@ -103,18 +103,18 @@ pub fn pair_walk(
     right: usize,
     measured: usize,
     best: &mut [f32; 4],
-    number: &mut u32,
+    which: &mut [u32; 2],
 ) -> usize
     requires { ⌜ Safe.PairSafe (now (now triangles)) (now (now order)) (now (now links)) (now (now boxes)) depth left right measured ⌝ }
-    ensures { λ r. ⌜ Values.soughtOf (now (best .exit)) (now (number .exit)) r
+    ensures { λ r. ⌜ Values.soughtOf (now (best .exit)) (now (which .exit)) r
         ≡ Walk.pairWalk (Sure.sureSearch binary32 (now (now (triangles .entry))) (now (now (boxes .entry))) (Values.pointOf (now (probe .entry)))
         (Kept.below (Values.fourthOf (now (probe .entry))))) (now (now (order .entry))) (now (now (links .entry))) depth left right
-        (Values.soughtOf (now (best .entry)) (now (number .entry)) measured) ⌝ }
+        (Values.soughtOf (now (best .entry)) (now (which .entry)) measured) ⌝ }
 {
     let to_left = node_squared(*boxes, left, probe);
     let to_right = node_squared(*boxes, right, probe);
     if to_right < to_left {
-        if is_skipped(probe[3], to_left, best, *number) {
+        if is_skipped(probe[3], to_left, best, which) {
             return node_walk(
                 triangles,
                 order,
@@ -126,7 +126,7 @@ pub fn pair_walk(
                 to_right,
                 measured,
                 best,
-                number,
+                which,
             );
         }
         let then = node_walk(
@@ -140,7 +140,7 @@ pub fn pair_walk(
             to_right,
             measured,
             best,
-            number,
+            which,
         );
         return node_walk(
             triangles,
@@ -153,10 +153,10 @@ pub fn pair_walk(
             to_left,
             then,
             best,
-            number,
+            which,
         );
     }
-    if is_skipped(probe[3], to_right, best, *number) {
+    if is_skipped(probe[3], to_right, best, which) {
         return node_walk(
             triangles,
             order,
@@ -168,7 +168,7 @@ pub fn pair_walk(
             to_left,
             measured,
             best,
-            number,
+            which,
         );
     }
     let then = node_walk(
@@ -182,7 +182,7 @@ pub fn pair_walk(
         to_left,
         measured,
         best,
-        number,
+        which,
     );
     node_walk(
         triangles,
@@ -195,7 +195,7 @@ pub fn pair_walk(
         to_right,
         then,
         best,
-        number,
+        which,
     )
 }
 
@@ -244,7 +244,7 @@ pub fn search(
     ];
     let squared = node_squared(boxes, root, &four);
     let mut best = [0.0, 0.0, 0.0, start_squared(rule, probe.limit)];
-    let mut number = NO_TRIANGLE;
+    let mut which = [NO_TRIANGLE, 0];
     let measured = node_walk(
         &triangles,
         &order,
@@ -256,9 +256,9 @@ pub fn search(
         squared,
         0,
         &mut best,
-        &mut number,
+        &mut which,
     );
-    let found = unmarked_answer(&best, number);
+    let found = unmarked_answer(&best, &which);
     Sought {
         best: found,
         measured,

@@ -1,4 +1,4 @@
-// An answer as six words in a lent list.
+// An answer as words in a lent list.
 ghost use mathlib.Core.Path.{_≡_};
 ghost use mathlib.Core.List.{[], _∷_};
 ghost use Prim.Native.Nat.{_+_, _≤_};
@@ -10,10 +10,13 @@ ghost use Rattle.walks.specs.Values as Values;
 use crate::answer::Answer;
 use floats::bits_of;
 
-// Writes six words from index `at` on.
-fn put_six(out: &mut [u32], at: usize, a: u32, b: u32, c: u32, d: u32, e: u32, f: u32)
-    requires { ⌜ at + 6 ≤ length (now out) ⌝ }
-    ensures { λ _. ⌜ now (out .exit) ≡ Tables.overwrite at (a ∷ b ∷ c ∷ d ∷ e ∷ f ∷ []) (now (out .entry)) ⌝ }
+// How many words an answer takes.
+pub const ANSWER_WIDTH: usize = 7;
+
+// Writes seven words from index `at` on.
+fn put_seven(out: &mut [u32], at: usize, a: u32, b: u32, c: u32, d: u32, e: u32, f: u32, g: u32)
+    requires { ⌜ at + 7 ≤ length (now out) ⌝ }
+    ensures { λ _. ⌜ now (out .exit) ≡ Tables.overwrite at (a ∷ b ∷ c ∷ d ∷ e ∷ f ∷ g ∷ []) (now (out .entry)) ⌝ }
 {
     out[at] = a;
     out[at + 1] = b;
@@ -21,22 +24,24 @@ fn put_six(out: &mut [u32], at: usize, a: u32, b: u32, c: u32, d: u32, e: u32, f
     out[at + 3] = d;
     out[at + 4] = e;
     out[at + 5] = f;
+    out[at + 6] = g;
 }
 
-// Writes 1, the triangle, and the bits of x, y, z and the squared distance from index `at` on, or six zeros for nothing.
+// Writes 1, the triangle, the bits of x, y, z and the squared distance, and the part from index `at` on, or zeros alone for nothing.
 pub fn put_answer(out: &mut [u32], at: usize, answer: Answer)
-    requires { ⌜ at + 6 ≤ length (now out) ⌝ }
-    ensures { λ _. ⌜ now (out .exit) ≡ Tables.overwrite at (Answers.sixWords binary32 (Values.asAnswer answer)) (now (out .entry)) ⌝ }
+    requires { ⌜ at + Answers.answerWidth ≤ length (now out) ⌝ }
+    ensures { λ _. ⌜ now (out .exit) ≡ Tables.overwrite at (Answers.wordsOf binary32 (Values.asAnswer answer)) (now (out .entry)) ⌝ }
 {
     match answer {
-        Answer::Nothing => put_six(out, at, 0, 0, 0, 0, 0, 0),
+        Answer::Nothing => put_seven(out, at, 0, 0, 0, 0, 0, 0, 0),
         Answer::Found {
             x,
             y,
             z,
             squared,
             triangle,
-        } => put_six(
+            part,
+        } => put_seven(
             out,
             at,
             1,
@@ -45,6 +50,7 @@ pub fn put_answer(out: &mut [u32], at: usize, answer: Answer)
             bits_of(y),
             bits_of(z),
             bits_of(squared),
+            part,
         ),
     }
 }

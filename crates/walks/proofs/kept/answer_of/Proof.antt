@@ -11,9 +11,12 @@ returns c = stands-nothing _ (c .if1 .taken)
 
 returns-2 : tie.Need-returns-2
 unfolding div ofBits
-returns-2 c = stands-found _ (c .before .before .before .before .if1 .left)
+returns-2 c =
+    let three-read = c .before .before .before in
+    stands-found _ (three-read .before .before .before .if1 .left)
 
 pub answer-of-spec : {M : Type 1} → statement M
 answer-of-spec =
     tie.close
-    (tie.spec (λ c. search needs) returns (λ c. search needs) (λ c. search needs) (λ c. search needs) (λ c. search needs) returns-2)
+    (tie.spec (λ c. search needs) returns (λ c. search needs) (λ c. search needs) (λ c. search needs) (λ c. search needs) (λ c. search needs)
+    (λ c. search needs) returns-2)

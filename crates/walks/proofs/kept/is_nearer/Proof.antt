@@ -11,4 +11,4 @@ returns c = refl
 
 pub is-nearer-spec : {M : Type 1} → statement M
 is-nearer-spec = tie.close
-    (tie.spec (λ c. search needs) (λ c. search needs) returns)
+    (tie.spec (λ c. search needs) (λ c. search needs) (λ c. search needs) returns)

@@ -8,7 +8,7 @@ use Rattle.walks.proofs.kept.is_skipped.Tie as tie
 returns : tie.Need-returns
 returns c =
     let a = c .before .before .args in
-    rw (c .before .does-count .ensures) (skipped-kept (a .limit) (a .squared) (hitOf (a .best .now) (a .number)))
+    rw (c .before .does-count .ensures) (skipped-kept (a .limit) (a .squared) (hitOf (a .best .now) (a .which .now)))
 
 pub is-skipped-spec : {M : Type 1} → statement M
 is-skipped-spec = tie.close

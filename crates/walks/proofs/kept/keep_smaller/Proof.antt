@@ -10,12 +10,12 @@ returns c =
     let chosen = c .before .before .before in
     let start = chosen .before .before .before in
     let a = start .args in
-    kept-smaller (asHit (a .hit)) (hitOf (a .best .now) (a .number .now)) _ (chosen .if1 .taken) (c .keep .ensures)
+    kept-smaller (asHit (a .hit)) (hitOf (a .best .now) (a .which .now)) _ (chosen .if1 .taken) (c .keep .ensures)
 
 returns-2 : tie.Need-returns-2
 returns-2 c =
     let a = c .before .before .before .args in
-    kept-no-smaller (asHit (a .hit)) (hitOf (a .best .now) (a .number .now)) (c .if1 .left)
+    kept-no-smaller (asHit (a .hit)) (hitOf (a .best .now) (a .which .now)) (c .if1 .left)
 
 pub keep-smaller-spec : {M : Type 1} → statement M
 keep-smaller-spec = tie.close

@@ -12,7 +12,7 @@ returns c =
     let after-does-count = after-is-nearer .before .before .before in
     let start = after-does-count .before in
     let a = start .args in
-    offer-taken (asHit (a .hit)) (hitOf (a .best .now) (a .number .now)) _ (a .limit)
+    offer-taken (asHit (a .hit)) (hitOf (a .best .now) (a .which .now)) _ (a .limit)
     (both-said _ _ _ _ _ (after-does-count .does-count .ensures) (after-is-nearer .is-nearer .ensures) (chosen .if1 .taken)) (c .keep .ensures)
 
 returns-2 : tie.Need-returns-2
@@ -20,7 +20,7 @@ returns-2 c =
     let after-does-count = c .before .before .before .before in
     let start = after-does-count .before in
     let a = start .args in
-    offer-left (asHit (a .hit)) (hitOf (a .best .now) (a .number .now)) (a .limit)
+    offer-left (asHit (a .hit)) (hitOf (a .best .now) (a .which .now)) (a .limit)
     (both-said _ _ _ _ _ (after-does-count .does-count .ensures) (c .before .is-nearer .ensures) (c .if1 .left))
 
 pub offer-spec : {M : Type 1} → statement M

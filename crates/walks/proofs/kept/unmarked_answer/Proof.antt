@@ -11,9 +11,12 @@ returns c = ends-nothing _ (c .if1 .taken)
 
 returns-2 : tie.Need-returns-2
 unfolding div ofBits
-returns-2 c = ends-found _ (c .before .before .before .before .if1 .left)
+returns-2 c =
+    let three-read = c .before .before .before in
+    ends-found _ (three-read .before .before .before .if1 .left)
 
 pub unmarked-answer-spec : {M : Type 1} → statement M
 unmarked-answer-spec =
     tie.close
-    (tie.spec (λ c. search needs) returns (λ c. search needs) (λ c. search needs) (λ c. search needs) (λ c. search needs) returns-2)
+    (tie.spec (λ c. search needs) (λ c. search needs) returns (λ c. search needs) (λ c. search needs) (λ c. search needs) (λ c. search needs)
+    (λ c. search needs) (λ c. search needs) returns-2)

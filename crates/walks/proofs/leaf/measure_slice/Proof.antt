@@ -21,20 +21,20 @@ one-more-counted : (n i : ℕ) → n + (i + 1) ≡ n + i + 1
 one-more-counted n i = omega arith
 
 abbrev Inv-loop : tie.InvT-loop
-Inv-loop triangles slice probe measures measured best₀ number₀ i₀ best number i =
+Inv-loop triangles slice probe measures measured best₀ which₀ i₀ best which i =
     (i ≤ length slice)
-    × (tookAll (tookBy (asMeasures measures) binary32 triangles (pointOf probe) (fourthOf probe)) (drop i slice) (soughtOf best number (measured + i))
-    ≡ tookAll (tookBy (asMeasures measures) binary32 triangles (pointOf probe) (fourthOf probe)) slice (soughtOf best₀ number₀ measured))
+    × (tookAll (tookBy (asMeasures measures) binary32 triangles (pointOf probe) (fourthOf probe)) (drop i slice) (soughtOf best which (measured + i))
+    ≡ tookAll (tookBy (asMeasures measures) binary32 triangles (pointOf probe) (fourthOf probe)) slice (soughtOf best₀ which₀ measured))
 
 abbrev μ-loop : tie.MeasureT-loop
-μ-loop triangles slice probe measures measured best₀ number₀ i₀ best number i = length slice - i
+μ-loop triangles slice probe measures measured best₀ which₀ i₀ best which i = length slice - i
 
 loop-holds : tie.Need-loop-holds Inv-loop μ-loop
 loop-holds c =
     let a = c .before .before .args in (
       omega arith,
       ap (λ (n : ℕ). tookAll (tookBy (asMeasures (a .measures)) binary32 (a .triangles .now) (pointOf (a .probe .now)) (fourthOf (a .probe .now)))
-          (a .slice .now) (soughtOf (a .best .now) (a .number .now) n)) (plus-none (a .measured)),
+          (a .slice .now) (soughtOf (a .best .now) (a .which .now) n)) (plus-none (a .measured)),
     )
 
 measure-requires : tie.Need-measure-requires Inv-loop μ-loop
@@ -54,8 +54,8 @@ loop-again c =
     let next = one-more-counted (a .measured) (loop .i) in (
       omega arith,
       one-more (tookBy (asMeasures (a .measures)) binary32 (a .triangles .now) (pointOf (a .probe .now)) (fourthOf (a .probe .now))) (a .slice .now) (loop .i)
-          (soughtOf (loop .best) (loop .number) (a .measured + loop .i)) _
-          (soughtOf (a .best .now) (a .number .now) (a .measured)) (tested .loop-test .taken)
+          (soughtOf (loop .best) (loop .which) (a .measured + loop .i)) _
+          (soughtOf (a .best .now) (a .which .now) (a .measured)) (tested .loop-test .taken)
           (λ j. record { best = c .measure .ensures j; measured = next j }) (loop .inv .1),
     )
 
@@ -64,8 +64,8 @@ returns c =
     let a = c .before .before .before .before .args in
     let loop = c .before .loop in
     none-remaining (tookBy (asMeasures (a .measures)) binary32 (a .triangles .now) (pointOf (a .probe .now)) (fourthOf (a .probe .now))) (a .slice .now)
-    (loop .i) (soughtOf (loop .best) (loop .number) (a .measured + loop .i))
-    (soughtOf (a .best .now) (a .number .now) (a .measured)) (loop .inv .0) (c .loop-test .left) (loop .inv .1)
+    (loop .i) (soughtOf (loop .best) (loop .which) (a .measured + loop .i))
+    (soughtOf (a .best .now) (a .which .now) (a .measured)) (loop .inv .0) (c .loop-test .left) (loop .inv .1)
 
 pub measure-slice-spec : {M : Type 1} → statement M
 measure-slice-spec =

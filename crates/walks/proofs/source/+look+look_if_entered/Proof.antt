@@ -80,7 +80,7 @@ look-returns t c =
     let start = known3 .before .before .before in
     let a = start .args in
     let how = sourceSearch binary32 (a .triangles .now) (a .boxes .now) (pointOf (a .probe .now)) (fourthOf (a .probe .now)) in
-    let s = soughtOf (a .best .now) (a .number .now) (a .measured) in
+    let s = soughtOf (a .best .now) (a .which .now) (a .measured) in
     root-leaf-answers (a .triangles .now) (a .order .now) (a .links .now) (a .boxes .now) (a .depth) (a .node) (a .measured) _ _ _
     (after-links-of .links-of .ensures) (start .pre .1) how s _ (chosen .if1 .taken) (c .measure-leaf .ensures)
 
@@ -116,7 +116,7 @@ look-look-if-entered-requires-2 t c κs =
     let start = known3 .before .before .before in
     let a = start .args in
     let how = sourceSearch binary32 (a .triangles .now) (a .boxes .now) (pointOf (a .probe .now)) (fourthOf (a .probe .now)) in
-    let s = soughtOf (a .best .now) (a .number .now) (a .measured) in (
+    let s = soughtOf (a .best .now) (a .which .now) (a .measured) in (
       falls-in (a .depth) t (levels-remaining (a .triangles .now) (a .order .now) (a .links .now) (a .boxes .now) (a .depth) (a .node) (a .measured) _ _ _
           (after-links-of .links-of .ensures) (start .pre .1) (chosen .if1 .left)) (start .pre .0),
       then-left-needs (a .triangles .now) (a .order .now) (a .links .now) (a .boxes .now) (a .depth - 1) _ _ (a .measured)
@@ -133,7 +133,7 @@ look-returns-2 t c =
     let start = known3 .before .before .before in
     let a = start .args in
     let how = sourceSearch binary32 (a .triangles .now) (a .boxes .now) (pointOf (a .probe .now)) (fourthOf (a .probe .now)) in
-    let s = soughtOf (a .best .now) (a .number .now) (a .measured) in
+    let s = soughtOf (a .best .now) (a .which .now) (a .measured) in
     root-pair-answers (a .triangles .now) (a .order .now) (a .links .now) (a .boxes .now) (a .depth) (a .node) (a .measured) _ _ _
     (after-links-of .links-of .ensures) (start .pre .1) how s _ (chosen .if1 .left)
     (right-answers how (a .order .now) (a .links .now) (a .depth - 1) _ _ s _ _ refl (after-look-if-entered .look-if-entered .ensures)
@@ -161,7 +161,7 @@ look-if-entered-returns t c =
     let start = known3 .before .before .before in
     let a = start .args in
     let how = sourceSearch binary32 (a .triangles .now) (a .boxes .now) (pointOf (a .probe .now)) (fourthOf (a .probe .now)) in
-    let s = soughtOf (a .best .now) (a .number .now) (a .measured) in
+    let s = soughtOf (a .best .now) (a .which .now) (a .measured) in
     c .look .ensures
     ∙ walk-looked how (a .order .now) (a .links .now) (a .depth) (a .node) s (ap not (sym (after-does-enter .does-enter .ensures) ∙ chosen .if1 .taken))
 
@@ -171,7 +171,7 @@ look-if-entered-returns-2 t c =
     let start = known3 .before .before .before in
     let a = start .args in
     let how = sourceSearch binary32 (a .triangles .now) (a .boxes .now) (pointOf (a .probe .now)) (fourthOf (a .probe .now)) in
-    let s = soughtOf (a .best .now) (a .number .now) (a .measured) in
+    let s = soughtOf (a .best .now) (a .which .now) (a .measured) in
     sym (walk-skipped how (a .order .now) (a .links .now) (a .depth) (a .node) s (ap not (sym (c .before .does-enter .ensures) ∙ c .if1 .left)))
 
 pub +look+look-if-entered-spec : {M : Type 1} → statement M

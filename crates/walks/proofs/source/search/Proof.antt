@@ -23,7 +23,7 @@ look-requires c κs =
 returns : tie.Need-returns
 unfolding sourceWalk kept div ofBits eq
 returns c =
-    let after-look = c .before .before in
+    let after-look = c .before .before .before in
     (λ i. record { best = c .answer-of .ensures i; measured = after-look .look .result }) ∙ after-look .look .ensures
 
 pub search-spec : {M : Type 1} → statement M

@@ -35,7 +35,7 @@ node-walk-requires c κs =
 returns : tie.Need-returns
 unfolding ofBits markedWalk
 returns c =
-    let walked = c .before .before in
+    let walked = c .before .before .before in
     let lent = walked .before .before .before .before in
     let started = lent .before .before .before .before in
     let away = started .before in
