@@ -4,7 +4,7 @@
 fn main() {
     let mut input = [0u8; 32769];
     let got = io::read_full(0, &mut input);
-    let mut out = [0u8; 229405];
+    let mut out = [0u8; gauge_run::run::MAX_PRINTED];
     let size = gauge_run::run::print(&input[..got], &mut out);
     io::write_all(1, &out[..size]);
 }

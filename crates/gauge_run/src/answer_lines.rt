@@ -1,12 +1,15 @@
-// One printed line a point, from the six words of its answer.
+// One printed line a point, from the words of its answer.
 ghost use mathlib.Core.Path.{_≡_};
 ghost use Prim.Native.Nat.{_+_, _*_, _≤_};
 ghost use lib.ListN.{length};
 ghost use Rattle.spec_tables.specs.Tables.{Put, concatMap};
+ghost use Rattle.spec_printing.specs.Printed.{longestFound};
+ghost use Rattle.spec_search.specs.Answers.{answerWidth};
 ghost use Rattle.spec_gauge.specs.Lines.{wordsLine};
 use printing::lines::Found;
 use printing::lines::put_found;
 use printing::lines::put_nothing;
+use walks::words::ANSWER_WIDTH;
 
 // A word as a usize.
 fn whole(word: u32) -> usize
@@ -15,13 +18,13 @@ fn whole(word: u32) -> usize
     word as usize
 }
 
-// Writes the line of point k, whose answer starts at word 6 k.
+// Writes the line of point k.
 fn put_answer_line(answers: &[u32], k: usize, out: &mut [u8], at: usize) -> usize
-    requires { ⌜ (6 * k + 6 ≤ length (now answers)) × (at + 84 ≤ length (now out)) ⌝ }
+    requires { ⌜ (answerWidth * k + answerWidth ≤ length (now answers)) × (at + longestFound ≤ length (now out)) ⌝ }
     ensures { λ r. ⌜ Put at (wordsLine (now (answers .entry)) k) (now (out .entry)) (now (out .exit)) r ⌝ }
-    ensures { λ r. ⌜ r ≤ at + 84 ⌝ }
+    ensures { λ r. ⌜ r ≤ at + longestFound ⌝ }
 {
-    let first = 6 * k;
+    let first = ANSWER_WIDTH * k;
     if answers[first] == 0 {
         return put_nothing(out, at, k);
     }
@@ -31,13 +34,14 @@ fn put_answer_line(answers: &[u32], k: usize, out: &mut [u8], at: usize) -> usiz
         y: answers[first + 3],
         z: answers[first + 4],
         squared: answers[first + 5],
+        part: whole(answers[first + 6]),
     };
     put_found(out, at, k, found)
 }
 
 // Writes the lines of `count` points, one behind the other.
 pub fn put_answer_lines(answers: &[u32], count: usize, out: &mut [u8], at: usize) -> usize
-    requires { ⌜ (6 * count ≤ length (now answers)) × (at + 84 * count ≤ length (now out)) ⌝ }
+    requires { ⌜ (answerWidth * count ≤ length (now answers)) × (at + longestFound * count ≤ length (now out)) ⌝ }
     ensures { λ r. ⌜ Put at (concatMap (wordsLine (now (answers .entry))) count) (now (out .entry)) (now (out .exit)) r ⌝ }
 {
     let mut next = at;

@@ -7,9 +7,10 @@ ghost use Rattle.spec_tables.specs.Tables.{Put};
 ghost use Rattle.spec_lists.specs.Reading.{pointCount};
 ghost use Rattle.spec_lists.specs.Refusals.{passes};
 ghost use Rattle.lists.specs.Values.{asSettings};
-ghost use Rattle.spec_search.specs.Answers.{sure};
+ghost use Rattle.spec_search.specs.Answers.{sure, answerWidth};
 ghost use Rattle.spec_search.specs.Calls.{queryRefusal};
-ghost use Rattle.spec_gauge.specs.Printed.{Fits, maxBytes, inputSize, maxPrinted, ruleIn, requestIn, requestRefusal, treeLine, answerLines, printedRun, printed};
+ghost use Rattle.spec_printing.specs.Printed.{longestFound};
+ghost use Rattle.spec_gauge.specs.Printed.{Fits, maxBytes, maxPoints, inputSize, maxPrinted, ruleIn, requestIn, requestRefusal, treeLine, answerLines, printedRun, printed};
 use crate::answer_lines::put_answer_lines;
 use crate::request::request_refusal;
 use build::calls::Built;
@@ -20,6 +21,7 @@ use lists::settings::Settings;
 use lists::tests::point_count;
 use lists::tests::triangle_count;
 use lists::verdict::Verdict;
+use printing::lines::LONGEST_FOUND;
 use printing::lines::put_counts;
 use printing::lines::put_refused;
 use queries::calls::sure_query;
@@ -28,6 +30,13 @@ use records::layout::GaugeLayout;
 use records::layout::gauge_layout;
 use records::numbers::u16_at;
 use records::numbers::u32_at;
+use walks::words::ANSWER_WIDTH;
+
+// No more points than these fit in an input.
+const MAX_POINTS: usize = 2730;
+
+// The longest run, a tree's line and the points': room for it is lent.
+pub const MAX_PRINTED: usize = 85 + LONGEST_FOUND * MAX_POINTS;
 
 // Writes one line a point, by sure queries over a tree that passes the tree check.
 fn put_answers(
@@ -42,11 +51,12 @@ fn put_answers(
     out: &mut [u8],
     at: usize,
 ) -> usize
-    requires { ⌜ queryRefusal (sure rule) (now triangles) (now order) (now links) (now boxes) nodes (now points) distance 16380 ≡ passes ⌝ }
-    requires { ⌜ at + 84 * pointCount (now points) ≤ length (now out) ⌝ }
+    requires { ⌜ queryRefusal (sure rule) (now triangles) (now order) (now links) (now boxes) nodes (now points) distance
+        (answerWidth * maxPoints) ≡ passes ⌝ }
+    requires { ⌜ at + longestFound * pointCount (now points) ≤ length (now out) ⌝ }
     ensures { λ r. ⌜ Put at (answerLines (now (triangles .entry)) (now (points .entry)) distance rule) (now (out .entry)) (now (out .exit)) r ⌝ }
 {
-    let mut answers = [0u32; 16380];
+    let mut answers = [0u32; ANSWER_WIDTH * MAX_POINTS];
     sure_query(
         triangles,
         order,

@@ -4,7 +4,7 @@ ghost use mathlib.Core.List.{[], _∷_};
 ghost use Prim.Native.Nat.{_+_, _≤_};
 ghost use lib.ListN.{length};
 ghost use Rattle.spec_tables.specs.Tables.{Put};
-ghost use Rattle.spec_printing.specs.Printed.{spacedDecimal, spacedHex, named, countsLine, foundLine, nothingLine, refusedLine};
+ghost use Rattle.spec_printing.specs.Printed.{spacedDecimal, spacedHex, named, countsLine, foundLine, longestFound, nothingLine, refusedLine};
 ghost use Rattle.printing.specs.Values.{foundOf};
 use crate::numbers::put_decimal;
 use crate::numbers::put_hex;
@@ -96,20 +96,24 @@ pub fn put_nothing(out: &mut [u8], at: usize, point: usize) -> usize
     put_byte(out, b, b'\n')
 }
 
-// What was found for a point: the number of the triangle, and the bits of the surface point and its squared distance.
+// What was found for a point: the number of the triangle, the bits of the surface point and its squared distance, and the number of the part.
 pub struct Found {
     pub triangle: usize,
     pub x: u32,
     pub y: u32,
     pub z: u32,
     pub squared: u32,
+    pub part: usize,
 }
+
+// How many bytes the line of such a point takes at most.
+pub const LONGEST_FOUND: usize = 105;
 
 // Writes the line of a point at which this was found.
 pub fn put_found(out: &mut [u8], at: usize, point: usize, found: Found) -> usize
-    requires { ⌜ at + 84 ≤ length (now out) ⌝ }
+    requires { ⌜ at + longestFound ≤ length (now out) ⌝ }
     ensures { λ r. ⌜ Put at (foundLine point (foundOf found)) (now (out .entry)) (now (out .exit)) r ⌝ }
-    ensures { λ r. ⌜ r ≤ at + 84 ⌝ }
+    ensures { λ r. ⌜ r ≤ at + longestFound ⌝ }
 {
     let a = put_decimal(out, at, point);
     let b = put_named(out, a, b" found", found.triangle);
@@ -117,5 +121,6 @@ pub fn put_found(out: &mut [u8], at: usize, point: usize, found: Found) -> usize
     let d = put_spaced_hex(out, c, found.y);
     let e = put_spaced_hex(out, d, found.z);
     let f = put_spaced_hex(out, e, found.squared);
-    put_byte(out, f, b'\n')
+    let g = put_spaced_decimal(out, f, found.part);
+    put_byte(out, g, b'\n')
 }

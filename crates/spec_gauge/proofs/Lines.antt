@@ -10,60 +10,60 @@ use borrow.Author.Tests.{ne-eqb}
 use Rattle.spec_tables.specs.Tables.{overwrite, concatMap, slice, Remaining, Put}
 use Rattle.spec_tables.proofs.Tables.{concatMap-same, put-none, put-more, put-long}
 use Rattle.spec_tables.proofs.Pieces.{getD-slice, remaining-concatMap}
-use Rattle.spec_printing.specs.Printed.{foundLine, nothingLine}
+use Rattle.spec_printing.specs.Printed.{foundLine, longestFound, nothingLine}
 use Rattle.spec_shapes.specs.Points.{Point}
 use Rattle.spec_lists.specs.Reading.{pointAt, pointCount}
-use Rattle.spec_search.specs.Answers.{Answer, nothing, found, sixWords}
+use Rattle.spec_search.specs.Answers.{Answer, nothing, found, answerWidth, wordsOf}
 use Rattle.spec_search.specs.Rules.{ruleOf}
 use Rattle.spec_search.specs.Calls.{answerWords, sureAnswer}
+use Rattle.spec_search.proofs.Calls.{answer-wide}
 use Rattle.spec_gauge.specs.Printed.{answerLine, answerLines}
 use Rattle.spec_gauge.specs.Lines.{wordsLine}
 
 module _ (words : List ℕ) (k : ℕ) where
-  -- where the first of six words is 0, the line says that nothing was found
-  pub nothing-words : getD words (6 * k) 0 ≡ 0 → nothingLine k ≡ wordsLine words k
+  -- where the first of an answer's words is 0, the line says that nothing was found
+  pub nothing-words : getD words (answerWidth * k) 0 ≡ 0 → nothingLine k ≡ wordsLine words k
   unfolding wordsLine
   nothing-words e = rw e
 
-  -- where the first of six words is not 0, the line shows the five behind it
-  pub found-words : (triangle : ℕ) → (getD words (6 * k) 0 ≡ 0 → ⊥) → triangle ≡ getD words (6 * k + 1) 0
+  -- where the first of an answer's words is not 0, the line shows those behind it
+  pub found-words : (triangle part : ℕ) → (getD words (answerWidth * k) 0 ≡ 0 → ⊥) → triangle ≡ getD words (answerWidth * k + 1) 0
+      → part ≡ getD words (answerWidth * k + 6) 0
       → foundLine k (record {
         triangle = triangle;
-        x = getD words (6 * k + 2) 0;
-        y = getD words (6 * k + 3) 0;
-        z = getD words (6 * k + 4) 0;
-        squared = getD words (6 * k + 5) 0;
+        x = getD words (answerWidth * k + 2) 0;
+        y = getD words (answerWidth * k + 3) 0;
+        z = getD words (answerWidth * k + 4) 0;
+        squared = getD words (answerWidth * k + 5) 0;
+        part = part;
       }) ≡ wordsLine words k
   unfolding wordsLine
-  found-words triangle n e = rw (ne-eqb (getD words (6 * k) 0) 0 n, e)
+  found-words triangle part n e h = rw (ne-eqb (getD words (answerWidth * k) 0) 0 n, e, h)
 
-  six : (a : Answer) → slice words (6 * k) 6 ≡ sixWords binary32 a → (i : ℕ) → i < 6 → getD words (6 * k + i) 0 ≡ getD (sixWords binary32 a) i 0
-  six a e i l = sym (getD-slice 0 words (6 * k) 6 i l) ∙ ap (λ (s : List ℕ). getD s i 0) e
+  word : (a : Answer) → slice words (answerWidth * k) answerWidth ≡ wordsOf binary32 a → (i : ℕ) → i < answerWidth
+      → getD words (answerWidth * k + i) 0 ≡ getD (wordsOf binary32 a) i 0
+  word a e i l = sym (getD-slice 0 words (answerWidth * k) answerWidth i l) ∙ ap (λ (s : List ℕ). getD s i 0) e
 
-  first : (a : Answer) → slice words (6 * k) 6 ≡ sixWords binary32 a → getD words (6 * k) 0 ≡ getD (sixWords binary32 a) 0 0
-  first a e = rw add-zero at (six a e 0 (omega arith))
+  first : (a : Answer) → slice words (answerWidth * k) answerWidth ≡ wordsOf binary32 a → getD words (answerWidth * k) 0 ≡ getD (wordsOf binary32 a) 0 0
+  first a e = rw add-zero at (word a e 0 (omega arith))
 
-  words-line : (a : Answer) → slice words (6 * k) 6 ≡ sixWords binary32 a → wordsLine words k ≡ answerLine k a
-  unfolding wordsLine answerLine sixWords
+  words-line : (a : Answer) → slice words (answerWidth * k) answerWidth ≡ wordsOf binary32 a → wordsLine words k ≡ answerLine k a
+  unfolding wordsLine answerLine wordsOf
   words-line nothing e = rw (first nothing e)
   words-line (found h) e =
       rw (
         first (found h) e,
-        six (found h) e 1 (omega arith),
-        six (found h) e 2 (omega arith),
-        six (found h) e 3 (omega arith),
-        six (found h) e 4 (omega arith),
-        six (found h) e 5 (omega arith),
+        word (found h) e 1 (omega arith),
+        word (found h) e 2 (omega arith),
+        word (found h) e 3 (omega arith),
+        word (found h) e 4 (omega arith),
+        word (found h) e 5 (omega arith),
+        word (found h) e 6 (omega arith),
       )
-
-six-long : (a : Answer) → length (sixWords binary32 a) ≡ 6
-unfolding sixWords
-six-long nothing = refl
-six-long (found h) = refl
 
 module _ (answer : Point → Answer) (points : List Float) (old words : List ℕ) (e : words ≡ overwrite 0 (answerWords binary32 answer points) old) where
   pieces : ℕ → List ℕ
-  pieces k = sixWords binary32 (answer (pointAt points (3 * k)))
+  pieces k = wordsOf binary32 (answer (pointAt points (3 * k)))
 
   words-remaining : Remaining words 0 (concatMap pieces (pointCount points) ++ drop (0 + length (answerWords binary32 answer points)) old)
   unfolding overwrite answerWords pieces
@@ -74,7 +74,8 @@ module _ (answer : Point → Answer) (points : List Float) (old words : List ℕ
   lines-of-words =
       concatMap-same (wordsLine words) (λ k. answerLine k (answer (pointAt points (3 * k)))) (pointCount points)
       (λ k l. words-line words k (answer (pointAt points (3 * k)))
-      (rw zero-add at (remaining-concatMap pieces 6 (pointCount points) words 0 _ (λ j. six-long (answer (pointAt points (3 * j)))) words-remaining k l)))
+      (rw zero-add at (remaining-concatMap pieces answerWidth (pointCount points) words 0 _ (λ j. answer-wide binary32 (answer (pointAt points (3 * j))))
+      words-remaining k l)))
 
 -- the lines made from the sure query's words are the lines of its answers, point by point
 pub sure-lines : (triangles points : List Float) (distance : Float) (rule : ℕ) (old words : List ℕ)
@@ -83,11 +84,11 @@ pub sure-lines : (triangles points : List Float) (distance : Float) (rule : ℕ)
 unfolding answerLines
 sure-lines triangles points distance rule old words e = lines-of-words (sureAnswer binary32 (ruleOf rule) triangles distance) points old words e
 
--- ---- the loop over the lines: k of n stand one behind the other, each in 84 bytes at most
+-- ---- the loop over the lines: k of n stand one behind the other, each in no more than the longest takes
 pub record Lined (f : ℕ → List ℕ) (at n : ℕ) (old out : List ℕ) (next k : ℕ) : Type 0 where
   pub within : k ≤ n
   pub put : Put at (concatMap f k) old out next
-  pub room : next ≤ at + 84 * k
+  pub room : next ≤ at + longestFound * k
   pub long : length out ≡ length old
 
 module _ (f : ℕ → List ℕ) (at n : ℕ) (old : List ℕ) where
@@ -97,7 +98,7 @@ module _ (f : ℕ → List ℕ) (at n : ℕ) (old : List ℕ) where
   lined-start h = record { within = omega arith; put = put-none at old h; room = omega arith; long = refl }
 
   -- a turn of the loop writes the next line behind the others
-  pub lined-more : (mid out : List ℕ) (next end k : ℕ) → k < n → Lined f at n old mid next k → Put next (f k) mid out end → end ≤ next + 84
+  pub lined-more : (mid out : List ℕ) (next end k : ℕ) → k < n → Lined f at n old mid next k → Put next (f k) mid out end → end ≤ next + longestFound
       → Lined f at n old out end (k + 1)
   lined-more mid out next end k l r p h = record {
     within = omega arith;

@@ -10,7 +10,7 @@ use Rattle.spec_tables.specs.Tables.{concatMap}
 use Rattle.spec_shapes.specs.Points.{minus, plus, dividedBy, dot, smallest, largest, isFinite, plusZero, squaredDistance}
 use Rattle.spec_shapes.specs.Boxes.{union, centre, sizes, volume, heldIn}
 use Rattle.spec_shapes.specs.Planes.{unit, reach, meetsBox}
-use Rattle.spec_shapes.specs.Triangles.{boxOf, dots, part, pointOn, closestPoint, heldPoint, measured}
+use Rattle.spec_shapes.specs.Triangles.{boxOf, dots, part, pointOn, partNumber, closestSpot, heldSpot}
 use Rattle.spec_lists.specs.Reading.{numberAt, pointAt, triangleAt, boxAt, triangleCount, pointCount}
 use Rattle.spec_lists.specs.Refusals.{passes, firstRefusal, isCoordinate, isDistance, firstBad, raggedRefusal, noneRefusal, tooManyRefusal, coordinateRefusal}
 use Rattle.spec_lists.specs.Refusals.{trianglesRefusal, areSettings, settingsRefusal, pointsRefusal, distanceRefusal}
@@ -46,13 +46,13 @@ scopeInput =
     ++ (24 ∷ 0 ∷ 0 ∷ 0 ∷ 5 ∷ 0 ∷ 0 ∷ 0 ∷ 176 ∷ 64 ∷ 0 ∷ 0 ∷ 0 ∷ 0 ∷ 0 ∷ 0 ∷ 0 ∷ 0 ∷ 0 ∷ 0 ∷ 200 ∷ 66 ∷ 0 ∷ 0 ∷ 0 ∷ 0 ∷ 0 ∷ 0 ∷ 0 ∷ 0 ∷ [])
     ++ (4 ∷ 0 ∷ 0 ∷ 0 ∷ 6 ∷ 0 ∷ 0 ∷ 0 ∷ 72 ∷ 66 ∷ [])
 
--- "triangles 2 nodes 3 depth 2", "0 found 0 3f800000 00000000 00000000 41a20000", "1 nothing"
+-- "triangles 2 nodes 3 depth 2", "0 found 0 3f800000 00000000 00000000 41a20000 2", "1 nothing"
 abbrev pub scopeLines : List ℕ
 scopeLines =
     (116 ∷ 114 ∷ 105 ∷ 97 ∷ 110 ∷ 103 ∷ 108 ∷ 101 ∷ 115 ∷ 32 ∷ 50 ∷ 32 ∷ 110 ∷ 111 ∷ 100 ∷ 101 ∷ 115 ∷ 32 ∷ 51 ∷ 32 ∷ 100 ∷ 101 ∷ 112 ∷ 116 ∷ 104
     ∷ 32 ∷ 50 ∷ 10 ∷ [])
     ++ (48 ∷ 32 ∷ 102 ∷ 111 ∷ 117 ∷ 110 ∷ 100 ∷ 32 ∷ 48 ∷ 32 ∷ 51 ∷ 102 ∷ 56 ∷ 48 ∷ 48 ∷ 48 ∷ 48 ∷ 48 ∷ 32 ∷ 48 ∷ 48 ∷ 48 ∷ 48 ∷ 48 ∷ 48 ∷ 48
-    ∷ 48 ∷ 32 ∷ 48 ∷ 48 ∷ 48 ∷ 48 ∷ 48 ∷ 48 ∷ 48 ∷ 48 ∷ 32 ∷ 52 ∷ 49 ∷ 97 ∷ 50 ∷ 48 ∷ 48 ∷ 48 ∷ 48 ∷ 10 ∷ [])
+    ∷ 48 ∷ 32 ∷ 48 ∷ 48 ∷ 48 ∷ 48 ∷ 48 ∷ 48 ∷ 48 ∷ 48 ∷ 32 ∷ 52 ∷ 49 ∷ 97 ∷ 50 ∷ 48 ∷ 48 ∷ 48 ∷ 48 ∷ 32 ∷ 50 ∷ 10 ∷ [])
     ++ (49 ∷ 32 ∷ 110 ∷ 111 ∷ 116 ∷ 104 ∷ 105 ∷ 110 ∷ 103 ∷ 10 ∷ [])
 
 -- ---- what the bytes hold
@@ -90,11 +90,11 @@ unfolding treeLine sub mul div le ofInt minus plus dividedBy dot smallest larges
 tree-printed = refl
 
 abbrev pub first : Found
-first = record { triangle = 0; x = 0x3f80_0000; y = 0; z = 0; squared = 0x41a2_0000 }
+first = record { triangle = 0; x = 0x3f80_0000; y = 0; z = 0; squared = 0x41a2_0000; part = 2 }
 
 answers-printed : answerLines (request .triangles) (request .points) (request .distance) (request .rule) ≡ foundLine 0 first ++ nothingLine 1
 unfolding answerLines answerLine concatMap pointCount toBits sub mul le ofInt minus dot smallest largest isFinite plusZero squaredDistance heldIn boxOf
-    dots part pointOn closestPoint heldPoint measured numberAt pointAt triangleAt triangleCount fold ruleOf limitSquared counts offered hit tookSure
+    dots part pointOn partNumber closestSpot heldSpot numberAt pointAt triangleAt triangleCount fold ruleOf limitSquared counts offered hit tookSure
     scan sureAnswer range
 answers-printed = refl
 

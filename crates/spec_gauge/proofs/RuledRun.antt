@@ -10,7 +10,7 @@ use lib.Ieee.{fin, nan, sub, mul, le, ofInt, ofBits, toBits}
 use Rattle.spec_tables.specs.Tables.{concatMap}
 use Rattle.spec_shapes.specs.Points.{minus, dot, smallest, largest, isFinite, plusZero, squaredDistance}
 use Rattle.spec_shapes.specs.Boxes.{heldIn}
-use Rattle.spec_shapes.specs.Triangles.{boxOf, dots, part, pointOn, closestPoint, heldPoint, measured}
+use Rattle.spec_shapes.specs.Triangles.{boxOf, dots, part, pointOn, partNumber, closestSpot, heldSpot}
 use Rattle.spec_lists.specs.Reading.{numberAt, pointAt, triangleAt, triangleCount, pointCount}
 use Rattle.spec_lists.specs.Refusals.{refused, firstRefusal, isCoordinate, isDistance, firstBad, raggedRefusal, noneRefusal, tooManyRefusal, coordinateRefusal}
 use Rattle.spec_lists.specs.Refusals.{trianglesRefusal, areSettings, settingsRefusal, pointsRefusal, distanceRefusal}
@@ -88,13 +88,13 @@ lines rule = answerLines (request .triangles) (request .points) (fin false 9 (ne
 -- at 4.5, which is 9 / 2, nothing is found by the first rule
 pub nothing-at-the-distance : lines 1 ≡ nothingLine 0 ++ nothingLine 1
 unfolding answerLines answerLine concatMap pointCount toBits sub mul le ofInt minus dot smallest largest isFinite plusZero squaredDistance heldIn boxOf
-    dots part pointOn closestPoint heldPoint measured numberAt pointAt triangleAt triangleCount fold ruleOf limitSquared counts offered hit
+    dots part pointOn partNumber closestSpot heldSpot numberAt pointAt triangleAt triangleCount fold ruleOf limitSquared counts offered hit
     tookSure scan sureAnswer range
 nothing-at-the-distance = refl
 
 -- and by the second what is found at 50
 pub found-at-the-distance : lines 2 ≡ foundLine 0 first ++ nothingLine 1
 unfolding answerLines answerLine concatMap pointCount toBits sub mul le ofInt minus dot smallest largest isFinite plusZero squaredDistance heldIn boxOf
-    dots part pointOn closestPoint heldPoint measured numberAt pointAt triangleAt triangleCount fold ruleOf limitSquared counts offered hit
+    dots part pointOn partNumber closestSpot heldSpot numberAt pointAt triangleAt triangleCount fold ruleOf limitSquared counts offered hit
     tookSure scan sureAnswer range
 found-at-the-distance = refl

@@ -21,7 +21,7 @@ use Rattle.spec_tree.proofs.Unchanged.{tree-passes}
 use Rattle.spec_build.specs.Build.{Lists, made, notMade, answerBy, builtTree, buildRefusal, BuildIs}
 use Rattle.spec_build.proofs.Build.{build-passes, made-nodes, made-depth, made-accepted}
 use Rattle.spec_search.specs.Rules.{ruleOf}
-use Rattle.spec_search.specs.Answers.{sure}
+use Rattle.spec_search.specs.Answers.{sure, answerWidth}
 use Rattle.spec_search.specs.Calls.{queryRefusal, answerWords, afterQuery, sureAnswer}
 use Rattle.spec_gauge.specs.Printed.{maxBytes, Request, ruleIn, requestIn, treeLine, maxGauged, maxPoints, maxPrinted, Fits}
 use Rattle.spec_gauge.proofs.Printed.{AllPassed}
@@ -70,7 +70,8 @@ module _ (a : Request) (passed : AllPassed a) {nodes depth : ℕ} {old new : Lis
 
   -- the query of the tree that was built is never refused
   pub query-passes : (count : ℕ) → count ≡ triangleCount (a .triangles) → pointCount (a .points) ≤ maxPoints
-      → queryRefusal (sure (a .rule)) (a .triangles) (take count (new .order)) (new .links) (new .boxes) nodes (a .points) (a .distance) 16380 ≡ passes
+      → queryRefusal (sure (a .rule)) (a .triangles) (take count (new .order)) (new .links) (new .boxes) nodes (a .points) (a .distance)
+      (answerWidth * maxPoints) ≡ passes
   unfolding queryRefusal
   query-passes count e h =
       then-passes _ (
@@ -78,7 +79,7 @@ module _ (a : Request) (passed : AllPassed a) {nodes depth : ℕ} {old new : Lis
         (
           passed .rule,
           (
-            room-passes 2730 (pointCount (a .points)) h,
+            room-passes maxPoints (pointCount (a .points)) h,
             (
               rw e (tree-passes (a .triangles) _ (new .links) (new .boxes) nodes
                   (made-accepted binary32 (a .triangles) (a .settings) old new nodes depth b)),

@@ -13,7 +13,7 @@ use Rattle.spec_records.specs.Layouts.{version1, pointsStart, distanceStart, ru
 use Rattle.spec_image.specs.Image.{settingsIn}
 use Rattle.spec_image.specs.Reading.{sizeOf}
 use Rattle.spec_image.specs.Writing.{leafRefusal}
-use Rattle.spec_printing.specs.Printed.{countsLine, foundLine, nothingLine, refusedLine}
+use Rattle.spec_printing.specs.Printed.{countsLine, foundLine, longestFound, nothingLine, refusedLine}
 use Rattle.spec_lists.specs.Reading.{triangleCount, pointAt, pointCount}
 use Rattle.spec_lists.specs.Refusals.{Verdict, passes, refused, firstRefusal, Settings, trianglesRefusal, settingsRefusal, pointsRefusal, distanceRefusal}
 use Rattle.spec_tree.specs.Trees.{nodeCount, levels}
@@ -72,7 +72,7 @@ requestRefusal a =
     ∷ [])
 
 -- ---- the lines
--- nothing, or the triangle and the bits of point and squared distance
+-- nothing, or the triangle, the bits of point and squared distance, and the part
 unfoldable pub answerLine : ℕ → Answer → List ℕ
 answerLine k nothing = nothingLine k
 answerLine k (found h) = foundLine k (record {
@@ -81,6 +81,7 @@ answerLine k (found h) = foundLine k (record {
   y = toBits binary32 (h .point .y);
   z = toBits binary32 (h .point .z);
   squared = toBits binary32 (h .squared);
+  part = h .part;
 })
 
 -- a line a point, of the sure query's answers under the rule
@@ -123,9 +124,9 @@ maxGauged = 909
 abbrev pub maxPoints : ℕ
 maxPoints = 2730
 
--- the longest run: the room that the program lends
+-- the longest run, a tree's line of 85 bytes and the points': the room that the program lends
 abbrev pub maxPrinted : ℕ
-maxPrinted = 229405
+maxPrinted = 85 + longestFound * maxPoints
 
 -- the lists are no longer than what fits, and out has room
 pub record Fits (triangles points : List Float) (out : List ℕ) : Type 0 where

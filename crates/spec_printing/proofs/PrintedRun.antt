@@ -11,18 +11,18 @@ unfolding digit digits widthIn decimal hex spacedDecimal spacedHex named triangl
     foundLine nothingLine refusedLine
 counts-printed = refl
 
--- the line of a point with a triangle: "0 found 0 3f800000 00000000 00000000 41a20000"
-pub found-printed : foundLine 0 (record { triangle = 0; x = 1065353216; y = 0; z = 0; squared = 1101135872 })
+-- the line of a point with a triangle: "0 found 0 3f800000 00000000 00000000 41a20000 2"
+pub found-printed : foundLine 0 (record { triangle = 0; x = 1065353216; y = 0; z = 0; squared = 1101135872; part = 2 })
     ≡ 48 ∷ 32 ∷ 102 ∷ 111 ∷ 117 ∷ 110 ∷ 100 ∷ 32 ∷ 48 ∷ 32 ∷ 51 ∷ 102 ∷ 56 ∷ 48 ∷ 48 ∷ 48 ∷ 48 ∷ 48 ∷ 32 ∷ 48 ∷ 48 ∷ 48 ∷ 48 ∷ 48 ∷ 48 ∷ 48 ∷ 48 ∷ 32 ∷ 48 ∷ 48
-    ∷ 48 ∷ 48 ∷ 48 ∷ 48 ∷ 48 ∷ 48 ∷ 32 ∷ 52 ∷ 49 ∷ 97 ∷ 50 ∷ 48 ∷ 48 ∷ 48 ∷ 48 ∷ 10 ∷ []
+    ∷ 48 ∷ 48 ∷ 48 ∷ 48 ∷ 48 ∷ 48 ∷ 32 ∷ 52 ∷ 49 ∷ 97 ∷ 50 ∷ 48 ∷ 48 ∷ 48 ∷ 48 ∷ 32 ∷ 50 ∷ 10 ∷ []
 unfolding digit digits widthIn decimal hex spacedDecimal spacedHex named trianglesWord nodesWord depthWord foundWord nothingWord refusedWord countsLine
     foundLine nothingLine refusedLine
 found-printed = refl
 
--- "12 found 7 00000001 0000000a 000000ff 12345678": each number in its place
-pub places-printed : foundLine 12 (record { triangle = 7; x = 1; y = 10; z = 255; squared = 305419896 })
+-- "12 found 7 00000001 0000000a 000000ff 12345678 6": each number in its place
+pub places-printed : foundLine 12 (record { triangle = 7; x = 1; y = 10; z = 255; squared = 305419896; part = 6 })
     ≡ 49 ∷ 50 ∷ 32 ∷ 102 ∷ 111 ∷ 117 ∷ 110 ∷ 100 ∷ 32 ∷ 55 ∷ 32 ∷ 48 ∷ 48 ∷ 48 ∷ 48 ∷ 48 ∷ 48 ∷ 48 ∷ 49 ∷ 32 ∷ 48 ∷ 48 ∷ 48 ∷ 48 ∷ 48 ∷ 48 ∷ 48 ∷ 97 ∷ 32 ∷ 48
-    ∷ 48 ∷ 48 ∷ 48 ∷ 48 ∷ 48 ∷ 102 ∷ 102 ∷ 32 ∷ 49 ∷ 50 ∷ 51 ∷ 52 ∷ 53 ∷ 54 ∷ 55 ∷ 56 ∷ 10 ∷ []
+    ∷ 48 ∷ 48 ∷ 48 ∷ 48 ∷ 48 ∷ 102 ∷ 102 ∷ 32 ∷ 49 ∷ 50 ∷ 51 ∷ 52 ∷ 53 ∷ 54 ∷ 55 ∷ 56 ∷ 32 ∷ 54 ∷ 10 ∷ []
 unfolding digit digits widthIn decimal hex spacedDecimal spacedHex named trianglesWord nodesWord depthWord foundWord nothingWord refusedWord countsLine
     foundLine nothingLine refusedLine
 places-printed = refl

@@ -69,19 +69,25 @@ refusedWord = 114 ∷ 101 ∷ 102 ∷ 117 ∷ 115 ∷ 101 ∷ 100 ∷ []
 unfoldable pub countsLine : ℕ → ℕ → ℕ → List ℕ
 countsLine triangles nodes depth = named trianglesWord triangles ++ named nodesWord nodes ++ named depthWord depth ++ lineFeed
 
--- what was found, as bits
+-- what was found, with the part that was hit; point and squared distance as bits
 pub record Found : Type 0 where
   pub triangle : ℕ
   pub x : ℕ
   pub y : ℕ
   pub z : ℕ
   pub squared : ℕ
+  pub part : ℕ
 
 -- the line of a point at which a triangle was found
 unfoldable pub foundLine : ℕ → Found → List ℕ
 foundLine point found =
     decimal point ++ named foundWord (found .triangle)
-    ++ spacedHex (found .x) ++ spacedHex (found .y) ++ spacedHex (found .z) ++ spacedHex (found .squared) ++ lineFeed
+    ++ spacedHex (found .x) ++ spacedHex (found .y) ++ spacedHex (found .z) ++ spacedHex (found .squared) ++ spacedDecimal (found .part)
+    ++ lineFeed
+
+-- it takes no more bytes than these, of numbers of 64 bits: point, triangle and part, four words of bits
+abbrev pub longestFound : ℕ
+longestFound = 105
 
 -- the line of a point at which nothing was found
 unfoldable pub nothingLine : ℕ → List ℕ

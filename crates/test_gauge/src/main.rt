@@ -2,7 +2,7 @@
 // (tests/gauge made the list, and what must be printed).
 
 fn print_one(input: &[u8]) {
-    let mut out = [0u8; 229405];
+    let mut out = [0u8; gauge_run::run::MAX_PRINTED];
     let size = gauge_run::run::print(input, &mut out);
     io::write_all(1, &out[..size]);
 }

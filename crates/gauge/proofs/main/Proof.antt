@@ -6,6 +6,7 @@ use native.Mathlib.Nat.{le-of-eq}
 use lib.ListN.{length-replicate}
 use lib.Seq.{length-take-le}
 use Rattle.spec_tables.proofs.Tables.{put-long}
+use Rattle.spec_gauge.specs.Printed.{maxPrinted}
 use borrow.Author.Needs.{needs}
 use Rattle.gauge.proofs.main.Statement.{statement}
 use Rattle.gauge.proofs.main.Tie as tie
@@ -14,10 +15,10 @@ slice-aggregate-read-full : tie.Need-slice-aggregate-read-full
 slice-aggregate-read-full c = sym (length-replicate {A = ℕ} 32769 0)
 
 slice-aggregate-print-2 : tie.Need-slice-aggregate-print-2
-slice-aggregate-print-2 c = sym (length-replicate {A = ℕ} 229405 0)
+slice-aggregate-print-2 c = sym (length-replicate {A = ℕ} maxPrinted 0)
 
 print-requires : tie.Need-print-requires
-print-requires c κs = le-of-eq (sym (length-replicate {A = ℕ} 229405 0))
+print-requires c κs = le-of-eq (sym (length-replicate {A = ℕ} maxPrinted 0))
 
 array-share-prefix-out : tie.Need-array-share-prefix-out
 array-share-prefix-out c = rw (put-long (c .before .print .ensures)) (c .before .print .ensures .within)

@@ -6,15 +6,16 @@ use native.Mathlib.Nat.{le-of-eq}
 use lib.ListN.{length-replicate}
 use lib.Seq.{length-take-le}
 use Rattle.spec_tables.proofs.Tables.{put-long}
+use Rattle.spec_gauge.specs.Printed.{maxPrinted}
 use borrow.Author.Needs.{needs}
 use Rattle.test_gauge.proofs.print_one.Statement.{statement}
 use Rattle.test_gauge.proofs.print_one.Tie as tie
 
 slice-aggregate-print : tie.Need-slice-aggregate-print
-slice-aggregate-print c = sym (length-replicate {A = ℕ} 229405 0)
+slice-aggregate-print c = sym (length-replicate {A = ℕ} maxPrinted 0)
 
 print-requires : tie.Need-print-requires
-print-requires c κs = le-of-eq (sym (length-replicate {A = ℕ} 229405 0))
+print-requires c κs = le-of-eq (sym (length-replicate {A = ℕ} maxPrinted 0))
 
 array-share-prefix-out : tie.Need-array-share-prefix-out
 array-share-prefix-out c = rw (put-long (c .before .print .ensures)) (c .before .print .ensures .within)

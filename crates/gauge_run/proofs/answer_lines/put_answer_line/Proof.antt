@@ -1,4 +1,4 @@
--- `gauge_run::answer_lines::put_answer_line` meets its contract: the first of the six words says which line it is.
+-- `gauge_run::answer_lines::put_answer_line` meets its contract: the first of the words says which line it is.
 use denote.Ref.{now}
 use native.Mathlib.Omega.{arith}
 use Rattle.spec_tables.proofs.Tables.{put-same}
@@ -19,11 +19,12 @@ returns c =
 returns-2 : tie.Need-returns-2
 returns-2 c =
     let after-put-found = c .before .before in
-    let known6 = after-put-found .before .before .before in
+    let after-whole2 = after-put-found .before .before in
+    let known6 = after-whole2 .before .before .before in
     let after-whole = known6 .before .before .before in
     let chosen = after-whole .before .before in
     let start = chosen .before .before .before .before in (
-      put-same (found-words (now (start .args .answers)) (start .args .k) _ (chosen .if1 .left) (after-whole .whole .ensures))
+      put-same (found-words (now (start .args .answers)) (start .args .k) _ _ (chosen .if1 .left) (after-whole .whole .ensures) (after-whole2 .whole2 .ensures))
           (after-put-found .put-found .ensures .0),
       after-put-found .put-found .ensures .1,
     )
@@ -34,4 +35,5 @@ put-answer-line-spec =
     (tie.spec (λ c. search needs) (λ c. search needs) (λ c. search needs) (λ c κs. search needs) (λ c. search needs) returns (λ c. search needs)
     (λ c. search needs) (λ c. search needs) (λ c κs. search needs) (λ c. search needs) (λ c. search needs) (λ c. search needs) (λ c. search needs)
     (λ c. search needs) (λ c. search needs) (λ c. search needs) (λ c. search needs) (λ c. search needs) (λ c. search needs) (λ c. search needs)
-    (λ c. search needs) (λ c κs. search needs) (λ c. search needs) returns-2)
+    (λ c. search needs) (λ c. search needs) (λ c. search needs) (λ c. search needs) (λ c κs. search needs) (λ c κs. search needs) (λ c. search needs)
+    returns-2)

@@ -1,9 +1,11 @@
 -- `gauge_run::run::put_answers` meets its contract: no query is refused, and the lines are those of its answers.
 use denote.Ref.{now}
+use Prim.Native.Nat.{_*_}
 use native.Mathlib.Omega.{arith}
 use Rattle.spec_tables.proofs.Tables.{put-same}
-use Rattle.spec_search.specs.Answers.{sure}
+use Rattle.spec_search.specs.Answers.{sure, answerWidth}
 use Rattle.spec_search.proofs.Calls.{query-passed}
+use Rattle.spec_gauge.specs.Printed.{maxPoints}
 use Rattle.spec_gauge.proofs.Lines.{sure-lines}
 use Rattle.spec_gauge.proofs.Runs.{is-answered}
 use borrow.Author.Needs.{needs}
@@ -18,7 +20,7 @@ put-answer-lines-requires c κs =
     let start = known4 .before .before .before .before in
     let a = start .args in
     let p = query-passed (sure (a .rule)) (now (a .triangles)) (now (a .order)) (now (a .links)) (now (a .boxes)) (a .nodes) (now (a .points))
-    (a .distance) 16380 (start .pre .0) in
+    (a .distance) (answerWidth * maxPoints) (start .pre .0) in
     (omega (arith, p .1, c .before .point-count .ensures, at-answers2 .answers2 .given), omega (arith, start .pre .1, c .before .point-count .ensures))
 
 returns : tie.Need-returns
