@@ -31,7 +31,7 @@ pub fn check_lists(
     encode(verdict, triangle_count(triangles))
 }
 
-// A query at each point, 24 bytes an answer: tests 1 to 6, 71 to 75, 8 and 9. The status is the number of points.
+// A query at each point: tests 1 to 6, 71 to 75, 8 and 9. The status is the number of points.
 fn query_points(
     query: Query,
     triangles: &[f32],

@@ -1,4 +1,4 @@
-// The answers of a query at all points: tests 1 to 6, 71 to 75, 8 and 9, then 24 bytes a point.
+// The answers of a query at all points: tests 1 to 6, 71 to 75, 8 and 9, then an answer a point.
 ghost use mathlib.Core.Path.{_≡_};
 ghost use Prim.Native.Nat.{_*_, _/_, _≤_};
 ghost use lib.ListN.{length};
@@ -7,9 +7,10 @@ ghost use Rattle.spec_tables.specs.Tables.{overwrite};
 ghost use Rattle.spec_lists.specs.Passed.{GoodPoints, GoodDistance};
 ghost use Rattle.lists.specs.Values.{asVerdict};
 ghost use Rattle.spec_search.specs.Calls.{Searchable, answerBy};
-ghost use Rattle.spec_host.specs.PointBytes.{numbersOf, answerBytes, afterBytes};
+ghost use Rattle.spec_host.specs.PointBytes.{numbersOf, answerSize, answerBytes, afterBytes};
 ghost use Rattle.spec_host.specs.Requests.{queryBytesRefusal};
 ghost use Rattle.walks.specs.Values.{asQuery};
+use host_bytes::answers::ANSWER_SIZE;
 use host_bytes::answers::put_answer_bytes;
 use host_bytes::points::point_bytes_refusal;
 use host_bytes::points::point_in;
@@ -22,7 +23,7 @@ use queries::rules::rule_refusal_by;
 use tree::calls::tree_refusal;
 use walks::answer::Query;
 
-// The first of the tests 1 to 6, 71 to 75, 8 and 9 that refuses. The room is in bytes: 24 an answer, where a point has 12.
+// The first of the tests 1 to 6, 71 to 75, 8 and 9 that refuses. The room is in bytes, as are the points: one has 12.
 fn query_refusal(
     query: Query,
     triangles: &[f32],
@@ -42,7 +43,7 @@ fn query_refusal(
     if drawing.refuses() {
         return drawing;
     }
-    let early = rule_refusal_by(query).or(room_refusal(room / 24, points.len() / 12));
+    let early = rule_refusal_by(query).or(room_refusal(room / ANSWER_SIZE, points.len() / 12));
     if early.refuses() {
         return early;
     }
@@ -65,7 +66,7 @@ fn put_answers(
 )
     requires { ⌜ Searchable (now triangles) (now order) (now links) (now boxes) nodes ⌝ }
     requires { ⌜ GoodPoints (numbersOf (now points)) ⌝ }
-    requires { ⌜ 24 * (length (now points) / 12) ≤ length (now answers) ⌝ }
+    requires { ⌜ answerSize * (length (now points) / 12) ≤ length (now answers) ⌝ }
     requires { ⌜ GoodDistance distance ⌝ }
     ensures { λ _. ⌜ now (answers .exit)
         ≡ overwrite 0 (answerBytes (answerBy binary32 (asQuery query) (now (triangles .entry)) (now (order .entry)) (now (links .entry))
@@ -85,7 +86,7 @@ fn put_answers(
             touched,
             distance,
         );
-        put_answer_bytes(answers, 24 * k, answer);
+        put_answer_bytes(answers, ANSWER_SIZE * k, answer);
         k += 1;
     }
 }

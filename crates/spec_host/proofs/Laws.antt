@@ -16,13 +16,13 @@ use Rattle.spec_lists.proofs.Passed.{triangles-passed}
 use Rattle.spec_tree.specs.Refusals.{checkRefusal}
 use Rattle.spec_tree.proofs.Unchanged.{tree-passed}
 use Rattle.spec_tree.proofs.Accepted.{accepted-listed, listing-most}
-use Rattle.spec_search.specs.Answers.{Query}
+use Rattle.spec_search.specs.Answers.{Query, answerWidth}
 use Rattle.spec_search.specs.Calls.{queryRefusal, afterQuery, answerBy}
 use Rattle.spec_angles.specs.Windings.{windingRefusal, windingAt, written, afterWinding}
 use Rattle.spec_dipoles.specs.Calls.{sumsRefusal, fastRefusal, fastWindings, fastAbout, afterFast}
 use Rattle.spec_host.specs.Status.{status, Decoded}
 use Rattle.spec_host.proofs.Status.{decoded}
-use Rattle.spec_host.specs.PointBytes.{numbersOf, bytesOf, wordBytes, pointBytesRefusal, windings, windingBytes, fastBytes}
+use Rattle.spec_host.specs.PointBytes.{numbersOf, bytesOf, wordBytes, pointBytesRefusal, answerSize, windings, windingBytes, fastBytes}
 use Rattle.spec_host.specs.Requests.{queryBytesRefusal, windingBytesRefusal, fastBytesRefusal, QueryIs, WindingIs, SumsIs, FastIs}
 use Rattle.spec_host.proofs.PointBytes.{numbers-long, points-count, words-long, bytes-long, answers-after, numbers-after}
 use Rattle.spec_host.proofs.Requests.{check-encodable, query-passed, query-encodable, winding-passed, winding-encodable, sums-encodable, fast-passed, fast-encodable}
@@ -89,7 +89,7 @@ module _ (points : List ℕ) (whole : length points % 12 ≡ 0) where
       ≡ queryRefusal query triangles order links boxes nodes (numbersOf points) distance (room / 4)
   unfolding queryBytesRefusal queryRefusal
   queries-as-lists query triangles order links boxes nodes distance room =
-      let rooms : room / 4 / 6 ≡ room / 24 = omega arith in
+      let rooms : room / 4 / answerWidth ≡ room / answerSize = omega arith in
       rw (rooms, points-count points, points-as-lists)
 
   -- and in bytes that hold words it leaves the words that the list query leaves

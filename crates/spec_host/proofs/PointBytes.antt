@@ -24,9 +24,10 @@ use Rattle.spec_lists.specs.Refusals.{Verdict, passes, refused, refuses, afterV
 use Rattle.spec_lists.specs.Passed.{GoodPoints}
 use Rattle.spec_lists.proofs.Verdicts.{all-pass, so, refusal-leaves}
 use Rattle.spec_lists.proofs.Passed.{coordinates-passed}
-use Rattle.spec_search.specs.Answers.{Answer, nothing, found, sixWords}
+use Rattle.spec_search.specs.Answers.{Answer, answerWidth, wordsOf}
 use Rattle.spec_search.specs.Calls.{answerWords, afterQuery}
-use Rattle.spec_host.specs.PointBytes.{numbersOf, bytesOf, pointBytesRefusal, wordBytes, answerBytes, afterBytes}
+use Rattle.spec_search.proofs.Calls.{answer-wide}
+use Rattle.spec_host.specs.PointBytes.{numbersOf, bytesOf, pointBytesRefusal, wordBytes, answerSize, answerBytes, afterBytes}
 
 -- ---- what is read
 module _ (s : List ℕ) where
@@ -97,27 +98,23 @@ word-concatMap f zero = refl
 word-concatMap f (suc n) = word-append (concatMap f n) (f n) ∙ ap (λ (l : List ℕ). l ++ wordBytes (f n)) (word-concatMap f n)
 
 -- ---- the loop over the points that writes answers
-six-long : (a : Answer) → length (sixWords binary32 a) ≡ 6
-unfolding sixWords
-six-long nothing = refl
-six-long (found h) = refl
-
-answer-long : (a : Answer) → length (wordBytes (sixWords binary32 a)) ≡ 24
-answer-long a = length-numbers 4 (sixWords binary32 a) 0 (length (sixWords binary32 a)) ∙ ap (λ (n : ℕ). 4 * n) (six-long a)
+answer-long : (a : Answer) → length (wordBytes (wordsOf binary32 a)) ≡ answerSize
+answer-long a = length-numbers 4 (wordsOf binary32 a) 0 (length (wordsOf binary32 a)) ∙ ap (λ (n : ℕ). 4 * n) (answer-wide binary32 a)
 
 overwrite-all : {A : Type 0} (new old : List A) → length old ≡ length new → overwrite 0 new old ≡ new
 unfolding overwrite
 overwrite-all new old e = let h : length old ≤ length new = omega arith in rw (zero-add, drop-of-length-le old h, append-nil)
 
--- an answer's six words, stored in the program's list of six, are the answer's bytes
-pub six-bytes : (a : Answer) (old : List ℕ) → length old ≡ 6 → numberBytes 4 (overwrite 0 (sixWords binary32 a) old) 0 6 ≡ wordBytes (sixWords binary32 a)
-six-bytes a old e =
-    ap (λ (l : List ℕ). numberBytes 4 l 0 6) (overwrite-all (sixWords binary32 a) old (e ∙ sym (six-long a)))
-    ∙ ap (numberBytes 4 (sixWords binary32 a) 0) (sym (six-long a))
+-- an answer's words, stored in the program's list for one answer, are the answer's bytes
+pub words-bytes : (a : Answer) (old : List ℕ) → length old ≡ answerWidth
+    → numberBytes 4 (overwrite 0 (wordsOf binary32 a) old) 0 answerWidth ≡ wordBytes (wordsOf binary32 a)
+words-bytes a old e =
+    ap (λ (l : List ℕ). numberBytes 4 l 0 answerWidth) (overwrite-all (wordsOf binary32 a) old (e ∙ sym (answer-wide binary32 a)))
+    ∙ ap (numberBytes 4 (wordsOf binary32 a) 0) (sym (answer-wide binary32 a))
 
 module _ (answer : Point → Answer) (points old : List ℕ) where
   abbrev piece : ℕ → List ℕ
-  piece k = wordBytes (sixWords binary32 (answer (pointAt (numbersOf points) (3 * k))))
+  piece k = wordBytes (wordsOf binary32 (answer (pointAt (numbersOf points) (3 * k))))
 
   -- k of n answers stand at the front of out
   abbrev pub Answered : (n : ℕ) (out : List ℕ) (k : ℕ) → Type 0
@@ -125,15 +122,15 @@ module _ (answer : Point → Answer) (points old : List ℕ) where
 
   -- before the first turn no answer is written
   pub answered-start : (n : ℕ) → Answered n old 0
-  answered-start n = run-start piece 24 0 n old
+  answered-start n = run-start piece answerSize 0 n old
 
   -- a turn of the loop writes the next point's answer behind the others
-  pub answered-more : (n : ℕ) (out new : List ℕ) (k : ℕ) (a : Answer) → 24 * n ≤ length old → k < n → Answered n out k
+  pub answered-more : (n : ℕ) (out new : List ℕ) (k : ℕ) (a : Answer) → answerSize * n ≤ length old → k < n → Answered n out k
       → a ≡ answer (pointAt (numbersOf points) (3 * k))
-      → new ≡ overwrite (24 * k) (wordBytes (sixWords binary32 a)) out → Answered n new (k + 1)
+      → new ≡ overwrite (answerSize * k) (wordBytes (wordsOf binary32 a)) out → Answered n new (k + 1)
   answered-more n out new k a room l r e h =
-      run-front piece 24 n old out new k (λ j. answer-long (answer (pointAt (numbersOf points) (3 * j)))) room l r
-      (h ∙ ap (λ (b : Answer). overwrite (24 * k) (wordBytes (sixWords binary32 b)) out) e)
+      run-front piece answerSize n old out new k (λ j. answer-long (answer (pointAt (numbersOf points) (3 * j)))) room l r
+      (h ∙ ap (λ (b : Answer). overwrite (answerSize * k) (wordBytes (wordsOf binary32 b)) out) e)
 
   -- after the last turn the answers at all points stand at the front
   pub answered-end : (n : ℕ) (out : List ℕ) (k : ℕ) → n ≡ length points / 12 → n ≤ k → Answered n out k → out ≡ overwrite 0 (answerBytes answer points) old
@@ -142,7 +139,7 @@ module _ (answer : Point → Answer) (points old : List ℕ) where
       run-end piece 0 n old out k l r
       ∙ ap (λ (m : ℕ). overwrite 0 (concatMap piece m) old) (e ∙ sym (points-count points))
       ∙ ap (λ (new : List ℕ). overwrite 0 new old)
-      (sym (word-concatMap (λ j. sixWords binary32 (answer (pointAt (numbersOf points) (3 * j)))) (pointCount (numbersOf points))))
+      (sym (word-concatMap (λ j. wordsOf binary32 (answer (pointAt (numbersOf points) (3 * j)))) (pointCount (numbersOf points))))
 
 -- ---- the loop over the points that writes a number a point: winding numbers, exact ones and those by dipoles
 module _ (number : ℕ → Float) (points old : List ℕ) where
@@ -196,12 +193,13 @@ pub bytes-long : (xs : List Float) → length (bytesOf xs) ≡ 4 * length xs
 bytes-long = entries-long (λ x. little 4 (toBits binary32 x)) nan 4 (λ x. length-little 4 (toBits binary32 x))
 
 -- in bytes that hold words, answers are left as the words that the list query leaves
-pub answers-after : (answer : Point → Answer) (points old : List ℕ) (v : Verdict) → (v ≡ passes → 6 * (length points / 12) ≤ length old)
+pub answers-after : (answer : Point → Answer) (points old : List ℕ) (v : Verdict) → (v ≡ passes → answerWidth * (length points / 12) ≤ length old)
     → afterBytes v (answerBytes answer points) (wordBytes old) ≡ wordBytes (afterQuery binary32 answer (numbersOf points) v old)
 unfolding afterBytes afterQuery answerBytes answerWords
 answers-after answer points old passes room =
     let words : List ℕ = answerWords binary32 answer (numbersOf points) in
-    let long : length words ≡ 6 * pointCount (numbersOf points) = length-concatMap _ 6 (pointCount (numbersOf points)) (λ k. six-long _) in
+    let long : length words ≡ answerWidth * pointCount (numbersOf points) =
+    length-concatMap _ answerWidth (pointCount (numbersOf points)) (λ k. answer-wide binary32 _) in
     sym (entries-overwrite (little 4) 0 4 (length-little 4) words old (omega (arith, room refl, points-count points)))
 answers-after answer points old (refused number place) room = refl
 

@@ -1,5 +1,5 @@
 -- Points as bytes, twelve a point, and the answers at them as bytes: what a C host lends and reads.
-use Prim.Native.Nat.{ℕ, _/_, _%_}
+use Prim.Native.Nat.{ℕ, _*_, _/_, _%_}
 use mathlib.Core.Bool.{not}
 use mathlib.Core.List.{List, [], _∷_}
 use lib.Dec.{eqb}
@@ -10,7 +10,7 @@ use Rattle.spec_records.specs.Entries.{numberBytes, floatBytes, floatsIn}
 use Rattle.spec_shapes.specs.Points.{Point}
 use Rattle.spec_lists.specs.Reading.{pointCount}
 use Rattle.spec_lists.specs.Refusals.{Verdict, refusedIf, firstRefusal, coordinateRefusal, afterVerdict}
-use Rattle.spec_search.specs.Answers.{Answer}
+use Rattle.spec_search.specs.Answers.{Answer, answerWidth}
 use Rattle.spec_search.specs.Calls.{answerWords}
 use Rattle.spec_angles.specs.Windings.{windingAt}
 use Rattle.spec_dipoles.specs.Calls.{fastWindings}
@@ -30,6 +30,10 @@ pointBytesRefusal bytes = firstRefusal (refusedIf (not (eqb (length bytes % 12) 
 -- words as bytes, four each
 abbrev pub wordBytes : List ℕ → List ℕ
 wordBytes words = numberBytes 4 words 0 (length words)
+
+-- how many of them an answer takes
+abbrev pub answerSize : ℕ
+answerSize = 4 * answerWidth
 
 -- the answers at all points: the bytes of what a list query answers at them
 unfoldable pub answerBytes : (Point → Answer) → (points : List ℕ) → List ℕ

@@ -1,5 +1,5 @@
--- The calls of a C host over the lists that it keeps, at point bytes: what they refuse, and the contract of each. A room is in bytes, 24 an answer
--- and 4 a winding number.
+-- The calls of a C host over the lists that it keeps, at point bytes: what they refuse, and the contract of each. A room is in bytes, 4 a winding
+-- number.
 use Prim.Native.Nat.{ℕ, _/_}
 use mathlib.Core.Path.{_≡_}
 use mathlib.Core.List.{List, [], _∷_}
@@ -11,7 +11,7 @@ use Rattle.spec_dipoles.specs.Calls.{sumsRefusal, afterSums}
 use Rattle.spec_search.specs.Answers.{Query}
 use Rattle.spec_search.specs.Calls.{ruleRefusalBy, answerBy}
 use Rattle.spec_host.specs.Status.{status}
-use Rattle.spec_host.specs.PointBytes.{pointBytesRefusal, answerBytes, windingBytes, fastBytes, afterBytes}
+use Rattle.spec_host.specs.PointBytes.{pointBytesRefusal, answerSize, answerBytes, windingBytes, fastBytes, afterBytes}
 
 -- 1 to 6, 71 to 75, 8, 9; 5 is of the sure query's rule
 unfoldable pub queryBytesRefusal : Query → (triangles : List Float) (order links : List ℕ) (boxes : List Float) (nodes : ℕ) (points : List ℕ)
@@ -19,7 +19,7 @@ unfoldable pub queryBytesRefusal : Query → (triangles : List Float) (order lin
 queryBytesRefusal query triangles order links boxes nodes points distance room =
     firstRefusal
     (trianglesRefusal triangles
-    ∷ ruleRefusalBy query ∷ roomRefusal (room / 24) (length points / 12)
+    ∷ ruleRefusalBy query ∷ roomRefusal (room / answerSize) (length points / 12)
     ∷ treeRefusal triangles order links boxes nodes
     ∷ pointBytesRefusal points ∷ distanceRefusal distance ∷ [])
 
