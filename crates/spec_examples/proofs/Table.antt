@@ -5,7 +5,7 @@ use lib.Ieee.{Format, binary32, binary64, add, sub, mul, div, lt, le, eq, round,
 use Rattle.spec_shapes.specs.Points.{minus, plus, scale, dividedBy, dot, smallest, largest, isUnder, isFinite, plusZero, squaredDistance}
 use Rattle.spec_shapes.specs.Boxes.{union, centre, sizes, area, volume, offsetOn, offset, withExcess, withOutside, boxSquared, containsPoint, heldIn}
 use Rattle.spec_shapes.specs.Planes.{unit, reach, meetsBox}
-use Rattle.spec_shapes.specs.Triangles.{boxOf, dots, crossed, part, along, facePoint, pointOn, closestPoint, foot, finiteOr, heldFoot, nearerFoot, nearestFoot, heldPoint, measured}
+use Rattle.spec_shapes.specs.Triangles.{boxOf, dots, crossed, part, along, facePoint, pointOn, partNumber, closestSpot, foot, finiteOr, heldFoot, footPart, footSpot, nearerFoot, nearestFoot, heldSpot}
 use Rattle.spec_angles.specs.Root.{wholeRoot, rootBy, rootIn, root}
 use Rattle.spec_angles.specs.Table.{arcs, entry}
 use Rattle.spec_angles.specs.Angle.{arc, ratio, mirrored, angle}
@@ -32,10 +32,10 @@ use Rattle.spec_examples.specs.Queries.{queryExamples, e10Tree}
 pub examples-hold : (f : Format) → AllHold (shapeExamples f ++ (angleExamples f ++ queryExamples f))
 unfolding add sub mul div lt le eq round ofInt ofBits minus plus scale dividedBy dot smallest largest isUnder isFinite plusZero squaredDistance union centre
     sizes area volume offsetOn offset withExcess withOutside boxSquared containsPoint heldIn unit reach meetsBox boxOf dots crossed part along facePoint
-    pointOn closestPoint foot finiteOr heldFoot nearerFoot nearestFoot heldPoint measured wholeRoot rootBy rootIn root arcs entry arc ratio mirrored angle
-    numberAt pointAt triangleAt boxAt triangleCount numbers nodeCount joinedTo joined boxOver rootFrom linksFrom boxesOf range inserted sorted unionOf
-    planeBetween allMeet allMeetAt isLarge areBothLarge medianSplit grown axisInserted axesBySize rule triedOn triedIn triedWithin tried builtTree tookAll
-    nodeWalk pairWalk rootWalk fold limitSquared counts offered hit tookSure scan sourceHit keepSmaller tookSource enters sourceWalk sureAnswer sourceAnswer
-    e10Tree
+    pointOn partNumber closestSpot foot finiteOr heldFoot footPart footSpot nearerFoot nearestFoot heldSpot wholeRoot rootBy rootIn root arcs entry arc ratio
+    mirrored angle numberAt pointAt triangleAt boxAt triangleCount numbers nodeCount joinedTo joined boxOver rootFrom linksFrom boxesOf range inserted sorted
+    unionOf planeBetween allMeet allMeetAt isLarge areBothLarge medianSplit grown axisInserted axesBySize rule triedOn triedIn triedWithin tried builtTree
+    tookAll nodeWalk pairWalk rootWalk fold limitSquared counts offered hit tookSure scan sourceHit keepSmaller tookSource enters sourceWalk sureAnswer
+    sourceAnswer e10Tree
 examples-hold binary32 = refl
 examples-hold binary64 = refl

@@ -14,10 +14,11 @@ use Rattle.spec_search.specs.Rules.{Rule, strictlyBelow, belowOrEqual}
 use Rattle.spec_search.specs.Calls.{sureAnswer, sourceAnswer}
 use Rattle.spec_examples.specs.Table.{Example, Shown, float, whole}
 
--- an answer as the example shows it: its triangle, point and squared distance, or nothing
+-- an answer as the example shows it: its triangle, point and squared distance, with the part, or nothing
 abbrev pub shown : Answer → List Shown
 shown nothing = []
-shown (found h) = whole (pos (h .triangle)) ∷ float (h .point .x) ∷ float (h .point .y) ∷ float (h .point .z) ∷ float (h .squared) ∷ []
+shown (found h) = whole (pos (h .triangle)) ∷ float (h .point .x) ∷ float (h .point .y) ∷ float (h .point .z) ∷ float (h .squared)
+    ∷ whole (pos (h .part)) ∷ []
 
 module _ (f : Format) where
   abbrev pub n : ℤ → Float
@@ -54,13 +55,13 @@ module _ (f : Format) where
   abbrev pub e10-source : Example
   e10-source = record {
     worked = shown (sourceAt (n (pos 50)));
-    given = whole (pos 1) ∷ float (n (pos 10)) ∷ float (n (pos 0)) ∷ float (n (pos 0)) ∷ float (fin false 81 (negsuc 1)) ∷ [];
+    given = whole (pos 1) ∷ float (n (pos 10)) ∷ float (n (pos 0)) ∷ float (n (pos 0)) ∷ float (fin false 81 (negsuc 1)) ∷ whole (pos 1) ∷ [];
   }
 
   abbrev pub e10-sure : Example
   e10-sure = record {
     worked = shown (sureAt strictlyBelow (n (pos 50)));
-    given = whole (pos 0) ∷ float (n (pos 1)) ∷ float (n (pos 0)) ∷ float (n (pos 0)) ∷ float (fin false 81 (negsuc 1)) ∷ [];
+    given = whole (pos 0) ∷ float (n (pos 1)) ∷ float (n (pos 0)) ∷ float (n (pos 0)) ∷ float (fin false 81 (negsuc 1)) ∷ whole (pos 2) ∷ [];
   }
 
   abbrev pub e10-source-near : Example
@@ -72,7 +73,7 @@ module _ (f : Format) where
   abbrev pub e10-sure-level : Example
   e10-sure-level = record {
     worked = shown (sureAt belowOrEqual fourAndAHalf);
-    given = whole (pos 0) ∷ float (n (pos 1)) ∷ float (n (pos 0)) ∷ float (n (pos 0)) ∷ float (fin false 81 (negsuc 1)) ∷ [];
+    given = whole (pos 0) ∷ float (n (pos 1)) ∷ float (n (pos 0)) ∷ float (n (pos 0)) ∷ float (fin false 81 (negsuc 1)) ∷ whole (pos 2) ∷ [];
   }
 
   abbrev pub queryExamples : List Example
