@@ -1,9 +1,49 @@
-//! The sure query as a plain scan, written from the scope document and its request about pinched
-//! triangles alone, std only: for each triangle the computed closest point or, where a coordinate is not
-//! finite, the nearest of its feet on the edges, held into the triangle's box, zeros plus zero; the
-//! smallest squared distance that counts by the rule, the lowest number among equals.
+//! The sure query as a plain scan, written from the scope document and its requests about pinched
+//! triangles and about the part that was hit alone, std only: for each triangle the computed closest point
+//! or, where a coordinate is not finite, the nearest of its feet on the edges, held into the triangle's box,
+//! zeros plus zero; the smallest squared distance that counts by the rule, the lowest number among equals.
+//! The part is told by the test that answered or by the edge that is kept, and nothing is chosen by it.
 
 pub type V = [f32; 3];
+
+/// How many words an answer is.
+pub const WORDS: usize = 7;
+
+/// An answer as it stands in a list: 1, the triangle, the point, its squared distance and the part; zeros for nothing.
+pub type Words = [u32; WORDS];
+
+/// Which part of a triangle was hit: its face, a corner, or an edge. The number of each is the one that is answered.
+#[derive(Clone, Copy, Debug, PartialEq)]
+#[repr(u32)]
+pub enum Part {
+    Face = 0,
+    A = 1,
+    B = 2,
+    C = 3,
+    AB = 4,
+    AC = 5,
+    BC = 6,
+}
+
+impl Part {
+    pub const ALL: [Part; 7] = [Part::Face, Part::A, Part::B, Part::C, Part::AB, Part::AC, Part::BC];
+}
+
+/// What is answered of a point.
+#[derive(Clone, Copy, Debug)]
+pub struct Found {
+    pub triangle: u32,
+    pub point: V,
+    pub squared: f32,
+    pub part: Part,
+}
+
+pub fn words(found: Option<Found>) -> Words {
+    found.map_or([0; WORDS], |f| {
+        let [x, y, z] = f.point.map(f32::to_bits);
+        [1, f.triangle, x, y, z, f.squared.to_bits(), f.part as u32]
+    })
+}
 
 fn sub(a: V, b: V) -> V {
     [a[0] - b[0], a[1] - b[1], a[2] - b[2]]
@@ -18,36 +58,37 @@ fn along(start: V, edge: V, s: f32) -> V {
     [start[0] + edge[0] * s, start[1] + edge[1] * s, start[2] + edge[2] * s]
 }
 
-pub fn closest(t: &[V; 3], p: V) -> V {
+/// The computed point, and the part by the test that answered.
+pub fn closest(t: &[V; 3], p: V) -> (V, Part) {
     let [a, b, c] = *t;
     let (ab, ac, bc) = (sub(b, a), sub(c, a), sub(c, b));
     let (ap, bp, cp) = (sub(p, a), sub(p, b), sub(p, c));
     let (d1, d2) = (dot(ab, ap), dot(ac, ap));
     if d1 <= 0.0 && d2 <= 0.0 {
-        return a;
+        return (a, Part::A);
     }
     let (d3, d4) = (dot(ab, bp), dot(ac, bp));
     if d3 >= 0.0 && d4 <= d3 {
-        return b;
+        return (b, Part::B);
     }
     let vc = d1 * d4 - d3 * d2;
     if vc <= 0.0 && d1 >= 0.0 && d3 <= 0.0 {
-        return along(a, ab, d1 / (d1 - d3));
+        return (along(a, ab, d1 / (d1 - d3)), Part::AB);
     }
     let (d5, d6) = (dot(ab, cp), dot(ac, cp));
     if d6 >= 0.0 && d5 <= d6 {
-        return c;
+        return (c, Part::C);
     }
     let vb = d5 * d2 - d1 * d6;
     if vb <= 0.0 && d2 >= 0.0 && d6 <= 0.0 {
-        return along(a, ac, d2 / (d2 - d6));
+        return (along(a, ac, d2 / (d2 - d6)), Part::AC);
     }
     let va = d3 * d6 - d5 * d4;
     if va <= 0.0 && d4 - d3 >= 0.0 && d5 - d6 >= 0.0 {
-        return along(b, bc, (d4 - d3) / ((d4 - d3) + (d5 - d6)));
+        return (along(b, bc, (d4 - d3) / ((d4 - d3) + (d5 - d6))), Part::BC);
     }
     let denominator = 1.0 / (va + vb + vc);
-    along(along(a, ab, vb * denominator), ac, vc * denominator)
+    (along(along(a, ab, vb * denominator), ac, vc * denominator), Part::Face)
 }
 
 pub fn squared(q: V, p: V) -> f32 {
@@ -72,7 +113,7 @@ fn into_box(t: &[V; 3], mut q: V) -> V {
 
 /// Whether the triangle has a computed point: where it has none, a foot stands in.
 pub fn is_computed(t: &[V; 3], p: V) -> bool {
-    closest(t, p).iter().all(|x| x.is_finite())
+    closest(t, p).0.iter().all(|x| x.is_finite())
 }
 
 /// The foot on an edge, held into the triangle's box.
@@ -82,17 +123,19 @@ pub struct Foot {
     pub share: Option<f32>,
     pub point: V,
     pub squared: f32,
+    /// The edge, also where the share is held at an end; the corner at the start where there is no share.
+    pub part: Part,
 }
 
 /// On the edges ab, ac and bc.
 pub fn feet(t: &[V; 3], p: V) -> [Foot; 3] {
     let [a, b, c] = *t;
-    [(a, b), (a, c), (b, c)].map(|(start, end)| {
+    [(a, b, Part::A, Part::AB), (a, c, Part::A, Part::AC), (b, c, Part::B, Part::BC)].map(|(start, end, corner, edge_part)| {
         let edge = sub(end, start);
         let square = dot(edge, edge);
         let share = if square == 0.0 { None } else { Some(dot(edge, sub(p, start)) / square) };
         let point = into_box(t, share.map_or(start, |s| along(start, edge, s.max(0.0).min(1.0))));
-        Foot { share, point, squared: squared(point, p) }
+        Foot { share, point, squared: squared(point, p), part: if share.is_none() { corner } else { edge_part } }
     })
 }
 
@@ -101,12 +144,15 @@ pub fn kept(feet: &[Foot; 3]) -> usize {
     (1..3).fold(0, |best, k| if feet[k].squared < feet[best].squared { k } else { best })
 }
 
-pub fn held(t: &[V; 3], p: V) -> V {
+/// The point that is measured, and the part: holding it into the box leaves the part as it was.
+pub fn held(t: &[V; 3], p: V) -> (V, Part) {
     if is_computed(t, p) {
-        return into_box(t, closest(t, p));
+        let (point, part) = closest(t, p);
+        return (into_box(t, point), part);
     }
     let feet = feet(t, p);
-    feet[kept(&feet)].point
+    let foot = feet[kept(&feet)];
+    (foot.point, foot.part)
 }
 
 /// Whether a squared distance counts: by rule 1 strictly below the limit squared, by rule 2 below or equal.
@@ -118,21 +164,21 @@ pub fn counts(d: f32, limit: f32, rule: u32) -> bool {
     }
 }
 
-/// The triangle's number, the point and its squared distance, for each search distance with its rule.
-pub fn scan_each<const N: usize>(tris: &[[V; 3]], p: V, asked: [(f32, u32); N]) -> [Option<(u32, V, f32)>; N] {
-    let mut best: [Option<(u32, V, f32)>; N] = [None; N];
+/// The nearest that counts, for each search distance with its rule.
+pub fn scan_each<const N: usize>(tris: &[[V; 3]], p: V, asked: [(f32, u32); N]) -> [Option<Found>; N] {
+    let mut best: [Option<Found>; N] = [None; N];
     for (k, t) in tris.iter().enumerate() {
-        let q = held(t, p);
-        let d = squared(q, p);
+        let (point, part) = held(t, p);
+        let found = Found { triangle: k as u32, point, squared: squared(point, p), part };
         for (best, (distance, rule)) in best.iter_mut().zip(asked) {
-            if counts(d, distance * distance, rule) && best.map_or(true, |b| d < b.2) {
-                *best = Some((k as u32, q, d));
+            if counts(found.squared, distance * distance, rule) && best.map_or(true, |b| found.squared < b.squared) {
+                *best = Some(found);
             }
         }
     }
     best
 }
 
-pub fn scan(tris: &[[V; 3]], p: V, distance: f32, rule: u32) -> Option<(u32, V, f32)> {
+pub fn scan(tris: &[[V; 3]], p: V, distance: f32, rule: u32) -> Option<Found> {
     scan_each(tris, p, [(distance, rule)])[0]
 }

@@ -324,22 +324,56 @@ fn long_with_rules(cases: &mut Vec<Vec<u8>>, random: &mut Random) {
     }
 }
 
-/// What is printed where a triangle has no computed point, by hand: two corners the same, as in the example E7, and sides of 2^-33, seen
-/// from 2^-35 and 2^-36 beside the corner a.
+const PINCHED: [f32; 9] = [0.0, 0.0, 0.0, 0.0, 0.0, 0.0, 4.0, 0.0, 0.0];
+const SHORT: f32 = 1.0 / 8589934592.0;
+const SHORT_SIDES: [f32; 9] = [0.0, 0.0, 0.0, SHORT, 0.0, 0.0, 0.0, SHORT, 0.0];
+
+/// One triangle's points and what is printed of each, by hand, behind its number and the triangle's.
+fn by_hand<const N: usize>(cases: &mut Vec<Vec<u8>>, triangle: [f32; 9], lines: [([f32; 3], &str); N]) {
+    let run = Run { triangles: triangle.to_vec(), points: lines.map(|(p, _)| p).concat(), ..document() };
+    let printed: String = lines.iter().enumerate().map(|(k, (_, found))| format!("{k} found 0 {found}\n")).collect();
+    assert_eq!(reading::printed(&run.input()), format!("triangles 1 nodes 1 depth 1\n{printed}"));
+    each_rule(cases, &run);
+}
+
+/// Where a triangle has no computed point: two corners the same, as in the example E7, and sides of 2^-33, seen from 2^-35 and 2^-36 beside
+/// the corner a. A share that is held at an end is still its edge.
 fn feet(cases: &mut Vec<Vec<u8>>) {
-    const SHORT: f32 = 1.0 / 8589934592.0;
-    let pinched = [0.0, 0.0, 0.0, 0.0, 0.0, 0.0, 4.0, 0.0, 0.0];
-    let short = [0.0, 0.0, 0.0, SHORT, 0.0, 0.0, 0.0, SHORT, 0.0];
-    for (triangle, points, printed) in [
-        (pinched, vec![1.0, 1.0, 0.0], "0 found 0 3f800000 00000000 00000000 3f800000\n"),
-        (pinched, vec![9.0, 0.0, 3.0, 4.0, 0.0, 0.0], "0 found 0 40800000 00000000 00000000 42080000\n1 found 0 40800000 00000000 00000000 00000000\n"),
-        (short, vec![SHORT / 4.0, SHORT / 4.0, 0.0], "0 found 0 2e000000 00000000 00000000 1c800000\n"),
-        (short, vec![SHORT / 8.0, SHORT / 4.0, 0.0], "0 found 0 00000000 2e000000 00000000 1b800000\n"),
-    ] {
-        let run = Run { triangles: triangle.to_vec(), points, ..document() };
-        assert_eq!(reading::printed(&run.input()), format!("triangles 1 nodes 1 depth 1\n{printed}"));
-        each_rule(cases, &run);
-    }
+    by_hand(cases, PINCHED, [([1.0, 1.0, 0.0], "3f800000 00000000 00000000 3f800000 5")]);
+    by_hand(cases, PINCHED, [([9.0, 0.0, 3.0], "40800000 00000000 00000000 42080000 5"), ([4.0, 0.0, 0.0], "40800000 00000000 00000000 00000000 5")]);
+    by_hand(cases, SHORT_SIDES, [([SHORT / 4.0, SHORT / 4.0, 0.0], "2e000000 00000000 00000000 1c800000 4")]);
+    by_hand(cases, SHORT_SIDES, [([SHORT / 8.0, SHORT / 4.0, 0.0], "00000000 2e000000 00000000 1b800000 5")]);
+}
+
+/// Each part of a triangle. Of one with a computed point, from off it and on it; then of those without, the parts that `feet` has not.
+fn parts(cases: &mut Vec<Vec<u8>>) {
+    by_hand(cases, T0, [
+        ([0.25, 0.25, 1.0], "3e800000 3e800000 00000000 3f800000 0"),
+        ([-1.0, -1.0, 0.0], "00000000 00000000 00000000 40000000 1"),
+        ([2.0, -1.0, 0.0], "3f800000 00000000 00000000 40000000 2"),
+        ([-1.0, 2.0, 0.0], "00000000 3f800000 00000000 40000000 3"),
+        ([0.5, -1.0, 0.0], "3f000000 00000000 00000000 3f800000 4"),
+        ([-1.0, 0.5, 0.0], "00000000 3f000000 00000000 3f800000 5"),
+        ([1.0, 1.0, 0.0], "3f000000 3f000000 00000000 3f000000 6"),
+        ([0.25, 0.25, 0.0], "3e800000 3e800000 00000000 00000000 0"),
+        ([0.0, 0.0, 0.0], "00000000 00000000 00000000 00000000 1"),
+        ([1.0, 0.0, 0.0], "3f800000 00000000 00000000 00000000 2"),
+        ([0.0, 1.0, 0.0], "00000000 3f800000 00000000 00000000 3"),
+        ([0.5, 0.0, 0.0], "3f000000 00000000 00000000 00000000 4"),
+        ([0.0, 0.5, 0.0], "00000000 3f000000 00000000 00000000 5"),
+        ([0.5, 0.5, 0.0], "3f000000 3f000000 00000000 00000000 6"),
+    ]);
+    // edge·edge of ab is zero, and 2^-13 to the side of corner a the foot on ac is no nearer: the earlier edge's start
+    by_hand(cases, PINCHED, [([1.0 / 8192.0, 1.0, 0.0], "00000000 00000000 00000000 3f800000 1")]);
+    by_hand(cases, SHORT_SIDES, [([SHORT * 0.375, SHORT * 0.375, 0.0], "2e800000 2e800000 00000000 1c000000 6")]);
+    // 2^-26 beside 1 is lost, so ab is square to the point from a and from b: its share is 0. ac has the square zero, and all feet are as far
+    // off: the earlier edge, though its part is the higher number.
+    let [beside, less] = [26, 76].map(|power| 1.0 / (1u128 << power) as f32);
+    by_hand(cases, [0.0, 0.0, 0.0, beside, -beside, 0.0, less, less, 0.0], [([1.0, 1.0, 0.0], "00000000 00000000 00000000 40000000 4")]);
+    // Units of 2^-80, of which a square is below half of the least f32 up to 31: each edge's square is zero, so the feet are a, a and b. The
+    // squares of 256, 512 and 513 are 32, 128 and 129 of the least f32, so b is nearer than a, at 160.
+    let unit = 1.0 / (1u128 << 80) as f32;
+    by_hand(cases, [0.0, 0.0, 0.0, 0.0, unit, 0.0, 8.0 * unit, 0.0, 0.0], [([256.0 * unit, 513.0 * unit, 0.0], "00000000 17800000 00000000 000000a0 2")]);
 }
 
 /// Triangles that may have no computed point: corners that are the same, in one line, so near each other that the inverse of a square's
@@ -407,12 +441,15 @@ fn main() {
     for i in 0..100 {
         without_points(&mut cases, &mut random, [0, 2, 1, 2, 3, 2][i % 6]);
     }
+    parts(&mut cases);
     let mut inputs = std::fs::File::create(&paths[0]).unwrap();
-    let mut answers = std::fs::File::create(&paths[1]).unwrap();
+    let printed: String = cases.iter().map(|case| reading::printed(case)).collect();
     for case in &cases {
         inputs.write_all(&(case.len() as u32).to_le_bytes()).unwrap();
         inputs.write_all(case).unwrap();
-        answers.write_all(reading::printed(case).as_bytes()).unwrap();
     }
-    eprintln!("{} inputs", cases.len());
+    std::fs::write(&paths[1], &printed).unwrap();
+    let found: Vec<&str> = printed.lines().filter(|line| line.contains("found")).collect();
+    let by_part = scan::Part::ALL.map(|part| found.iter().filter(|line| line.ends_with(&format!(" {}", part as u32))).count());
+    eprintln!("{} inputs, {} found, by part {by_part:?}", cases.len(), found.len());
 }

@@ -199,8 +199,9 @@ pub fn printed(s: &[u8]) -> String {
     for (k, c) in coordinates.chunks(3).enumerate() {
         match scan(&triangles, point(c), distance, rule as u32) {
             None => out += &format!("{k} nothing\n"),
-            Some((t, q, d)) => {
-                out += &format!("{k} found {t} {:08x} {:08x} {:08x} {:08x}\n", q[0].to_bits(), q[1].to_bits(), q[2].to_bits(), d.to_bits())
+            Some(f) => {
+                let [x, y, z] = f.point.map(f32::to_bits);
+                out += &format!("{k} found {} {x:08x} {y:08x} {z:08x} {:08x} {}\n", f.triangle, f.squared.to_bits(), f.part as u32)
             }
         }
     }

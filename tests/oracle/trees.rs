@@ -1,5 +1,5 @@
-//! Makes crates/test_trees/stdin: trees and source answers of the Rust, and sure answers of the
-//! plain scan in tests/closest/scan.rs, over all of the oracle's kinds of shape and its findings, then
+//! Makes crates/test_trees/stdin: trees and source answers of the Rust, and sure answers and all parts of
+//! the plain scan in tests/closest/scan.rs, over all of the oracle's kinds of shape and its findings, then
 //! over triangles that may have no computed point. Put this file, scan.rs and degenerate.rs into the
 //! oracle's src/bin/ (the last two in a folder src/bin/scan/) and run it there:
 //!
@@ -7,12 +7,12 @@
 //!
 //! A case is words, u32 little-endian: n, strategy, leaf minimum, depth, distance bits, points,
 //! nodes, depth of the tree; then 9n coordinates, 3 a point, n order entries, 3 links a node, 6 box
-//! numbers a node, 6 words of the source answer a point, 6 words of the sure answer by rule 1 a point.
+//! numbers a node, 7 words of the source answer a point, 7 words of the sure answer by rule 1 a point.
 
 use shark::{
     cases::{make, Rng, Wish, FAR, KINDS},
     request::{Request, Settings, P},
-    run::{caught, Any, Found, Variant},
+    run::{caught, Any, Variant},
 };
 use std::io::Write;
 
@@ -26,15 +26,13 @@ fn v(p: &P) -> [f32; 3] {
     [p.x, p.y, p.z]
 }
 
-fn answer(out: &mut Vec<u32>, found: Option<(u32, [f32; 3], f32)>) {
-    match found {
-        None => out.extend([0; 6]),
-        Some((t, q, d)) => out.extend([1, t, q[0].to_bits(), q[1].to_bits(), q[2].to_bits(), d.to_bits()]),
-    }
-}
-
-fn plain(f: Option<Found>) -> Option<(u32, [f32; 3], f32)> {
-    f.map(|f| (f.triangle, v(&f.point), f.squared))
+/// What the Rust answers, with the part by a reading of its triangle: the Rust tells none.
+fn source_of(tree: &Any, list: &[[[f32; 3]; 3]], p: &P, d: f32) -> Option<scan::Found> {
+    tree.source(p, d).0.map(|f| {
+        let (point, part) = scan::closest(&list[f.triangle as usize], v(p));
+        assert_eq!(point.map(f32::to_bits), v(&f.point).map(f32::to_bits), "the plain reading has another closest point");
+        scan::Found { triangle: f.triangle, point, squared: f.squared, part }
+    })
 }
 
 fn case(r: Request, out: &mut Vec<u32>) {
@@ -52,8 +50,8 @@ fn case(r: Request, out: &mut Vec<u32>) {
         out.extend([if n.leaf { 1 } else { 2 }, n.left as u32, n.right as u32]);
     }
     out.extend(t.nodes.iter().flat_map(|n| n.bbox).map(|x| x.to_bits()));
-    points.iter().for_each(|p| answer(out, plain(built.source(p, d).0)));
-    points.iter().for_each(|p| answer(out, scan::scan(&list, v(p), d, 1)));
+    points.iter().for_each(|p| out.extend(scan::words(source_of(&built, &list, p, d))));
+    points.iter().for_each(|p| out.extend(scan::words(scan::scan(&list, v(p), d, 1))));
 }
 
 /// One to three triangles that may have no computed point, and twenty points by their edges.

@@ -1,6 +1,7 @@
-// Replays what the Rust answers for boxes, planes and closest points, and the sure query's point of a plain scan (tests/oracle/shapes.rs
-// made the list on standard input). Prints the first ten words that differ, how many cases there are and how many words differ.
-// A case is 66 words: two triangles, a point, then the answers.
+// Replays what the Rust answers for boxes, planes and closest points, and the sure query's point and the parts of a plain scan
+// (tests/oracle/shapes.rs made the list on standard input). Prints the first ten words that differ, how many cases there are and how many
+// words differ.
+// A case is 68 words: two triangles, a point, then the answers.
 use shapes::box3::Box3;
 use shapes::plane3::Plane3;
 use shapes::triangle3::Triangle3;
@@ -29,12 +30,12 @@ fn put_difference(case: u64, word: u64, ours: u32, theirs: u32) {
     io::write_all(1, b"\n");
 }
 
-fn word_of(words: &[u32; 66], at: usize) -> u32 {
-    if at < 66 { words[at] } else { 0 }
+fn word_of(words: &[u32; 68], at: usize) -> u32 {
+    if at < 68 { words[at] } else { 0 }
 }
 
-fn vec_of(words: &[u32; 66], at: usize) -> Vec3 {
-    if at < 64 {
+fn vec_of(words: &[u32; 68], at: usize) -> Vec3 {
+    if at < 66 {
         Vec3 {
             x: floats::from_bits(words[at]),
             y: floats::from_bits(words[at + 1]),
@@ -50,7 +51,7 @@ fn vec_of(words: &[u32; 66], at: usize) -> Vec3 {
 }
 
 impl Tally {
-    fn word(self, words: &[u32; 66], at: usize, ours: u32) -> Tally {
+    fn word(self, words: &[u32; 68], at: usize, ours: u32) -> Tally {
         let theirs = word_of(words, at);
         if ours == theirs {
             return self;
@@ -64,39 +65,46 @@ impl Tally {
         }
     }
 
-    fn float(self, words: &[u32; 66], at: usize, ours: f32) -> Tally {
+    fn float(self, words: &[u32; 68], at: usize, ours: f32) -> Tally {
         self.word(words, at, floats::bits_of(ours))
     }
 
-    fn vec(self, words: &[u32; 66], at: usize, ours: Vec3) -> Tally {
+    fn vec(self, words: &[u32; 68], at: usize, ours: Vec3) -> Tally {
         let after_x = self.float(words, at % 64, ours.x);
         let after_y = after_x.float(words, at % 64 + 1, ours.y);
         after_y.float(words, at % 64 + 2, ours.z)
     }
 
-    fn bounds(self, words: &[u32; 66], at: usize, ours: Box3) -> Tally {
+    fn bounds(self, words: &[u32; 68], at: usize, ours: Box3) -> Tally {
         self.vec(words, at % 64, ours.min)
             .vec(words, at % 64 + 3, ours.max)
     }
 
-    fn triangle(self, words: &[u32; 66], t: Triangle3, p: Vec3) -> Tally {
-        let q = t.closest_point(p);
+    fn closest(self, words: &[u32; 68], t: Triangle3, p: Vec3) -> Tally {
+        let spot = t.closest_spot(p);
+        let q = spot.point;
+        let part = spot.part;
         self.vec(words, 21, q)
             .float(words, 24, q.squared_distance(p))
+            .word(words, 66, part.number())
     }
 
-    fn measured(self, words: &[u32; 66], t: Triangle3, p: Vec3) -> Tally {
-        let m = t.measure(p);
-        self.vec(words, 62, m.point).float(words, 65, m.squared)
+    fn held(self, words: &[u32; 68], t: Triangle3, p: Vec3) -> Tally {
+        let spot = t.held_spot(p);
+        let q = spot.point;
+        let part = spot.part;
+        self.vec(words, 62, q)
+            .float(words, 65, q.squared_distance(p))
+            .word(words, 67, part.number())
     }
 
-    fn unions(self, words: &[u32; 66], b: Box3, other: Box3, p: Vec3) -> Tally {
+    fn unions(self, words: &[u32; 68], b: Box3, other: Box3, p: Vec3) -> Tally {
         let own = self.bounds(words, 25, b);
         own.bounds(words, 31, b.union_box(other))
             .bounds(words, 37, b.union_point(p))
     }
 
-    fn measures(self, words: &[u32; 66], b: Box3, p: Vec3) -> Tally {
+    fn measures(self, words: &[u32; 68], b: Box3, p: Vec3) -> Tally {
         let sized = self.vec(words, 43, b.centre()).vec(words, 46, b.sizes());
         let filled = sized
             .float(words, 49, b.area())
@@ -107,7 +115,7 @@ impl Tally {
             .vec(words, 56, b.closest_point(p))
     }
 
-    fn plane(self, words: &[u32; 66], at: usize, axis: Axis, b: Box3, p: Vec3) -> Tally {
+    fn plane(self, words: &[u32; 68], at: usize, axis: Axis, b: Box3, p: Vec3) -> Tally {
         let plane = Plane3 {
             normal: shapes::plane3::unit_of(axis),
             distance: p.on(axis),
@@ -115,14 +123,14 @@ impl Tally {
         self.word(words, at, plane.intersects_box3(b) as u32)
     }
 
-    fn planes(self, words: &[u32; 66], b: Box3, p: Vec3) -> Tally {
+    fn planes(self, words: &[u32; 68], b: Box3, p: Vec3) -> Tally {
         let after_x = self.plane(words, 59, Axis::X, b, p);
         let after_y = after_x.plane(words, 60, Axis::Y, b, p);
         after_y.plane(words, 61, Axis::Z, b, p)
     }
 }
 
-fn triangle_of(words: &[u32; 66], at: usize) -> Triangle3 {
+fn triangle_of(words: &[u32; 68], at: usize) -> Triangle3 {
     Triangle3 {
         a: vec_of(words, at % 50),
         b: vec_of(words, at % 50 + 3),
@@ -130,17 +138,17 @@ fn triangle_of(words: &[u32; 66], at: usize) -> Triangle3 {
     }
 }
 
-fn replay(words: &[u32; 66], tally: Tally) -> Tally {
+fn replay(words: &[u32; 68], tally: Tally) -> Tally {
     let t = triangle_of(words, 0);
     let other = triangle_of(words, 9).bbox();
     let p = vec_of(words, 18);
     let b = t.bbox();
-    let closest = tally.triangle(words, t, p);
+    let closest = tally.closest(words, t, p);
     let all = closest
         .unions(words, b, other, p)
         .measures(words, b, p)
         .planes(words, b, p)
-        .measured(words, t, p);
+        .held(words, t, p);
     Tally {
         cases: one_more(all.cases),
         differ: all.differ,
@@ -149,11 +157,11 @@ fn replay(words: &[u32; 66], tally: Tally) -> Tally {
 
 // Replays the next case of standard input, if there is one.
 fn replay_next(tally: Tally) -> Tally {
-    let mut bytes = [0u8; 264];
-    if io::read_full(0, &mut bytes) < 264 {
+    let mut bytes = [0u8; 272];
+    if io::read_full(0, &mut bytes) < 272 {
         return tally;
     }
-    let mut words = [0u32; 66];
+    let mut words = [0u32; 68];
     test_words::fill_numbers(&bytes, 0, &mut words);
     replay(&words, tally)
 }

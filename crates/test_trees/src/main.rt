@@ -1,4 +1,5 @@
-// Replays trees and source answers of the Rust, and sure answers of a plain scan (tests/oracle/trees.rs made the list on standard input).
+// Replays trees and source answers of the Rust, and sure answers and all parts of a plain scan (tests/oracle/trees.rs made the list on
+// standard input).
 // Prints the first ten words that differ, how many cases, trees and points there are and how many words differ.
 use build::calls::Built;
 use lists::verdict::Verdict;
@@ -6,6 +7,7 @@ use test_words::fill_floats;
 use test_words::fill_numbers;
 use test_words::more;
 use test_words::pattern_at;
+use walks::words::ANSWER_WIDTH;
 
 // The first eight words of a case.
 struct Head {
@@ -64,7 +66,7 @@ fn places_of(head: Head) -> Places {
         let links = order + 4 * (head.triangles % 25);
         let boxes = links + 12 * (head.nodes % 48);
         let source = boxes + 24 * (head.nodes % 48);
-        let sure = source + 24 * (head.points % 21);
+        let sure = source + 4 * ANSWER_WIDTH * (head.points % 21);
         return Places {
             points,
             order,
@@ -86,7 +88,7 @@ fn places_of(head: Head) -> Places {
 
 // How many bytes follow the head.
 fn body_size(head: Head, places: Places) -> usize {
-    more(places.sure, 24 * (head.points % 21))
+    more(places.sure, 4 * ANSWER_WIDTH * (head.points % 21))
 }
 
 impl Tally {
@@ -280,8 +282,8 @@ fn answered(
     boxes: &[f32],
     tally: Tally,
 ) -> Tally {
-    let size = 6 * (head.points % 21);
-    let mut first = [7u32; 120];
+    let size = ANSWER_WIDTH * (head.points % 21);
+    let mut first = [7u32; 20 * ANSWER_WIDTH];
     let source = &mut first[0..size];
     let sourced = queries::calls::source_query(
         triangles,
@@ -293,7 +295,7 @@ fn answered(
         head.distance,
         source,
     );
-    let mut second = [7u32; 120];
+    let mut second = [7u32; 20 * ANSWER_WIDTH];
     let sure = &mut second[0..size];
     let sured = queries::calls::sure_query(
         triangles,
