@@ -2,12 +2,17 @@
 //! sure query against a plain scan. Prints counts and the first that differ, and ends with status 1 where any does.
 //! tests/compare builds and runs it.
 //!
-//!     compare [REQUESTS [POINTS [LARGE [LARGE_POINTS [LEVEL [WIDER [FEET]]]]]]]
+//!     compare [REQUESTS [POINTS [LARGE [LARGE_POINTS [LEVEL [WIDER [FEET [PARTS]]]]]]]]
 //!
 //! 200,000 requests of up to 4,096 triangles and 10,000,000 points of as large drawings, then 408 requests of 4,096 to 65,536
 //! triangles and 100,000 points of drawings of 4,097 to 65,536, each by both measuring rules; then 5,000,000 points at exactly the
 //! distance of their nearest and a float more or less; then 5,000,000 points before and after a wider search and a patch; then
-//! 2,000,000 points by the edges of triangles of which many have no computed point.
+//! 2,000,000 points by the edges of triangles of which many have no computed point; then 2,000,000 points of single triangles and small
+//! drawings for the part that was hit. In each of these two every part that can be met must have been met, by a computed point and by a
+//! foot, so with fewer than some 10,000 points they fail; with none they pass.
+//!
+//! The Rust tells no part. A source answer's is that of the plain reading of the triangle that the Rust answers, whose point must be the
+//! Rust's, and whose part that of the return in the Rust's text by which it comes (tagged.sed).
 //!
 //! This engine is given the numbers as they were made, minus zeros too; the oracle and the scan read each as itself plus zero.
 
@@ -27,22 +32,39 @@ mod degenerate;
 mod engine;
 #[path = "beside/scan.rs"]
 mod scan;
+#[path = "beside/tagged.rs"]
+mod tagged;
 use asked::{v, Asked, Tally};
 use engine::Tree;
+use scan::{words, Found, Part, Words};
+use tagged::Tagged;
 
 const UNIT: f64 = 1.0 / 1048576.0;
 
 const RULES: [u32; 2] = [1, 2];
 
-/// Triangle, point, squared distance.
-type Answer = Option<(u32, [f32; 3], f32)>;
+type Answer = Option<Found>;
 
-fn words(found: Answer) -> [u32; 6] {
-    found.map_or([0; 6], |(t, q, d)| [1, t, q[0].to_bits(), q[1].to_bits(), q[2].to_bits(), d.to_bits()])
+/// The Rust's answer, with the part by the plain reading of its triangle.
+fn source_of(tree: &Any, list: &[[[f32; 3]; 3]], p: &P, d: f32) -> Answer {
+    tree.source(p, d).0.map(|f| {
+        let (_, part) = scan::closest(&list[f.triangle as usize], v(p));
+        Found { triangle: f.triangle, point: v(&f.point), squared: f.squared, part }
+    })
 }
 
-fn source_of(tree: &Any, p: &P, d: f32) -> Answer {
-    tree.source(p, d).0.map(|f| (f.triangle, v(&f.point), f.squared))
+fn readings_tally() -> Tally {
+    Tally::new("the Rust's closest points and the returns by which they come, against the plain reading that tells their part")
+}
+
+/// Whether the plain reading has the point that the Rust answers, and the part of the return by which it comes.
+fn is_read(list: &[[[f32; 3]; 3]], p: &P, found: Found) -> bool {
+    let t = &list[found.triangle as usize];
+    let [a, b, c] = t.map(|c| P::new(c[0], c[1], c[2]));
+    let (tagged, number) = Tagged { a, b, c }.closest_point(p);
+    let (read, part) = scan::closest(t, v(p));
+    let bits = |q: [f32; 3]| q.map(f32::to_bits);
+    bits(read) == bits(found.point) && bits(v(&tagged)) == bits(found.point) && number == part as u32
 }
 
 const T0: [f32; 9] = [0.0, 0.0, 0.0, 1.0, 0.0, 0.0, 0.0, 1.0, 0.0];
@@ -82,21 +104,23 @@ const FAULTS: [(&str, u16, &[[f32; 9]], [f32; 3], f32); 24] = [
     ("a coordinate that is no number", 1, &[[0.0, 0.0, 0.0, f32::NAN, 0.0, 0.0, 0.0, 1.0, 0.0], T1], [0.0, 0.0, 1.0], 4.0),
 ];
 
-fn told(words: [u32; 6]) -> String {
-    let [x, y, z, d] = [2, 3, 4, 5].map(|i| f32::from_bits(words[i]));
-    if words[0] == 1 { format!("{} ({x:?}, {y:?}, {z:?}) {d:?}", words[1]) } else { "nothing".into() }
+fn told([found, triangle, x, y, z, squared, part]: Words) -> String {
+    let [x, y, z, d] = [x, y, z, squared].map(f32::from_bits);
+    let part = ["face", "a", "b", "c", "ab", "ac", "bc"].get(part as usize).unwrap_or(&"no part");
+    if found == 1 { format!("{triangle} ({x:?}, {y:?}, {z:?}) {d:?} {part}") } else { "nothing".into() }
 }
 
-/// What each does on the smallest input of each fault: triangle, point and squared distance.
+/// What each does on the smallest input of each fault: triangle, point, squared distance and part.
 fn faults() {
     for (name, strategy, list, point, d) in FAULTS {
         let s = Settings { version: 1, strategy, leaf_minimum: 1, depth: 40 };
         let tris: Vec<[P; 3]> = list.iter().map(|t| [0, 3, 6].map(|i| P::new(t[i], t[i + 1], t[i + 2]))).collect();
         let p = P::new(point[0], point[1], point[2]);
-        let rust = |variant| caught(|| words(source_of(&Any::build(variant, s, &tris), &p, d))).map_or_else(|why| format!("stops: {why}"), told);
+        let corners: Vec<[[f32; 3]; 3]> = tris.iter().map(|t| [v(&t[0]), v(&t[1]), v(&t[2])]).collect();
+        let rust = |variant| caught(|| words(source_of(&Any::build(variant, s, &tris), &corners, &p, d))).map_or_else(|why| format!("stops: {why}"), told);
         let given = list.concat();
         let tree = Tree::build(&given, strategy as usize, 1, 40);
-        let ours = |answers: Option<Vec<[u32; 6]>>| answers.map_or("refused".into(), |a| told(a[0]));
+        let ours = |answers: Option<Vec<Words>>| answers.map_or("refused".into(), |a| told(a[0]));
         println!("{name}\n    as published {}\n    leaves repaired {}", rust(Variant::Unrepaired), rust(Variant::Repaired));
         let [sure, or_equal] = RULES.map(|rule| ours(tree.sure(&given, &point, d, rule)));
         println!("    here {} nodes, source {}, sure {sure}, by rule 2 {or_equal}", tree.nodes, ours(tree.source(&given, &point, d)));
@@ -105,19 +129,19 @@ fn faults() {
 
 /// How the source's answer and the sure one by rule 1 differ, if they do.
 fn why(source: Answer, sure: Answer, limit: f32, list: &[[[f32; 3]; 3]], p: [f32; 3]) -> &'static str {
-    let no_point = |t: u32| !scan::is_computed(&list[t as usize], p);
+    let no_point = |f: Found| !scan::is_computed(&list[f.triangle as usize], p);
     match (source, sure) {
         _ if words(source) == words(sure) => "the same answer",
         (None, None) => "the same answer",
-        (Some(a), None) if a.2 >= limit => "source beyond the limit, sure nothing",
+        (Some(a), None) if a.squared >= limit => "source beyond the limit, sure nothing",
         (Some(_), None) => "source within the limit by a point outside its box, sure nothing",
-        (None, Some(b)) if no_point(b.0) => "source nothing, the Rust has no point on the triangle that sure answers",
+        (None, Some(b)) if no_point(b) => "source nothing, the Rust has no point on the triangle that sure answers",
         (None, Some(_)) => "source nothing, otherwise",
-        (Some(a), Some(b)) if a.0 != b.0 && a.2 == b.2 => "equal distance, sure the lower number",
-        (Some(a), Some(b)) if a.0 == b.0 => "same triangle, its point held into its box",
-        (Some(_), Some(b)) if no_point(b.0) => "sure nearer, the Rust has no point on that triangle",
-        (Some(a), Some(_)) if a.2 >= limit => "source beyond the limit, sure another within",
-        (Some(a), Some(b)) if b.2 < a.2 => "sure nearer, otherwise",
+        (Some(a), Some(b)) if a.triangle != b.triangle && a.squared == b.squared => "equal distance, sure the lower number",
+        (Some(a), Some(b)) if a.triangle == b.triangle => "same triangle, its point held into its box",
+        (Some(_), Some(b)) if no_point(b) => "sure nearer, the Rust has no point on that triangle",
+        (Some(a), Some(_)) if a.squared >= limit => "source beyond the limit, sure another within",
+        (Some(a), Some(b)) if b.squared < a.squared => "sure nearer, otherwise",
         _ => "source nearer by a point outside its box",
     }
 }
@@ -131,6 +155,7 @@ struct Requests {
     accepted: Tally,
     changed: Tally,
     source: Tally,
+    readings: Tally,
     sure: [Tally; 2],
     solid: Tally,
     winding: Tally,
@@ -153,6 +178,7 @@ impl Requests {
             accepted: Tally::new("trees accepted by the check"),
             changed: Tally::new("trees with one entry changed, refused by the check"),
             source: Tally::new("source answers"),
+            readings: readings_tally(),
             sure: RULES.map(sure_tally),
             solid: Tally::new("solid angles, within 2 x 2^-20"),
             winding: Tally::new("winding numbers, within n x 2^-20"),
@@ -194,11 +220,11 @@ impl Requests {
         self.changed(a, ours.clone(), r);
 
         let (list, d) = (a.list(), a.distance);
-        let source: Vec<Answer> = a.points.iter().map(|p| source_of(&theirs, p, d)).collect();
+        let source: Vec<Answer> = a.points.iter().map(|p| source_of(&theirs, &list, p, d)).collect();
         let sure: Vec<[Answer; 2]> = a.points.iter().map(|p| scan::scan_each(&list, v(p), RULES.map(|rule| (d, rule)))).collect();
         if let Ok(published) = caught(|| Any::build(Variant::Unrepaired, s, &a.tris)) {
             for (p, repaired) in a.points.iter().zip(&source) {
-                match caught(|| source_of(&published, p, d)) {
+                match caught(|| source_of(&published, &list, p, d)) {
                     Err(_) => self.published[0] += 1,
                     Ok(answer) => self.published[1] += (words(answer) != words(*repaired)) as u64,
                 }
@@ -210,6 +236,9 @@ impl Requests {
             Self::answers(&mut self.sure[k], a, ours.sure(&a.given, &a.given_points, d, rule), &wanted);
         }
         for ((p, x), y) in a.points.iter().zip(source).zip(sure) {
+            if let Some(found) = x {
+                self.readings.note(is_read(&list, p, found), || format!("{}: point {p:?}", a.name));
+            }
             *self.whys.entry(why(x, y[0], d * d, &list, v(p))).or_default() += 1;
         }
         self.angles(a);
@@ -232,7 +261,7 @@ impl Requests {
         self.changed.note(!tree.accepted(&a.given), || format!("{}: boxes {at}, bit {bit}", a.name));
     }
 
-    fn answers(tally: &mut Tally, a: &Asked, ours: Option<Vec<[u32; 6]>>, wanted: &[Answer]) {
+    fn answers(tally: &mut Tally, a: &Asked, ours: Option<Vec<Words>>, wanted: &[Answer]) {
         for (k, p) in a.points.iter().enumerate() {
             let (got, want) = (ours.as_ref().map(|o| o[k]), words(wanted[k]));
             tally.note(got == Some(want), || format!("{} distance={:?}: point {k} {p:?}: {got:x?}, not {want:x?}", a.name, a.distance));
@@ -318,7 +347,7 @@ fn requests(count: u64, request: fn(u64, &mut Rng) -> Asked) -> u64 {
     println!("  {} points not judged, where a partial sum reaches 16: winding numbers at most {:.4} x 2^-20 a triangle off", all.past_16, all.most_past_16);
     println!("  how source answers and sure ones by rule 1 differ:");
     all.whys.iter().for_each(|(why, n)| println!("{n:>12} {why}"));
-    [&all.trees, &all.accepted, &all.changed, &all.source, &all.sure[0], &all.sure[1], &all.solid, &all.winding, &all.sums].iter().map(|t| t.print()).sum()
+    [&all.trees, &all.accepted, &all.changed, &all.source, &all.readings, &all.sure[0], &all.sure[1], &all.solid, &all.winding, &all.sums].iter().map(|t| t.print()).sum()
 }
 
 /// A tree that no builder made: any order, any cuts, leaves of any size.
@@ -421,7 +450,7 @@ fn scans(count: u64, size: fn(&mut Rng) -> usize) -> u64 {
         // Half of the distances are at, just above or just below where a point's nearest stands.
         let mut d = a.distance;
         if r.one_in(2) {
-            let nearest = scan::scan(&list, v(&a.points[0]), FAR, 1).and_then(|b| square_root_of(b.2));
+            let nearest = scan::scan(&list, v(&a.points[0]), FAR, 1).and_then(|b| square_root_of(b.squared));
             if let Some(exact) = nearest {
                 at_limit += 1;
                 d = [exact, exact.next_up(), if exact > 0.0 { exact.next_down() } else { exact }][r.below(3)].min(FAR);
@@ -437,12 +466,12 @@ fn scans(count: u64, size: fn(&mut Rng) -> usize) -> u64 {
                 sure[by].note(got == Some(want), || format!("{} distance={d:?}, tree {}: point {k} {p:?}: {got:x?}, not {want:x?}", a.name, if i % 2 == 0 { "built" } else { "grown" }));
             }
             or_equal += (answers[0].is_none() && answers[1].is_some()) as u64;
-            if let Some((t, _, squared)) = answers[0] {
+            if let Some(nearest) = answers[0] {
                 found += 1;
                 if k % 10 == 0 {
                     looked += 1;
-                    let rest: Vec<_> = list.iter().enumerate().filter(|(j, _)| *j != t as usize).map(|(_, t)| *t).collect();
-                    ties += scan::scan(&rest, v(p), d, 1).is_some_and(|b| b.2 == squared) as u64;
+                    let rest: Vec<_> = list.iter().enumerate().filter(|(j, _)| *j != nearest.triangle as usize).map(|(_, t)| *t).collect();
+                    ties += scan::scan(&rest, v(p), d, 1).is_some_and(|b| b.squared == nearest.squared) as u64;
                 }
             }
         }
@@ -516,11 +545,11 @@ fn levels(count: u64) -> u64 {
         for (k, p) in a.points.iter().enumerate() {
             let given = &a.given_points[3 * k..3 * k + 3];
             let nearest = scan::scan(&list, v(p), FAR, 1).expect("nothing is that far off");
-            let asked = steps(nearest.2);
+            let asked = steps(nearest.squared);
             points += 1;
             exact += asked[1].is_some() as u64;
-            surface += (nearest.2 == 0.0) as u64;
-            ties += list[nearest.0 as usize + 1..].iter().any(|t| scan::scan(&[*t], v(p), FAR, 1).is_some_and(|b| b.2 == nearest.2)) as u64;
+            surface += (nearest.squared == 0.0) as u64;
+            ties += list[nearest.triangle as usize + 1..].iter().any(|t| scan::scan(&[*t], v(p), FAR, 1).is_some_and(|b| b.squared == nearest.squared)) as u64;
             let distances = asked.map(|d| d.unwrap_or(0.0));
             let wanted: [Answer; 6] = scan::scan_each(&list, v(p), std::array::from_fn(|j| (distances[j / 2], RULES[j % 2])));
             for (step, d) in asked.into_iter().enumerate() {
@@ -562,7 +591,7 @@ fn levels(count: u64) -> u64 {
 
 /// An answer before and after triangles were appended to n, so that there are m: it stands, or an appended one has taken its place, strictly
 /// nearer or where there was nothing.
-fn stands_or_nearer(n: usize, m: usize, before: [u32; 6], after: [u32; 6]) -> bool {
+fn stands_or_nearer(n: usize, m: usize, before: Words, after: Words) -> bool {
     let nearer = || before[0] == 0 || f32::from_bits(after[5]) < f32::from_bits(before[5]);
     after == before || (after[0] == 1 && (n..m).contains(&(after[1] as usize)) && nearer())
 }
@@ -598,13 +627,13 @@ fn wider(count: u64) -> u64 {
         // A patch of no triangles is a list that no query takes.
         let patch_alone = (old < n).then(|| another(old, n, &mut r));
         let mut about = || {
-            let nearest = scan::scan(&list[..old], v(&a.points[r.below(EACH)]), FAR, 1).map_or(0.0, |b| b.2.sqrt());
+            let nearest = scan::scan(&list[..old], v(&a.points[r.below(EACH)]), FAR, 1).map_or(0.0, |b| b.squared.sqrt());
             [a.distance, nearest, nearest, nearest.next_up(), 0.0, FAR][r.below(6)].min(FAR)
         };
         let (one, other) = (about(), about());
         let (d, larger) = (one.min(other), one.max(other));
         let name = |d: f32, rule: u32, k: usize| format!("{} distance={d:?} rule={rule} old={old} point {k}", a.name);
-        let mut by_first: Option<Vec<[u32; 6]>> = None;
+        let mut by_first: Option<Vec<Words>> = None;
         for rule in RULES {
             let (short, long) = (before.sure(&a.given, &a.given_points, d, rule).unwrap(), after.sure(&a.given, &a.given_points, larger, rule).unwrap());
             let front = unpatched.sure(&a.given[..9 * old], &a.given_points, d, rule).unwrap();
@@ -616,19 +645,20 @@ fn wider(count: u64) -> u64 {
                     wide[long[k][0] as usize] += 1;
                 }
                 let counts = long[k][0] == 1 && scan::counts(f32::from_bits(long[k][5]), d * d, rule);
-                let left = if counts { long[k] } else { [0; 6] };
+                let left = if counts { long[k] } else { words(None) };
                 narrowed.note(short[k] == left, || format!("{}, {larger:?}: {:x?}, not {left:x?}", name(d, rule, k), short[k]));
                 patched.note(stands_or_nearer(old, n, front[k], short[k]), || format!("{}: {:x?} before, {:x?} after", name(d, rule, k), front[k], short[k]));
                 let (is, was) = (short[k], front[k]);
-                if let Some(new) = behind.as_ref().map(|b| b[k]) {
+                if let Some(mut new) = behind.as_ref().map(|b| b[k]) {
                     let nearer = new[0] == 1 && (was[0] == 0 || f32::from_bits(new[5]) < f32::from_bits(was[5]));
-                    let want = if nearer { [1, new[1] + old as u32, new[2], new[3], new[4], new[5]] } else { was };
+                    new[1] += old as u32;
+                    let want = if nearer { new } else { was };
                     alone.note(is == want, || format!("{}: {is:x?}, not {want:x?}", name(d, rule, k)));
                 }
                 patch[if is == was { is[0] as usize } else { 3 - was[0] as usize }] += 1;
                 if k % 10 == 0 && is == was && is[0] == 1 && old < n {
                     looked += 1;
-                    level += scan::scan(&list[old..], v(&a.points[k]), FAR, 1).is_some_and(|b| b.2.to_bits() == is[5]) as u64;
+                    level += scan::scan(&list[old..], v(&a.points[k]), FAR, 1).is_some_and(|b| b.squared.to_bits() == is[5]) as u64;
                 }
                 if let Some(first) = by_first.as_ref().filter(|first| first[k][0] == 1) {
                     revised.note(first[k] == short[k], || format!("{}: {:x?}, not {:x?}", name(d, rule, k), short[k], first[k]));
@@ -661,13 +691,44 @@ const THEIR_KINDS: [&str; 10] = ["pinched", "collinear", "axisline", "lattice", 
 fn by_corner_a(list: &[[[f32; 3]; 3]], p: [f32; 3], distance: f32, rule: u32) -> Answer {
     let mut best: Answer = None;
     for (k, t) in list.iter().enumerate() {
-        let q = if scan::is_computed(t, p) { scan::held(t, p) } else { t[0] };
-        let d = scan::squared(q, p);
-        if scan::counts(d, distance * distance, rule) && best.map_or(true, |b| d < b.2) {
-            best = Some((k as u32, q, d));
+        let (point, part) = if scan::is_computed(t, p) { scan::held(t, p) } else { (t[0], Part::A) };
+        let squared = scan::squared(point, p);
+        if scan::counts(squared, distance * distance, rule) && best.map_or(true, |b| squared < b.squared) {
+            best = Some(Found { triangle: k as u32, point, squared, part });
         }
     }
     best
+}
+
+/// How often each part was answered, by a computed point and by a foot.
+#[derive(Default)]
+struct Parts {
+    met: [[u64; Part::ALL.len()]; 2],
+}
+
+impl Parts {
+    fn note(&mut self, list: &[[[f32; 3]; 3]], p: [f32; 3], answer: Answer) {
+        if let Some(f) = answer {
+            self.met[!scan::is_computed(&list[f.triangle as usize], p) as usize][f.part as usize] += 1;
+        }
+    }
+
+    /// How many parts were not met though they can be, or were though they cannot: the source query answers by computed points only, and a
+    /// foot is on an edge or at the start of one, so never on the face or at corner c.
+    fn print(&self, query: &str) -> u64 {
+        if self.met.concat().iter().sum::<u64>() == 0 {
+            return 0;
+        }
+        let mut wrong = 0;
+        for (by_foot, met) in self.met.iter().enumerate() {
+            let told: Vec<String> = Part::ALL.iter().zip(met).map(|(part, n)| format!("{part:?} {n}")).collect();
+            println!("  {query} answers {}: {}", ["by a computed point", "by a foot"][by_foot], told.join(", "));
+            let can_be = |part: &Part| by_foot == 0 || (query == "sure" && !matches!(part, Part::Face | Part::C));
+            wrong += Part::ALL.iter().zip(met).filter(|(part, n)| can_be(part) == (**n == 0)).count() as u64;
+        }
+        println!("{wrong:>12} parts of {query} answers that were not met though they can be, or were though they cannot");
+        wrong
+    }
 }
 
 /// What the plain reading says of the feet that were answered.
@@ -719,7 +780,7 @@ fn feet(count: u64) -> u64 {
     const EACH: usize = 50;
     let (start, mut r) = (Instant::now(), Rng::new(10));
     let mut sure = Tally::new("sure answers by the feet, against a plain scan");
-    let (mut seen, mut old, mut points, mut largest, mut i) = (Feet::default(), 0u64, 0u64, 0usize, 0u64);
+    let (mut seen, mut parts, mut old, mut points, mut largest, mut i) = (Feet::default(), Parts::default(), 0u64, 0u64, 0usize, 0u64);
     while points < count {
         let (own, turn) = (i % 2 == 0, i as usize / 2);
         let kind = if own { degenerate::KINDS[turn % degenerate::KINDS.len()] } else { THEIR_KINDS[turn % THEIR_KINDS.len()] };
@@ -742,7 +803,7 @@ fn feet(count: u64) -> u64 {
         let built = r.one_in(2);
         let tree = if built { Tree::build(&a.given, 1 + r.below(2), 1 + r.below(4), 64) } else { grown(&list, &mut r) };
         largest = largest.max(n);
-        let nearest = scan::scan(&list, read(&a.given_points), FAR, 1).and_then(|b| square_root_of(b.2));
+        let nearest = scan::scan(&list, read(&a.given_points), FAR, 1).and_then(|b| square_root_of(b.squared));
         let d = [FAR, FAR, a.distance, nearest.unwrap_or(FAR)][r.below(4)];
         let ours = RULES.map(|rule| tree.sure(&a.given, &a.given_points, d, rule));
         for (k, p) in a.given_points.chunks_exact(3).map(read).enumerate() {
@@ -751,10 +812,12 @@ fn feet(count: u64) -> u64 {
                 let (got, want) = (ours[by].as_ref().map(|o| o[k]), words(answer));
                 let name = || format!("{kind} {i} of {n}, tree {}, distance={d:?} rule={}", if built { "built" } else { "grown" }, RULES[by]);
                 sure.note(got == Some(want), || format!("{}: point {k} {p:?}: {got:x?}, not {want:x?}", name()));
-                if let Some((t, ..)) = answer.filter(|(t, ..)| !scan::is_computed(&list[*t as usize], p)) {
-                    seen.note(&list[t as usize], p);
+                parts.note(&list, p, answer);
+                if let Some(f) = answer.filter(|f| !scan::is_computed(&list[f.triangle as usize], p)) {
+                    seen.note(&list[f.triangle as usize], p);
                 }
-                old += (words(by_corner_a(&list, p, d, RULES[by])) != want) as u64;
+                let place = |f: Found| (f.triangle, f.point, f.squared);
+                old += (by_corner_a(&list, p, d, RULES[by]).map(place) != answer.map(place)) as u64;
             }
         }
         points += EACH as u64;
@@ -762,8 +825,67 @@ fn feet(count: u64) -> u64 {
     }
     println!("{points} points by the feet, {i} drawings of up to {largest} triangles over {} kinds of shape, half of the trees by no builder, {:.0} s", degenerate::KINDS.len() + THEIR_KINDS.len(), start.elapsed().as_secs_f64());
     seen.print();
-    println!("  {old} answers were others when corner a stood in");
-    sure.print()
+    println!("  {old} answers were at another place when corner a stood in");
+    sure.print() + parts.print("sure")
+}
+
+/// The part that was hit, one triangle by itself in half of the drawings and up to eight in the others, over all kinds of shape that the
+/// oracle and degenerate.rs have: source answers, and sure ones by each rule. Points are by the edges, two of five as the oracle spreads
+/// them.
+fn parts(count: u64) -> u64 {
+    const EACH: usize = 50;
+    let (start, mut r) = (Instant::now(), Rng::new(11));
+    let mut source = Tally::new("source answers, the part by a plain reading");
+    let mut readings = readings_tally();
+    let mut sure = RULES.map(sure_tally);
+    let (mut by_source, mut by_sure, mut points, mut i) = (Parts::default(), Parts::default(), 0u64, 0u64);
+    while points < count {
+        let kind = i as usize % (degenerate::KINDS.len() + KINDS.len());
+        let own = degenerate::KINDS.get(kind);
+        let size = if r.one_in(2) { 1 } else { 2 + r.below(7) };
+        let name = own.copied().unwrap_or_else(|| KINDS[kind - degenerate::KINDS.len()]);
+        let mut a = Asked::new(if own.is_some() { "soup" } else { name }, 27_000_000 + i, size, &Wish { points: Some(EACH), ..Wish::default() });
+        match own {
+            Some(kind) => a.given = (0..size).flat_map(|_| degenerate::triangle(kind, &mut r)).flatten().collect(),
+            // some kinds have no drawing of so few
+            None => a.given.truncate(9 * size),
+        }
+        let n = a.given.len() / 9;
+        for k in 0..EACH {
+            if own.is_some() || k % 5 > 1 {
+                let t = r.below(n);
+                a.given_points[3 * k..3 * k + 3].copy_from_slice(&degenerate::by_edge(&a.given[9 * t..9 * t + 9], &mut r));
+            }
+        }
+        let read = |x: &[f32]| P::new(x[0] + 0.0, x[1] + 0.0, x[2] + 0.0);
+        a.tris = a.given.chunks_exact(9).map(|t| [read(&t[..3]), read(&t[3..6]), read(&t[6..])]).collect();
+        a.points = a.given_points.chunks_exact(3).map(read).collect();
+        a.distance = if r.one_in(2) { FAR } else { a.distance };
+        let (list, d) = (a.list(), a.distance);
+        let settings = Settings { version: 1, strategy: 1 + r.below(2) as u16, leaf_minimum: 1 + r.below(4) as u16, depth: 40 };
+        let theirs = Any::build(Variant::NanNone, settings, &a.tris);
+        let tree = Tree::build(&a.given, settings.strategy as usize, settings.leaf_minimum as usize, settings.depth as usize);
+        let (sources, sures) = (tree.source(&a.given, &a.given_points, d), RULES.map(|rule| tree.sure(&a.given, &a.given_points, d, rule)));
+        for (k, p) in a.points.iter().enumerate() {
+            let name = |d: f32| format!("{name} {i} of {n} distance={d:?}: point {k} {p:?}");
+            let answer = source_of(&theirs, &list, p, d);
+            let (got, want) = (sources.as_ref().map(|o| o[k]), words(answer));
+            source.note(got == Some(want), || format!("{}: {got:x?}, not {want:x?}", name(d)));
+            by_source.note(&list, v(p), answer);
+            if let Some(found) = answer {
+                readings.note(is_read(&list, p, found), || name(d));
+            }
+            for (by, answer) in scan::scan_each(&list, v(p), RULES.map(|rule| (d, rule))).into_iter().enumerate() {
+                let (got, want) = (sures[by].as_ref().map(|o| o[k]), words(answer));
+                sure[by].note(got == Some(want), || format!("{}: {got:x?}, not {want:x?}", name(d)));
+                by_sure.note(&list, v(p), answer);
+            }
+        }
+        points += EACH as u64;
+        i += 1;
+    }
+    println!("{points} points for the part that was hit, {i} drawings of up to 8 triangles over {} kinds of shape, {:.0} s", degenerate::KINDS.len() + KINDS.len(), start.elapsed().as_secs_f64());
+    source.print() + readings.print() + by_source.print("source") + sure[0].print() + sure[1].print() + by_sure.print("sure")
 }
 
 /// One triangle too many is refused by every call, and nothing is written.
@@ -790,10 +912,10 @@ fn main() {
     let mut args = std::env::args().skip(1).map(|a| a.parse().expect("a number"));
     let mut next = |usual| args.next().unwrap_or(usual);
     let (trees, points, large, large_points) = (next(200_000), next(10_000_000), next(408), next(100_000));
-    let (level, wide, by_feet) = (next(5_000_000), next(5_000_000), next(2_000_000));
+    let (level, wide, by_feet, by_part) = (next(5_000_000), next(5_000_000), next(2_000_000), next(2_000_000));
     faults();
     let small = requests(trees, request) + scans(points, small_size);
-    let differ = small + requests(large, large_request) + scans(large_points, large_size) + too_many() + levels(level) + wider(wide) + feet(by_feet);
+    let differ = small + requests(large, large_request) + scans(large_points, large_size) + too_many() + levels(level) + wider(wide) + feet(by_feet) + parts(by_part);
     println!("{differ} differ");
     std::process::exit((differ > 0) as i32);
 }

@@ -14,6 +14,9 @@ use shark::{
 #[allow(dead_code)]
 #[path = "beside/engine.rs"]
 mod engine;
+#[allow(dead_code)]
+#[path = "beside/scan.rs"]
+mod scan;
 use engine::Tree;
 
 extern "C" {

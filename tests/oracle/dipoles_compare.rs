@@ -28,6 +28,9 @@ mod asked;
 mod engine;
 #[path = "beside/nodes.rs"]
 mod nodes;
+#[allow(dead_code)]
+#[path = "beside/scan.rs"]
+mod scan;
 use asked::{numbers, v, Asked, Tally};
 use engine::Tree;
 use nodes::{Dipoles, Walk};

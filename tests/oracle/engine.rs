@@ -1,4 +1,7 @@
-//! This engine's exported functions (crates/test_exports) over plain slices, for compare.rs, dipoles_compare.rs and hazard.rs.
+//! This engine's exported functions (crates/test_exports) over plain slices, for compare.rs, dipoles_compare.rs and hazard.rs. How wide an
+//! answer is scan.rs tells.
+
+use super::scan::{Words, WORDS};
 
 extern "C" {
     fn timing_build(t: *const f32, tn: usize, strategy: usize, leaf: usize, depth: usize, o: *mut u32, on: usize, l: *mut u32, ln: usize, b: *mut f32, bn: usize, w: *mut f32, wn: usize, c: *mut f32, cn: usize, s: *mut u32, sn: usize) -> usize;
@@ -80,10 +83,10 @@ impl Tree {
         unsafe { timing_depth_read(t.as_ptr(), t.len(), self.order.as_ptr(), n, l.as_ptr(), l.len(), b.as_ptr(), b.len(), self.nodes) }
     }
 
-    /// Six words a point, or nothing where the call refuses or writes past its answers. The source query has no rule.
-    fn ask(&self, rule: Option<u32>, t: &[f32], p: &[f32], d: f32) -> Option<Vec<[u32; 6]>> {
-        let (n, o, l, b, need) = (t.len() / 9, &self.order, &self.links, &self.boxes, 2 * p.len());
-        let mut a = vec![UNTOUCHED; need + 6];
+    /// An answer a point, or nothing where the call refuses or writes past its answers. The source query has no rule.
+    fn ask(&self, rule: Option<u32>, t: &[f32], p: &[f32], d: f32) -> Option<Vec<Words>> {
+        let (n, o, l, b, need) = (t.len() / 9, &self.order, &self.links, &self.boxes, WORDS * (p.len() / 3));
+        let mut a = vec![UNTOUCHED; need + WORDS];
         let answered = unsafe {
             match rule {
                 Some(rule) => timing_sure(t.as_ptr(), t.len(), o.as_ptr(), n, l.as_ptr(), l.len(), b.as_ptr(), b.len(), self.nodes, p.as_ptr(), p.len(), d, rule, a.as_mut_ptr(), a.len()),
@@ -92,7 +95,7 @@ impl Tree {
         };
         assert!(answered == 1 || a.iter().all(|&x| x == UNTOUCHED), "a refused query wrote");
         let right = answered == 1 && a[need..].iter().all(|&x| x == UNTOUCHED);
-        right.then(|| a[..need].chunks_exact(6).map(|w| w.try_into().unwrap()).collect())
+        right.then(|| a[..need].chunks_exact(WORDS).map(|w| w.try_into().unwrap()).collect())
     }
 
     /// Sixteen numbers a node, or nothing where the call refuses or writes past them.
@@ -120,11 +123,11 @@ impl Tree {
         right.then_some(w)
     }
 
-    pub fn sure(&self, t: &[f32], p: &[f32], d: f32, rule: u32) -> Option<Vec<[u32; 6]>> {
+    pub fn sure(&self, t: &[f32], p: &[f32], d: f32, rule: u32) -> Option<Vec<Words>> {
         self.ask(Some(rule), t, p, d)
     }
 
-    pub fn source(&self, t: &[f32], p: &[f32], d: f32) -> Option<Vec<[u32; 6]>> {
+    pub fn source(&self, t: &[f32], p: &[f32], d: f32) -> Option<Vec<Words>> {
         self.ask(None, t, p, d)
     }
 }

@@ -1,9 +1,10 @@
 //! Times this engine beside the Rust on one number of triangles of each of the oracle's kinds of shape: builds by
 //! both strategies, and the source query on their trees, with and without the check of the tree that each call
 //! begins with. All in one process, turn about; the least processor time of so many turns. Prints the rows of
-//! docs/PERFORMANCE.md's tables, as ratios. Put it into the oracle's src/bin/ as timing.rs (for over 4,096
-//! triangles raise the limit of `make` in its src/cases.rs, as tests/compare does), make the library by
-//! `rt staticlib test_exports`, and run there (leaf minimum 10, 4,096 triangles and 50 turns where not told):
+//! docs/PERFORMANCE.md's tables, as ratios. Put it into the oracle's src/bin/ as timing.rs, and tests/closest/scan.rs,
+//! which tells how wide an answer is, into a folder src/bin/scan/ (for over 4,096 triangles raise the limit of `make`
+//! in its src/cases.rs, as tests/compare does), make the library by `rt staticlib test_exports`, and run there (leaf
+//! minimum 10, 4,096 triangles and 50 turns where not told):
 //!
 //!     RUSTFLAGS="-L native=TARGET/staticlib -l static=test_exports" cargo run --release --offline --bin timing [LEAF [TRIANGLES [TURNS [sorted]]]]
 //!
@@ -20,6 +21,11 @@ use shark::{
     request::{Request, Settings, P},
     run,
 };
+
+#[allow(dead_code)]
+#[path = "scan/scan.rs"]
+mod scan;
+use scan::WORDS;
 
 type Build = unsafe extern "C" fn(
     *const f32, usize, usize, usize, usize, *mut u32, usize, *mut u32, usize, *mut f32, usize, *mut f32, usize, *mut f32, usize, *mut u32, usize,
@@ -114,7 +120,7 @@ fn main() {
                 tris = now.order.iter().map(|&k| tris[k as usize]).collect();
             }
             let t = flat(&tris);
-            let mut answers = vec![0u32; 6 * points.len()];
+            let mut answers = vec![0u32; WORDS * points.len()];
             let [mut ours, mut theirs, mut was, mut source, mut check, mut rust] = [f64::INFINITY; 6];
             for _ in 0..turns {
                 let tree = timed(&mut theirs, || run::nan_none::build_plain(s, &tris));
@@ -134,7 +140,7 @@ fn main() {
                 });
                 assert_eq!(ok, 1);
                 let found = timed(&mut rust, || points.iter().filter(|q| tree.closest_point(q, d).is_some()).count());
-                assert_eq!(found, answers.chunks_exact(6).filter(|a| a[0] == 1).count(), "{kind}, strategy {strategy}");
+                assert_eq!(found, answers.chunks_exact(WORDS).filter(|a| a[0] == 1).count(), "{kind}, strategy {strategy}");
             }
             builds.push(format!("{:.2}", ours / theirs));
             sources.push(format!("{:.2}", source / rust));
