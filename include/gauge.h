@@ -26,8 +26,8 @@
  * little-endian, numbers u32 or IEEE f32:
  *
  *     points      12 bytes each: x y z. A slice of none is accepted
- *     answers     24 bytes each: 1 or 0, triangle, x, y, z, squared distance (struct gauge_answer);
- *                 nothing found is six zeros
+ *     answers     28 bytes each: 1 or 0, triangle, x, y, z, squared distance, part of the triangle
+ *                 (struct gauge_answer); nothing found is seven zeros
  *     windings    4 bytes each: an f32
  *     image       settings, triangles, order and nodes: version 1 of up to 4,096 triangles, version 2
  *                 of more. Both are written and read; one drawing with one tree has one image
@@ -95,8 +95,8 @@
 #include <stdint.h>
 
 /* Of this header: the first number changes when a host must change. */
-#define GAUGE_VERSION_MAJOR 4
-#define GAUGE_VERSION_MINOR 1
+#define GAUGE_VERSION_MAJOR 5
+#define GAUGE_VERSION_MINOR 0
 
 #define GAUGE_MAX_TRIANGLES 65536
 #define GAUGE_MAX_LEAF_MINIMUM 65536
@@ -112,7 +112,7 @@
 #define GAUGE_IMAGE_VERSION_LARGE 2
 
 #define GAUGE_POINT_BYTES 12
-#define GAUGE_ANSWER_BYTES 24
+#define GAUGE_ANSWER_BYTES 28
 #define GAUGE_WINDING_BYTES 4
 
 /* Strategies of gauge_build. */
@@ -120,8 +120,22 @@
 #define GAUGE_AREA 2
 
 /* Measuring rules of gauge_sure: whether a point at exactly the search distance counts. */
-#define GAUGE_RULE_BELOW 1          /* it does not: for parts that were gauged so, before the rule was revised */
+#define GAUGE_RULE_BELOW 1          /* it does not: for castings that were gauged so, before the rule was revised */
 #define GAUGE_RULE_BELOW_OR_EQUAL 2 /* it does: the rule as revised */
+
+/* Parts of a triangle, one of which an answer's point was found on. A part is the triangle's, not the
+ * casting's: where two triangles lie in one plane, the edge between them is none to be felt. It is told by
+ * the test that found the point: a point of the face may stand on its rim, one of an edge at its end, by
+ * rounding. Where a triangle has no computed point it is the edge whose foot was kept, at its ends too, or
+ * the corner where that edge starts if the edge is so short that its square is 0. Where a corner is
+ * told, the point is that corner's own floats, with 0 for -0. */
+#define GAUGE_FACE 0
+#define GAUGE_CORNER_A 1
+#define GAUGE_CORNER_B 2
+#define GAUGE_CORNER_C 3
+#define GAUGE_EDGE_AB 4
+#define GAUGE_EDGE_AC 5
+#define GAUGE_EDGE_BC 6
 
 #define GAUGE_RAGGED 1
 #define GAUGE_NONE 2
@@ -173,12 +187,13 @@
 extern "C" {
 #endif
 
-/* The bytes of one answer. */
+/* The bytes of one answer. Before header 5.0 it had no part: all before it is the same, word for word. */
 struct gauge_answer {
     uint32_t found;    /* 1, or 0 and the rest is 0 too */
     uint32_t triangle; /* its number, from 0 */
     float x, y, z;     /* the point on it */
     float squared;     /* the squared distance from the point that was asked about */
+    uint32_t part;     /* GAUGE_FACE to GAUGE_EDGE_BC, of this triangle; GAUGE_FACE is 0 too: look at found first */
 };
 
 /* Whether a call was refused. */
@@ -288,7 +303,7 @@ uint64_t gauge_check(const float *triangles, size_t triangles_length, const uint
  *     rule       GAUGE_RULE_BELOW: what is nearer than the distance counts, what is at exactly the
  *                distance does not. GAUGE_RULE_BELOW_OR_EQUAL: both count
  *
- * A part that was gauged by one rule keeps it: ask by the same rule, and its readings stay as they were.
+ * A casting that was gauged by one rule keeps it: ask by the same rule, and its readings stay as they were.
  * GAUGE_RULE_BELOW answers what gauge_sure answered before it took a rule, but for triangles that have no
  * computed point (the last of the hazards). The two differ at a point only where its nearest is at exactly
  * the distance: there the first finds nothing, the second that nearest. The squares are compared, each a
@@ -298,6 +313,9 @@ uint64_t gauge_check(const float *triangles, size_t triangles_length, const uint
  * GAUGE_RULE_BELOW_OR_EQUAL at the same distance one that GAUGE_RULE_BELOW found. Triangles appended behind
  * the others leave an answer as it was, or one of them takes its place, nearer or where nothing was found: an
  * answer whose triangle was there before is the answer from before. Whatever trees are used.
+ *
+ * Triangles that share an edge or a corner are often level there, and the lowest number among them says which
+ * one's part is told. The part itself settles nothing: neither which answer is the nearest nor which counts.
  *
  * Hazards: at a distance of 0 GAUGE_RULE_BELOW finds nothing, and GAUGE_RULE_BELOW_OR_EQUAL only points on
  * the surface, those whose squared distance is exactly 0. Corners are, save of triangles that are tiny, thin
@@ -318,7 +336,8 @@ uint64_t gauge_sure(const float *triangles, size_t triangles_length, const uint3
                     uint8_t *answers, size_t answers_length);
 
 /* The same question as the engine's source in Rust answers it, for comparing with it. Its answer may
- * lie beyond the distance, and is not always the nearest: for measuring use gauge_sure.
+ * lie beyond the distance, and is not always the nearest: for measuring use gauge_sure. Its part is that of
+ * the test that found the point; triangles without a computed point it passes over.
  *
  * Counted and refused as gauge_sure, but it has no rule, and so no GAUGE_SETTING. */
 uint64_t gauge_source(const float *triangles, size_t triangles_length, const uint32_t *order, size_t order_length,

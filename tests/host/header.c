@@ -1,6 +1,6 @@
 /* include/gauge.h alone, compiled as C99 and as C++, each with every warning an error; what it states
  * of its numbers and of a drawing's block, and the worked example of two triangles, also by both measuring
- * rules, with a damaged tree and as an STL, from C and from C++ alike. */
+ * rules, with a damaged tree and as an STL, and each part of a triangle, from C and from C++ alike. */
 #include "gauge.h"
 #include "gauge.h"
 
@@ -27,8 +27,12 @@ static void expect_numbers(void)
 {
     const uint64_t point = (uint64_t)1 << 63 | 17, layout = (uint64_t)10 << 56 | 14;
     const uint64_t scale = (uint64_t)GAUGE_SCALE << 56, stl = (uint64_t)GAUGE_STL << 56 | 134, box = (uint64_t)GAUGE_TREE_BOX << 56 | 131070;
-    expect(GAUGE_VERSION_MAJOR == 4 && GAUGE_VERSION_MINOR == 1, "the header's version");
-    expect(sizeof(struct gauge_answer) == GAUGE_ANSWER_BYTES && sizeof(float) == 4, "an answer has 24 bytes");
+    expect(GAUGE_VERSION_MAJOR == 5 && GAUGE_VERSION_MINOR == 0, "the header's version");
+    expect(sizeof(struct gauge_answer) == GAUGE_ANSWER_BYTES && sizeof(float) == 4, "the bytes of an answer");
+    expect(offsetof(struct gauge_answer, part) == GAUGE_ANSWER_BYTES - sizeof(uint32_t), "an answer's part is its last word");
+    expect(GAUGE_FACE == 0 && GAUGE_CORNER_A == 1 && GAUGE_CORNER_B == 2 && GAUGE_CORNER_C == 3 && GAUGE_EDGE_AB == 4 && GAUGE_EDGE_AC == 5 &&
+               GAUGE_EDGE_BC == 6,
+           "the numbers of the parts");
     expect(!gauge_refused(4096) && gauge_number(4096) == 0, "a count is no refusal");
     expect(gauge_refused(point) && gauge_number(point) == GAUGE_POINT && gauge_place(point) == 17, "a refusal of points");
     expect(gauge_refused(layout) && gauge_number(layout) == GAUGE_LAYOUT && gauge_place(layout) == 14, "a refusal of layout");
@@ -72,7 +76,8 @@ static void expect_example(void)
 {
     static const float corners[18] = {0, 0, 0, 1, 0, 0, 0, 1, 0, 10, 0, 0, 11, 0, 0, 10, 1, 0};
     static const float points[6] = {5.5f, 0, 0, 100, 0, 0};
-    static const struct gauge_answer near = {1, 0, 1, 0, 0, 20.25f}, far = {1, 1, 10, 0, 0, 20.25f}, nothing = {0, 0, 0, 0, 0, 0};
+    static const struct gauge_answer near = {1, 0, 1, 0, 0, 20.25f, GAUGE_CORNER_B}, far = {1, 1, 10, 0, 0, 20.25f, GAUGE_CORNER_A};
+    static const struct gauge_answer nothing = {0, 0, 0, 0, 0, 0, 0};
     static float block[GAUGE_DRAWING_BYTES(2) / 4], other[GAUGE_DRAWING_BYTES(3) / 4], sums[GAUGE_SUMS(2)];
     struct gauge_drawing d = gauge_lay(block, 2), back = gauge_lay(other, 3);
     struct gauge_answer answers[2];
@@ -99,9 +104,9 @@ static void expect_example(void)
     expect(gauge_number(gauge_image_triangles(NULL, 0)) == GAUGE_LAYOUT, "nothing at NULL is no image");
 
     expect(gauge_drawing_sure(&back, points, 2, 50, GAUGE_RULE_BELOW, answers) == 2, "two answers");
-    expect(memcmp(&answers[0], &near, 24) == 0 && memcmp(&answers[1], &nothing, 24) == 0, "the sure query's answers");
+    expect(memcmp(&answers[0], &near, sizeof near) == 0 && memcmp(&answers[1], &nothing, sizeof nothing) == 0, "the sure query's answers");
     expect(gauge_drawing_source(&back, points, 2, 50, answers) == 2, "two source answers");
-    expect(memcmp(&answers[0], &far, 24) == 0, "the source's first answer");
+    expect(memcmp(&answers[0], &far, sizeof far) == 0 && memcmp(&answers[1], &nothing, sizeof nothing) == 0, "the source's answers");
     expect(gauge_drawing_winding(&back, points, 2, windings) == 2, "two windings");
     expect(windings[0] == 0 && windings[1] == 0, "seen from the side a triangle covers no angle");
 
@@ -129,7 +134,8 @@ static void expect_rules(void)
 {
     static const float corners[18] = {0, 0, 0, 1, 0, 0, 0, 1, 0, 10, 0, 0, 11, 0, 0, 10, 1, 0};
     static const float between[3] = {5.5f, 0, 0}, on[3] = {0.5f, 0.25f, 0};
-    static const struct gauge_answer near = {1, 0, 1, 0, 0, 20.25f}, at = {1, 0, 0.5f, 0.25f, 0, 0}, nothing = {0, 0, 0, 0, 0, 0};
+    static const struct gauge_answer near = {1, 0, 1, 0, 0, 20.25f, GAUGE_CORNER_B}, at = {1, 0, 0.5f, 0.25f, 0, 0, GAUGE_FACE};
+    static const struct gauge_answer nothing = {0, 0, 0, 0, 0, 0, 0};
     static const uint32_t none[] = {0, 3, 257, 65538, 0x80000001, 0xffffffff};
     static float block[GAUGE_DRAWING_BYTES(2) / 4];
     struct gauge_drawing d = gauge_lay(block, 2);
@@ -158,6 +164,38 @@ static void expect_rules(void)
     expect(gauge_sure(d.triangles, 18, d.order, 2, d.links, 9, d.boxes, 18, 3, (const uint8_t *)between, 12, 50, 3, NULL, 0) == five,
            "no rule, and no room");
     expect(gauge_drawing_source(&d, between, 1, 4.5f, &answer) == 1, "the source query has no rule");
+}
+
+/* A triangle asked from over its face and from beside each corner and edge; then one whose corners a and b are the same, which has no
+ * computed point: its edge ac is kept, at its end too. The source query answers the first likewise, and of the second nothing. */
+static void expect_parts(void)
+{
+    static const float corners[2][9] = {{0, 0, 0, 4, 0, 0, 0, 4, 0}, {0, 0, 0, 0, 0, 0, 4, 0, 0}};
+    static const struct { size_t of; float point[3]; struct gauge_answer answer; } asked[] = {
+        {0, {1, 1, 3}, {1, 0, 1, 1, 0, 9, GAUGE_FACE}},
+        {0, {-3, -4, 0}, {1, 0, 0, 0, 0, 25, GAUGE_CORNER_A}},
+        {0, {6, -1, 0}, {1, 0, 4, 0, 0, 5, GAUGE_CORNER_B}},
+        {0, {-1, 6, 0}, {1, 0, 0, 4, 0, 5, GAUGE_CORNER_C}},
+        {0, {1, -2, 0}, {1, 0, 1, 0, 0, 4, GAUGE_EDGE_AB}},
+        {0, {-2, 3, 0}, {1, 0, 0, 3, 0, 4, GAUGE_EDGE_AC}},
+        {0, {3, 3, 0}, {1, 0, 2, 2, 0, 2, GAUGE_EDGE_BC}},
+        {1, {1, 1, 0}, {1, 0, 1, 0, 0, 1, GAUGE_EDGE_AC}},
+        {1, {9, 0, 3}, {1, 0, 4, 0, 0, 34, GAUGE_EDGE_AC}},
+    };
+    static const struct gauge_answer nothing = {0, 0, 0, 0, 0, 0, 0};
+    static float block[GAUGE_DRAWING_BYTES(1) / 4];
+    struct gauge_drawing d = gauge_lay(block, 1);
+    struct gauge_answer answer;
+    for (size_t i = 0; i < sizeof asked / sizeof *asked; i++) {
+        memcpy(d.triangles, corners[asked[i].of], sizeof corners[0]);
+        expect(gauge_drawing_build(&d, GAUGE_AREA, 1, 40) == 1, "a tree of one leaf");
+        expect(gauge_drawing_sure(&d, asked[i].point, 1, 50, GAUGE_RULE_BELOW, &answer) == 1 &&
+                   memcmp(&answer, &asked[i].answer, sizeof answer) == 0,
+               "the part that the sure query tells");
+        expect(gauge_drawing_source(&d, asked[i].point, 1, 50, &answer) == 1 &&
+                   memcmp(&answer, asked[i].of == 0 ? &asked[i].answer : &nothing, sizeof answer) == 0,
+               "the part that the source query tells");
+    }
 }
 
 /* Whether the check says this of the drawing. */
@@ -232,6 +270,7 @@ int main(void)
     expect_block();
     expect_example();
     expect_rules();
+    expect_parts();
     expect_damage();
     expect_stl();
     return failed;
