@@ -4,12 +4,12 @@
  *     fuzz CALLS [SEED]
  *
  * First each bad image, each bad STL, each bad tree, each small length, each rule, each step about the distance of
- * a point and each kind of foot in turn, then drawings, damages and questions by chance, until so many calls are
- * made. Each list and slice stands flush with a page that
+ * a point, each part of a triangle and each kind of foot in turn, then drawings, damages and questions by chance,
+ * until so many calls are made. Each list and slice stands flush with a page that
  * cannot be touched, before it or behind it, and has other bytes beside it: a byte read or written
  * outside ends the program or is counted as a difference, and so is a byte that a refused call writes.
  * The exit status is 0 where nothing differs and, of ENOUGH calls or more, each call was done and refused
- * in every way that gauge.h lists for it. */
+ * in every way that gauge.h lists for it, and each part of a triangle was answered. */
 #define _DEFAULT_SOURCE
 #include "damages.h"
 #include "plain.h"
@@ -274,6 +274,12 @@ static void ask_check(Drawing d)
     compared(CHECK, returned);
 }
 
+/* How many bytes the answers to so many points take. */
+static size_t room_for(size_t count)
+{
+    return GAUGE_ANSWER_BYTES * count;
+}
+
 /* The rule is the sure query's alone. Returns what is right. */
 static uint64_t ask_points(int call, Drawing d, Slice points, float distance, uint32_t rule, size_t room)
 {
@@ -358,14 +364,16 @@ static float bad_coordinate(void)
 }
 
 /* A triangle that may have no computed point: corners that are the same, corners in one line, and sides of about 1e-10, where the
- * inverse of a square's square is infinite, or so short that their squares run under, seen from where their products with a point do not. */
-enum { SAME, LINE, SHORT, UNDER, DEGENERATE };
+ * inverse of a square's square is infinite, or so short that their squares run under, some of them or all, seen from where their products
+ * with a point do not. */
+enum { SAME, LINE, SHORT, UNDER, NOUGHT, DEGENERATE };
 
 static void make_degenerate(float *t, unsigned kind, float size)
 {
     /* b is a, c is a, c is b, all are one; of many magnitudes, so that differences round */
     unsigned same = below(4), magnitudes = below(2) ? 24 : 1;
-    float step = ldexpf(1, (int)below(8) - 4), side = ldexpf(1, kind == SHORT ? -31 - (int)below(6) : -70 - (int)below(18));
+    float step = ldexpf(1, (int)below(8) - 4);
+    float side = ldexpf(1, kind == SHORT ? -31 - (int)below(6) : kind == NOUGHT ? -76 - (int)below(8) : -70 - (int)below(18));
     float slope[3], span = ldexpf(side, (int)below(12));
     for (int k = 0; k < 3; k++) {
         t[k] = kind == LINE ? (float)below(9) * step : between(-span, span);
@@ -427,7 +435,8 @@ static float in_range(float x)
     return fabsf(x) <= GAUGE_MAX_COORDINATE ? x : 1048576.0f;
 }
 
-/* By an edge, before its start or past its end, and off it by nothing, by up to its length or by much more; or straight over the face. */
+/* By an edge, before its start or past its end, and off it by nothing, by up to its length or by much more; or straight over the face or
+ * over a corner, up to its length high or much higher. */
 static void make_point_by_edge(const float *t, float *point)
 {
     unsigned edge = below(3), off = below(4);
@@ -439,9 +448,10 @@ static void make_point_by_edge(const float *t, float *point)
         length = fmax(length, fabs(along[k]));
     }
     if (off == 3 && length > 0) {
-        share = between(0, 1);
-        inward = between(0, 1) * (1 - share);
-        up = between(-2, 2) / length;
+        int over_face = below(4) != 0;
+        share = over_face ? between(0, 1) : (double)below(2);
+        inward = over_face ? between(0, 1) * (1 - share) : 0;
+        up = ldexp(between(-2, 2) / length, below(2) ? 0 : (int)below(30));
     }
     float far = (float)(off == 1 ? length : off == 2 ? ldexp(length, (int)below(24)) : 0);
     for (int k = 0; k < 3; k++) {
@@ -674,8 +684,8 @@ static void ask_all(Settings s, Drawing d, Slice points, float distance)
 {
     size_t n = points.length / 12;
     ask_check(d);
-    ask_points(SURE, d, points, distance, good_rule(), 24 * n);
-    ask_points(SOURCE, d, points, distance, 0, 24 * n);
+    ask_points(SURE, d, points, distance, good_rule(), room_for(n));
+    ask_points(SOURCE, d, points, distance, 0, room_for(n));
     ask_points(WINDING, d, points, distance, 0, 4 * n);
     ask_write(s, d, exact_size(d));
     ask_sums(d, sums_length(d));
@@ -1073,7 +1083,9 @@ static void each_count(Drawing d, Slice points)
 
 static void each_length(Drawing d, Slice points)
 {
-    static const size_t some[] = {0, 1, 3, 4, 5, 8, 11, 12, 23, 24, 25, 47, 48, 49, 71, 72, 73, 100};
+    enum { ONE = GAUGE_ANSWER_BYTES, WORD = sizeof(uint32_t) };
+    static const size_t some[] = {0, 1, 4, 5, 11, 12, ONE - WORD, ONE - 1, ONE, ONE + 1, 2 * (ONE - WORD), 2 * ONE - 1, 2 * ONE, 2 * ONE + 1,
+                                  3 * (ONE - WORD), 3 * ONE - 1, 3 * ONE, 3 * ONE + 1};
     for (size_t length = 0; length <= 40; length++)
         for (size_t k = 0; k < sizeof some / sizeof *some; k++)
             for (int call = SURE; call <= WINDING; call++) {
@@ -1218,22 +1230,22 @@ static void each_rule(Drawing d, Slice points)
         nodeless.nodes = 0;
         memcpy(point, points.bytes, 12);
         point[2] = NAN;
-        ask_points(SURE, d, points, GAUGE_MAX_DISTANCE, rule, 24 * n);
+        ask_points(SURE, d, points, GAUGE_MAX_DISTANCE, rule, room_for(n));
         ask_points(SURE, d, bytes_of(NULL, 0), GAUGE_MAX_DISTANCE, rule, 0);
-        ask_points(SURE, ragged, points, GAUGE_MAX_DISTANCE, rule, 24 * n);
-        ask_points(SURE, none, points, GAUGE_MAX_DISTANCE, rule, 24 * n);
+        ask_points(SURE, ragged, points, GAUGE_MAX_DISTANCE, rule, room_for(n));
+        ask_points(SURE, none, points, GAUGE_MAX_DISTANCE, rule, room_for(n));
         corner = copied(d);
         bad_triangles[8] = INFINITY;
-        ask_points(SURE, corner, points, GAUGE_MAX_DISTANCE, rule, 24 * n);
-        ask_points(SURE, d, points, GAUGE_MAX_DISTANCE, rule, 24 * n - 1);
-        ask_points(SURE, with_order(d, 0, 65536), points, GAUGE_MAX_DISTANCE, rule, 24 * n);
-        ask_points(SURE, nodeless, points, GAUGE_MAX_DISTANCE, rule, 24 * n);
-        ask_points(SURE, with_link(d, 0, 3), points, GAUGE_MAX_DISTANCE, rule, 24 * n);
-        ask_points(SURE, with_side(d, 0, 0x7fc00000), points, GAUGE_MAX_DISTANCE, rule, 24 * n);
-        ask_points(SURE, d, bytes_of(points.bytes, points.length - 1), GAUGE_MAX_DISTANCE, rule, 24 * n);
-        ask_points(SURE, d, bytes_of(point, 12), GAUGE_MAX_DISTANCE, rule, 24);
-        ask_points(SURE, d, points, -1, rule, 24 * n);
-        ask_points(SURE, d, points, NAN, rule, 24 * n);
+        ask_points(SURE, corner, points, GAUGE_MAX_DISTANCE, rule, room_for(n));
+        ask_points(SURE, d, points, GAUGE_MAX_DISTANCE, rule, room_for(n) - 1);
+        ask_points(SURE, with_order(d, 0, 65536), points, GAUGE_MAX_DISTANCE, rule, room_for(n));
+        ask_points(SURE, nodeless, points, GAUGE_MAX_DISTANCE, rule, room_for(n));
+        ask_points(SURE, with_link(d, 0, 3), points, GAUGE_MAX_DISTANCE, rule, room_for(n));
+        ask_points(SURE, with_side(d, 0, 0x7fc00000), points, GAUGE_MAX_DISTANCE, rule, room_for(n));
+        ask_points(SURE, d, bytes_of(points.bytes, points.length - 1), GAUGE_MAX_DISTANCE, rule, room_for(n));
+        ask_points(SURE, d, bytes_of(point, 12), GAUGE_MAX_DISTANCE, rule, room_for(1));
+        ask_points(SURE, d, points, -1, rule, room_for(n));
+        ask_points(SURE, d, points, NAN, rule, room_for(n));
         ask_points(SURE, nodeless, bytes_of(point, 11), -1, rule, 0); /* 71 to 75, 8 and 9 at once, and no room */
     }
 }
@@ -1242,7 +1254,7 @@ static void each_rule(Drawing d, Slice points)
 static void both_rules(Drawing d, Slice points, float distance)
 {
     for (uint32_t rule = 1; rule <= 2; rule++)
-        ask_points(SURE, d, points, distance, rule, points.length * 2);
+        ask_points(SURE, d, points, distance, rule, room_for(points.length / 12));
 }
 
 /* Each step about the distance of each point. */
@@ -1256,7 +1268,7 @@ static void each_step(Drawing d, const float *points, size_t count)
         both_rules(d, point, nextafterf(at, 0));
         both_rules(d, point, 0);
         both_rules(d, bytes_of(points, 12 * count), at);
-        ask_points(SOURCE, d, point, at, 0, 24); /* it goes by no rule, and enters a box strictly below the distance */
+        ask_points(SOURCE, d, point, at, 0, room_for(1)); /* it goes by no rule, and enters a box strictly below the distance */
     }
 }
 
@@ -1304,52 +1316,120 @@ static void each_level(void)
     }
 }
 
+/* Whether the sure query answers this, that was worked out by hand; and each step about the distance. */
+static void expect_answer(Drawing d, const float *point, struct gauge_answer wanted, const char *otherwise)
+{
+    struct gauge_answer said;
+    gauge_sure(d.triangles, d.triangles_length, d.order, d.order_length, d.links, d.links_length, d.boxes, d.boxes_length, d.nodes,
+               (const uint8_t *)point, 12, GAUGE_MAX_DISTANCE, 1, (uint8_t *)&said, sizeof said);
+    if (memcmp(&said, &wanted, sizeof said) != 0)
+        differs(otherwise);
+    each_step(d, point, 1);
+}
+
+/* Which part of a triangle is told where it has a computed point: of one from over it and from beside it, on it, where the point is on
+ * another part by rounding, and where the box moves it; of several that are level that of the lowest number, whatever the parts are. */
+static void each_part(void)
+{
+    static const float one[] = {0, 0, 0, 4, 0, 0, 0, 4, 0};
+    static const struct { float point[3]; struct gauge_answer answer; } of_one[] = {
+        {{1, 1, 3}, {1, 0, 1, 1, 0, 9, GAUGE_FACE}}, {{1, 1, 0}, {1, 0, 1, 1, 0, 0, GAUGE_FACE}},
+        {{-3, -4, 0}, {1, 0, 0, 0, 0, 25, GAUGE_CORNER_A}}, {{0, 0, 5}, {1, 0, 0, 0, 0, 25, GAUGE_CORNER_A}},
+        {{6, -1, 0}, {1, 0, 4, 0, 0, 5, GAUGE_CORNER_B}}, {{4, 0, 0}, {1, 0, 4, 0, 0, 0, GAUGE_CORNER_B}},
+        {{-1, 6, 0}, {1, 0, 0, 4, 0, 5, GAUGE_CORNER_C}}, {{0, 4, -2}, {1, 0, 0, 4, 0, 4, GAUGE_CORNER_C}},
+        {{1, -2, 0}, {1, 0, 1, 0, 0, 4, GAUGE_EDGE_AB}}, {{1, 0, 0}, {1, 0, 1, 0, 0, 0, GAUGE_EDGE_AB}},
+        {{-2, 3, 0}, {1, 0, 0, 3, 0, 4, GAUGE_EDGE_AC}}, {{0, 3, 1}, {1, 0, 0, 3, 0, 1, GAUGE_EDGE_AC}},
+        {{3, 3, 0}, {1, 0, 2, 2, 0, 2, GAUGE_EDGE_BC}}, {{2, 2, 7}, {1, 0, 2, 2, 0, 49, GAUGE_EDGE_BC}},
+    };
+    static const struct { float corners[9], point[3]; struct gauge_answer answer; } rounded[] = {
+        {{0, 0, 0, 1048576, 0, 0, 0, 1048576, 0}, {524288, 0x1p-140f, 0}, {1, 0, 524288, 0, 0, 0, GAUGE_FACE}}, /* on ab */
+        {{-1, 0, 0, 1, 0, 0, 0, 1, 0}, {0x1.fffffep-1f, -1, 0}, {1, 0, 1, 0, 0, 1, GAUGE_EDGE_AB}}, /* at b */
+        /* and where the box moves it: */
+        {{2, -3, 0, -2, 0x1p-23f, 0, 0x1.000008p1f, 0, 0}, {2, 0, 3}, {1, 0, 2, 0x1p-23f, 0, 9, GAUGE_FACE}}, /* from 2^-22 */
+        {{1, 0, 0, 0x1p-30f, 0, 0, 1, 1, 0}, {0x1.8p-30f, -1, 0}, {1, 0, 0x1p-30f, 0, 0, 1, GAUGE_EDGE_AB}}, /* a + (b - a) is 0 */
+        {{1, 0, 0, 1, 1, 0, 0x1p-30f, 0, 0}, {0x1.8p-30f, -1, 0}, {1, 0, 0x1p-30f, 0, 0, 1, GAUGE_EDGE_AC}},
+    };
+    /* two in one plane, two on either side of the point, three about a corner: as listed, and turned so that each is the first once */
+    static const struct { size_t count; float corners[27], point[3]; struct gauge_answer answers[3]; } level[] = {
+        {2, {0, 0, 0, 4, 0, 0, 0, 4, 0, 4, 0, 0, 0, 4, 0, 4, 4, 0}, {2, 2, 1},
+         {{1, 0, 2, 2, 0, 1, GAUGE_EDGE_BC}, {1, 0, 2, 2, 0, 1, GAUGE_EDGE_AB}}},
+        {2, {1, 1, -1, 5, 1, -9, 1, 5, -9, 0, 0, 1, 4, 0, 1, 0, 4, 1}, {1, 1, 0},
+         {{1, 0, 1, 1, -1, 1, GAUGE_CORNER_A}, {1, 0, 1, 1, 1, 1, GAUGE_FACE}}},
+        {3, {1, 0, -1, 0, 1, -1, 0, 0, 0, 0, 0, 0, 1, 0, -1, 0, 1, -1, 1, 0, -1, 0, 0, 0, 0, 1, -1}, {0, 0, 2},
+         {{1, 0, 0, 0, 0, 4, GAUGE_CORNER_C}, {1, 0, 0, 0, 0, 4, GAUGE_CORNER_A}, {1, 0, 0, 0, 0, 4, GAUGE_CORNER_B}}},
+    };
+    static const Settings settings[] = {{1, 1, 40}, {2, 1, 40}, {1, 3, 40}};
+    memcpy(drawing, one, sizeof one);
+    for (size_t k = 0; k < sizeof of_one / sizeof *of_one; k++)
+        expect_answer(make_tree(1, usual), of_one[k].point, of_one[k].answer, "a part is not what it is by hand");
+    for (size_t k = 0; k < sizeof rounded / sizeof *rounded; k++) {
+        memcpy(drawing, rounded[k].corners, 36);
+        expect_answer(make_tree(1, usual), rounded[k].point, rounded[k].answer, "a part is another by rounding, or where the box moves the point");
+    }
+    for (size_t k = 0; k < sizeof level / sizeof *level; k++)
+        for (size_t first = 0; first < level[k].count; first++) {
+            for (size_t t = 0; t < level[k].count; t++)
+                memcpy(drawing + 9 * t, level[k].corners + 9 * ((first + t) % level[k].count), 36);
+            for (size_t i = 0; i < sizeof settings / sizeof *settings; i++)
+                expect_answer(make_tree(level[k].count, settings[i]), level[k].point, level[k].answers[first],
+                              "a part is not that of the lowest number");
+        }
+}
+
 /* What the sure query answers where a triangle has no computed point, by hand. 0x1p-33f is about 1e-10. */
 static void each_foot(void)
 {
     static const struct { float corners[9], point[3]; struct gauge_answer answer; } feet[] = {
-        {{0, 0, 0, 0, 0, 0, 4, 0, 0}, {1, 1, 0}, {1, 0, 1, 0, 0, 1}}, /* the example E7 */
-        {{0, 0, 0, 0, 0, 0, 4, 0, 0}, {9, 0, 3}, {1, 0, 4, 0, 0, 34}}, /* past the end of ac */
-        {{4, 0, 0, 4, 0, 0, 0, 0, 0}, {0, 0, 0}, {1, 0, 0, 0, 0, 0}}, /* at corner c */
-        {{1, 0, 0, 1, 0, 0, 0x1p-30f, 0, 0}, {-1, 0, 0}, {1, 0, 0x1p-30f, 0, 0, 1}}, /* a + (c - a) is 0, which is outside the box */
-        {{1, 0, 0, 1, 0, 0, 0x1.8p-25f, 0, 0}, {-1, 0, 0}, {1, 0, 0x1p-24f, 0, 0, 1}}, /* it is 2^-24, in the box and not c */
-        {{0, 0, 0, 0x1p-24f, -0x1p-24f, 0, 0x1p-25f, 1, 0}, {8, 8, 0}, {1, 0, 0x1p-25f, 1, 0, 113}}, /* past the end of ac and not of the box */
+        {{0, 0, 0, 0, 0, 0, 4, 0, 0}, {1, 1, 0}, {1, 0, 1, 0, 0, 1, GAUGE_EDGE_AC}}, /* the example E7 */
+        {{0, 0, 0, 0, 0, 0, 4, 0, 0}, {9, 0, 3}, {1, 0, 4, 0, 0, 34, GAUGE_EDGE_AC}}, /* past the end of ac */
+        {{4, 0, 0, 4, 0, 0, 0, 0, 0}, {0, 0, 0}, {1, 0, 0, 0, 0, 0, GAUGE_EDGE_AC}}, /* at corner c */
+        {{1, 0, 0, 1, 0, 0, 0x1p-30f, 0, 0}, {-1, 0, 0}, {1, 0, 0x1p-30f, 0, 0, 1, GAUGE_EDGE_AC}}, /* a + (c - a) is 0, which is outside the box */
+        {{1, 0, 0, 1, 0, 0, 0x1.8p-25f, 0, 0}, {-1, 0, 0}, {1, 0, 0x1p-24f, 0, 0, 1, GAUGE_EDGE_AC}}, /* it is 2^-24, in the box and not c */
+        {{0, 0, 0, 0x1p-24f, -0x1p-24f, 0, 0x1p-25f, 1, 0}, {8, 8, 0}, {1, 0, 0x1p-25f, 1, 0, 113, GAUGE_EDGE_AC}}, /* past the end of ac and not of the box */
         /* on ac, since that on bc is nearer only until it is held into the box, and level then */
-        {{0, -2, 0, 0x1p-23f, -0x1.fffffep0f, 0, -2, 0x1p-21f, 0}, {-11, 9, 0}, {1, 0, -2, 0x1p-21f, 0, 162}},
-        {{0, 0, 0, 0x1p-33f, 0, 0, 0, 0x1p-33f, 0}, {0x1p-35f, 0x1p-35f, 0}, {1, 0, 0x1p-35f, 0, 0, 0x1p-70f}}, /* on ab, and ac is level */
-        {{0, 0, 0, 0x1p-33f, 0, 0, 0, 0x1p-33f, 0}, {0x1p-36f, 0x1p-35f, 0}, {1, 0, 0, 0x1p-35f, 0, 0x1p-72f}}, /* on ac */
-        {{0, 0, 0, 0x1p-33f, 0, 0, 0, 0x1p-33f, 0}, {7 * 0x1p-37f, 7 * 0x1p-37f, 0}, {1, 0, 0x1p-34f, 0x1p-34f, 0, 0x1p-73f}}, /* on bc */
-        {{0, 0, 0, 0, 0, 0, 0x1p-70f, 0, 0}, {0x1p-69f, 0, 0}, {1, 0, 0x1p-70f, 0, 0, 0x1p-140f}}, /* the square of ac is subnormal */
-        {{0, 0, 0, 0, 0, 0, 0x1p-80f, 0, 0}, {1, 1, 0}, {1, 0, 0, 0, 0, 2}}, /* it has run under to zero: the start, which is a */
-        {{0, 0, 0x1p-10f, 0x1p-10f, 0, 0, 0, 0, 0}, {-1048576, 0, -1048576}, {1, 0, 0, 0, 0x1p-10f, 0x1p41f}}, /* from far off all are level */
+        {{0, -2, 0, 0x1p-23f, -0x1.fffffep0f, 0, -2, 0x1p-21f, 0}, {-11, 9, 0}, {1, 0, -2, 0x1p-21f, 0, 162, GAUGE_EDGE_AC}},
+        {{0, 0, 0, 0x1p-33f, 0, 0, 0, 0x1p-33f, 0}, {0x1p-35f, 0x1p-35f, 0}, {1, 0, 0x1p-35f, 0, 0, 0x1p-70f, GAUGE_EDGE_AB}}, /* on ab, and ac is level */
+        {{0, 0, 0, 0x1p-33f, 0, 0, 0, 0x1p-33f, 0}, {0x1p-36f, 0x1p-35f, 0}, {1, 0, 0, 0x1p-35f, 0, 0x1p-72f, GAUGE_EDGE_AC}}, /* on ac */
+        {{0, 0, 0, 0x1p-33f, 0, 0, 0, 0x1p-33f, 0}, {7 * 0x1p-37f, 7 * 0x1p-37f, 0}, {1, 0, 0x1p-34f, 0x1p-34f, 0, 0x1p-73f, GAUGE_EDGE_BC}}, /* on bc */
+        {{0, 0, 0, 0, 0, 0, 0x1p-70f, 0, 0}, {0x1p-69f, 0, 0}, {1, 0, 0x1p-70f, 0, 0, 0x1p-140f, GAUGE_EDGE_AC}}, /* the square of ac is subnormal */
+        {{0, 0, 0, 0, 0, 0, 0x1p-80f, 0, 0}, {1, 1, 0}, {1, 0, 0, 0, 0, 2, GAUGE_CORNER_A}}, /* it has run under to zero: the start, which is a */
+        {{0, 0, 0x1p-10f, 0x1p-10f, 0, 0, 0, 0, 0}, {-1048576, 0, -1048576}, {1, 0, 0, 0, 0x1p-10f, 0x1p41f, GAUGE_EDGE_AB}}, /* from far off all are level */
+        /* a tiny one from far over its plane: all are level, so ab it is, at its start and at its end */
+        {{0, 0x1p-34f, 0, 0x1p-33f, 0x1p-33f, 0, -0x1p-34f, -0x1p-33f, 0}, {0, 0, -1024}, {1, 0, 0, 0x1p-34f, 0, 0x1p20f, GAUGE_EDGE_AB}},
+        {{-0x1p-34f, 0x1p-34f, 0, -0x1p-35f, 0, 0, 0x1p-34f, -0x1p-35f, 0}, {0, 0, 0.25f}, {1, 0, -0x1p-35f, 0, 0, 0x1p-4f, GAUGE_EDGE_AB}},
+        /* the square of ac has run under, and a, where it starts, is by rounding nearer than the foot on ab */
+        {{0, 0, 0, 0x1.18f3e2p-16f, -0x1.3904e8p-17f, 0x1.370416p-16f, -0x1.6aeacep-80f, -0x1.cf9bbcp-78f, -0x1.ad5632p-79f},
+         {0x1.00e5b2p-1f, 0x1.72fde6p-4f, -0x1.a17526p-2f}, {1, 0, 0, 0, 0, 0x1.b46274p-2f, GAUGE_CORNER_A}},
+        /* the squares of all three have run under, and b, where bc starts, is nearer than a; c is no start */
+        {{0, 0, 0, 0x1p-77f, -0x1p-78f, 0, 0x1p-76f, -0x1p-78f, 0}, {0x1p-73f, 0, 0}, {1, 0, 0x1p-77f, -0x1p-78f, 0, 7 * 0x1p-149f, GAUGE_CORNER_B}},
     };
     for (size_t k = 0; k < sizeof feet / sizeof *feet; k++) {
-        struct gauge_answer said;
         memcpy(drawing, feet[k].corners, 36);
-        Drawing d = make_tree(1, usual);
-        gauge_sure(d.triangles, 9, d.order, 1, d.links, 3, d.boxes, 6, 1, (const uint8_t *)feet[k].point, 12, GAUGE_MAX_DISTANCE, 1, (uint8_t *)&said, 24);
-        if (memcmp(&said, &feet[k].answer, 24) != 0)
-            differs("a foot is not where it was put by hand");
-        each_step(d, feet[k].point, 1);
+        expect_answer(make_tree(1, usual), feet[k].point, feet[k].answer, "a foot is not where it was put by hand, or not on that part");
     }
 }
 
 /* Of each kind of triangle that may have none drawings by chance, each at many points by their edges. */
 static void each_degenerate(void)
 {
-    static const unsigned kinds[] = {SAME, LINE, SHORT, UNDER, SHORT, SHORT}; /* where sides are short each edge may be the nearest */
-    for (unsigned k = 0; k < 240; k++) {
+    static const unsigned kinds[] = {SAME, LINE, SHORT, UNDER, SHORT, SHORT, NOUGHT}; /* where sides are short each edge may be the nearest */
+    const unsigned many_kinds = sizeof kinds / sizeof *kinds;
+    for (unsigned k = 0; k < 40 * many_kinds; k++) {
         size_t n = 1 + below(8), many = sizeof touched / 12;
         Settings s = {1 + below(2), 1 + below(3), 64};
         float size = ldexpf(1, (int)below(90) - 70);
         for (size_t i = 0; i < n; i++)
-            make_degenerate(drawing + 9 * i, kinds[k % 6], size);
+            make_degenerate(drawing + 9 * i, kinds[k % many_kinds], size);
         for (size_t i = 0; i < many; i++)
             make_point_by_edge(drawing + 9 * below((unsigned)n), touched + 3 * i);
+        for (size_t i = 0; i < 3 * many && kinds[k % many_kinds] == NOUGHT; i++) { /* where some of the products are the least floats */
+            float far = ldexpf(1, -60 - (int)below(14));
+            touched[i] += between(-far, far);
+        }
         Drawing d = make_tree(n, s);
         float distance = below(2) ? GAUGE_MAX_DISTANCE : level_distance(d, touched);
         both_rules(d, bytes_of(touched, sizeof touched), distance);
-        ask_points(SOURCE, d, bytes_of(touched, sizeof touched), distance, 0, 24 * many);
+        ask_points(SOURCE, d, bytes_of(touched, sizeof touched), distance, 0, room_for(many));
     }
 }
 
@@ -1431,7 +1511,7 @@ static void ask_limits(void)
         Drawing d = {zeros, lengths[i], tree_order, 1, tree_links, 3, tree_boxes, 6, 1};
         ask_build(s, zeros, lengths[i], rooms_for(n, 2 * n));
         ask_all(usual, d, points, GAUGE_MAX_DISTANCE);
-        ask_points(SURE, d, points, GAUGE_MAX_DISTANCE, 3, points.length * 2);
+        ask_points(SURE, d, points, GAUGE_MAX_DISTANCE, 3, room_for(points.length / 12));
     }
 }
 
@@ -1565,15 +1645,15 @@ static void ask_questions(Drawing d, size_t n, int times)
         Drawing asked = below(3) ? d : damage(d);
         float distance = many > 0 && below(2) ? level_distance(d, touched + 3 * below((unsigned)many)) : make_distance();
         size_t spare = below(3) ? 0 : below(60);
-        ask_points(SURE, asked, points, distance, make_rule(), 24 * many + spare);
-        ask_points(SURE, asked, points, distance, good_rule(), 24 * many + spare);
-        ask_points(SOURCE, asked, points, distance, 0, 24 * many + spare);
+        ask_points(SURE, asked, points, distance, make_rule(), room_for(many) + spare);
+        ask_points(SURE, asked, points, distance, good_rule(), room_for(many) + spare);
+        ask_points(SOURCE, asked, points, distance, 0, room_for(many) + spare);
         ask_points(WINDING, asked, points, distance, 0, 4 * many + spare);
         ask_fast(asked, any_sums(asked), points, make_scale(), 4 * many + spare);
         ask_check(asked);
         ask_sums(asked, below(8) ? sums_length(asked) + spare : below((unsigned)sums_length(asked) + 1));
         if (many > 0) {
-            ask_points((int)(SURE + below(3)), asked, points, distance, make_rule(), below(24 * (unsigned)many));
+            ask_points((int)(SURE + below(3)), asked, points, distance, make_rule(), below((unsigned)room_for(many)));
             ask_fast(asked, make_sums(asked), points, make_scale(), below(5 * (unsigned)many));
         }
         if (below(4) == 0)
@@ -1610,7 +1690,11 @@ static void by_chance(void)
     }
 }
 
-/* How many ends were listed and never met, or met and not listed. */
+/* Which parts can be answered. An edge whose foot is kept starts at a or at b, so c is never told of it, nor is the face. */
+static const char *const ways[PLAIN_WAYS] = {"sure answers by computed points", "by feet", "source answers"};
+static const int can_be[PLAIN_WAYS][PLAIN_PARTS] = {{1, 1, 1, 1, 1, 1, 1}, {0, 1, 1, 0, 1, 1, 1}, {1, 1, 1, 1, 1, 1, 1}};
+
+/* How many ends, and parts, were listed and never met, or met and not listed. */
 static int wrong_ends(void)
 {
     int wrong = 0;
@@ -1631,6 +1715,16 @@ static int wrong_ends(void)
     }
     if (calls >= ENOUGH && (plain_feet[0] == 0 || plain_feet[1] == 0 || plain_feet[2] == 0)) {
         fprintf(stderr, "fuzz: on one edge no foot was kept\n");
+        wrong++;
+    }
+    for (int way = 0; way < PLAIN_WAYS; way++)
+        for (int part = 0; part < PLAIN_PARTS; part++)
+            if (can_be[way][part] ? calls >= ENOUGH && plain_parts[way][part] == 0 : plain_parts[way][part] != 0) {
+                fprintf(stderr, "fuzz: %s, part %d %s\n", ways[way], part, can_be[way][part] ? "was never answered" : "was answered and cannot be");
+                wrong++;
+            }
+    if (calls >= ENOUGH && plain_moved == 0) {
+        fprintf(stderr, "fuzz: no point was moved when it was held into the box\n");
         wrong++;
     }
     return wrong;
@@ -1654,6 +1748,7 @@ int main(int argc, char **argv)
         for (size_t n = 2; n <= 32; n *= 2)
             in_turn(n);
     each_level();
+    each_part();
     each_foot();
     each_degenerate();
     each_depth();
@@ -1685,6 +1780,14 @@ int main(int argc, char **argv)
            (unsigned long long)plain_level[0], (unsigned long long)plain_level[1], (unsigned long long)roots_sought, (unsigned long long)roots_met);
     printf("triangles measured without a computed point: %llu, %llu and %llu with a foot on ab, ac and bc\n",
            (unsigned long long)plain_feet[0], (unsigned long long)plain_feet[1], (unsigned long long)plain_feet[2]);
+    printf("parts, face, corners a, b, c, edges ab, ac, bc:");
+    for (int way = 0; way < PLAIN_WAYS; way++) {
+        printf(" %s", ways[way]);
+        for (int part = 0; part < PLAIN_PARTS; part++)
+            printf(" %llu", (unsigned long long)plain_parts[way][part]);
+        printf(way + 1 < PLAIN_WAYS ? "," : "; ");
+    }
+    printf("%llu points were moved when held\n", (unsigned long long)plain_moved);
     printf("seed %llu: %llu calls, %llu differences; %llu angles, %llu of them more than 2^-20 off; %llu far terms, %llu of them not finite\n",
            (unsigned long long)seed, (unsigned long long)calls, (unsigned long long)(differences + unknown), (unsigned long long)plain_angles,
            (unsigned long long)plain_angles_off, (unsigned long long)plain_far, (unsigned long long)plain_far_not_finite);

@@ -121,7 +121,7 @@ static float root_of(float squared)
     return near;
 }
 
-/* Within 2.5, as far as can be, and as far as the nearest of the last point, by both rules. */
+/* Within 2.5, as far as can be, and as far as the nearest of the last point, by both rules; and by the source query. */
 static void asked(const struct gauge_drawing *d, const char *line)
 {
     float points[3 * POINTS];
@@ -142,6 +142,12 @@ static void asked(const struct gauge_drawing *d, const char *line)
         expect(memcmp(ours, plain, sizeof ours) == 0, "the sure answers", line);
         if (reach < 4)
             nearest = plain[POINTS - 1].squared;
+        if (rule == 2)
+            continue;
+        expect(gauge_drawing_source(d, points, POINTS, distance, ours) == POINTS, "the source query's count", line);
+        plain_source(d->triangles, 9 * d->count, d->order, d->count, d->links, 3 * d->nodes, d->boxes, 6 * d->nodes, d->nodes,
+                     (const uint8_t *)points, sizeof points, distance, (uint8_t *)plain, sizeof plain);
+        expect(memcmp(ours, plain, sizeof ours) == 0, "the source answers", line);
     }
 }
 
@@ -183,7 +189,7 @@ static void limits(void)
 
     float *more = room(36 * (n + 1)), *many = room(48 * (n + 1)), sums[16];
     uint32_t *lists = room(24 * (n + 1));
-    struct gauge_answer answer = {0, 0, 0, 0, 0, 0};
+    struct gauge_answer answer = {0, 0, 0, 0, 0, 0, 0};
     draw(more, n + 1, 1000);
     uint64_t three = (uint64_t)GAUGE_TOO_MANY << 56;
     expect(gauge_build(GAUGE_AREA, 1, 40, more, 9 * (n + 1), lists, n + 1, lists + n + 1, 3 * n, many, 6 * n, many + 6 * n, 6 * n, many, 3 * n,

@@ -67,4 +67,9 @@ extern uint64_t plain_far, plain_far_not_finite;
 /* Of how many triangles that plain_sure measured the closest point was no number, by the edge whose foot was kept: ab, ac, bc. */
 extern uint64_t plain_feet[3];
 
+/* How many answers were found, by the part of the triangle: by plain_sure on triangles that have a computed point, by it on those that
+ * have none, and by plain_source. And of how many of plain_sure's the point was moved when it was held into the box. */
+enum { PLAIN_COMPUTED, PLAIN_FEET, PLAIN_SOURCE, PLAIN_WAYS, PLAIN_PARTS = GAUGE_EDGE_BC + 1 };
+extern uint64_t plain_parts[PLAIN_WAYS][PLAIN_PARTS], plain_moved;
+
 #endif
