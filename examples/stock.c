@@ -9,14 +9,16 @@
  * image of a drawing and its tree, which need not be built again. POINTS are the points that were
  * touched: x y z on a line; blank lines, and all behind a #, are passed over. They are searched for
  * within DISTANCE (50 where none is given). RULE is the measuring rule: by 1, which holds where none is
- * given, a point at exactly DISTANCE has no answer; by 2 it has one. A part keeps the rule that it was first
- * gauged by. A DRAWING under any other name is plain text as tools/make_input.py reads it: settings,
+ * given, a point at exactly DISTANCE has no answer; by 2 it has one. A casting keeps the rule that it was
+ * first gauged by. A DRAWING under any other name is plain text as tools/make_input.py reads it: settings,
  * triangles, points, distance and maybe a rule in one.
  *
  * Stock is how far a touched point lies outside the drawing, or, with a minus, inside. It is wanted from
- * LEAST to MOST (1 and 4 where none are given). PICTURE is written as SVG, which any browser shows: the
- * drawing from two sides, each place in the colour of the touched point nearest to it. Under a name that
- * ends in .stl or .gauge it is not a picture but the drawing, as a binary STL or as an image.
+ * LEAST to MOST (1 and 4 where none are given). For each point it is told which part of the triangle is
+ * nearest: over a face stock is square to it, over an edge or a corner it need not be. PICTURE is an SVG,
+ * which any browser shows: the drawing from two sides, each place in the colour of the touched point nearest
+ * to it, with a dot for a point over a face, a diamond over an edge, a square over a corner. Under a name
+ * that ends in .stl or .gauge it is not a picture but the drawing, as a binary STL or as an image.
  *
  * The engine's part is read_stl(), read_image(), ask() and write_drawing(): an STL becomes a drawing, a
  * tree is built over it, or both come from an image, and the points are asked for their nearest place on
@@ -345,6 +347,16 @@ static const int shades[CLASSES][3] = {{215, 48, 31}, {253, 174, 27}, {26, 152, 
 static size_t counted[CLASSES];
 static size_t worst;
 
+enum { OVER_FACE, OVER_CORNER, OVER_EDGE, OVERS };
+
+static size_t counted_over[OVERS];
+
+static int over(size_t i)
+{
+    uint32_t part = answers[i].part;
+    return part == GAUGE_FACE ? OVER_FACE : part < GAUGE_EDGE_AB ? OVER_CORNER : OVER_EDGE;
+}
+
 static int class_of(size_t i)
 {
     if (!answers[i].found)
@@ -358,6 +370,7 @@ static void judge(void)
     worst = MOST_POINTS;
     for (size_t i = 0; i < points; i++) {
         counted[class_of(i)]++;
+        counted_over[over(i)] += answers[i].found;
         if (answers[i].found && (worst == MOST_POINTS || stock_of(i) < stock_of(worst)))
             worst = i;
     }
@@ -366,15 +379,17 @@ static void judge(void)
 static void print_stock(void)
 {
     static const char *const words[CLASSES] = {"SHORT", "thin", "", "heavy", ""};
+    static const char *const parts[] = {"face", "corner a", "corner b", "corner c", "edge ab", "edge ac", "edge bc"}; /* by their numbers */
     for (size_t i = 0; i < points; i++) {
         const struct gauge_answer *a = &answers[i];
         printf("%4zu  at %9.3f %9.3f %9.3f  ", i, (double)touched[3 * i], (double)touched[3 * i + 1], (double)touched[3 * i + 2]);
         if (a->found)
-            printf("stock %+8.3f  over triangle %4u at %9.3f %9.3f %9.3f  %s\n", stock_of(i), a->triangle, (double)a->x, (double)a->y,
-                   (double)a->z, words[class_of(i)]);
+            printf("stock %+8.3f  over triangle %4u %-8s at %9.3f %9.3f %9.3f  %s\n", stock_of(i), a->triangle, parts[a->part], (double)a->x,
+                   (double)a->y, (double)a->z, words[class_of(i)]);
         else
             printf("nothing within %g\n", (double)distance);
     }
+    printf("over a face %zu, over an edge %zu, over a corner %zu\n", counted_over[OVER_FACE], counted_over[OVER_EDGE], counted_over[OVER_CORNER]);
     printf("short of stock %zu, thin %zu, good %zu, heavy %zu, no answer %zu\n", counted[SHORT], counted[THIN], counted[GOOD],
            counted[HEAVY], counted[UNKNOWN]);
     if (worst < points)
@@ -435,8 +450,8 @@ static Vec foot(size_t i)
 typedef struct { Vec right, up, eye; double middle_right, middle_up, scale, x, y; } View;
 
 /* A piece of a triangle, of an edge, or a touched point, in the plane of the sheet. */
-enum Kind { FACE, EDGE, DOT };
-typedef struct { double depth, x[3], y[3]; enum Kind kind; int class; double light; } Piece;
+enum Kind { FACE, EDGE, MARK };
+typedef struct { double depth, x[3], y[3]; enum Kind kind; int class, over; double light; } Piece;
 
 enum { MOST_PARTS = 24, MOST_PIECES = 300000 };
 static Piece pieces[MOST_PIECES];
@@ -595,14 +610,43 @@ static void add_triangle(const View *v, size_t t, double step, double reach)
         }
 }
 
-static void add_dot(const View *v, size_t i, double lift)
+/* Which way the place of a touched point is turned: a face as its normal is; an edge or a corner as the point lies off it, since the
+ * triangle that was answered is only one of those that meet there. */
+static Vec turned(size_t i)
 {
-    if (!answers[i].found || dot(normal_of(answers[i].triangle), v->eye) <= 0.05)
+    Vec at = {touched[3 * i], touched[3 * i + 1], touched[3 * i + 2]};
+    if (over(i) == OVER_FACE || answers[i].squared == 0)
+        return normal_of(answers[i].triangle);
+    return unit(stock_of(i) < 0 ? minus(foot(i), at) : minus(at, foot(i)));
+}
+
+static int is_seen(const View *v, size_t i)
+{
+    return answers[i].found && dot(turned(i), v->eye) > 0.05;
+}
+
+static void add_mark(const View *v, size_t i, double lift)
+{
+    if (!is_seen(v, i))
         return;
-    Piece *p = new_piece(DOT, dot(v->eye, foot(i)) + lift);
+    Piece *p = new_piece(MARK, dot(v->eye, foot(i)) + lift);
     p->x[0] = across(v, foot(i));
     p->y[0] = down(v, foot(i));
     p->class = class_of(i);
+    p->over = over(i);
+}
+
+/* Over a face a dot, larger where stock is short; over an edge a diamond, over a corner a square, in the class's colour, with a rim that
+ * stands out from whatever is behind it. */
+static void draw_mark(FILE *f, double x, double y, int class, int over)
+{
+    int size = class == SHORT ? 11 : 8;
+    if (over == OVER_FACE)
+        fprintf(f, "<circle cx='%.1f' cy='%.1f' r='%s' fill='%s'/>\n", x, y, class == SHORT ? "5" : "1.8", class == SHORT ? "#fff" : "#222");
+    for (int rim = 0; rim < 2 && over != OVER_FACE; rim++)
+        fprintf(f, "<path d='%s' transform='translate(%.1f %.1f) scale(%d)' fill='%s' stroke='%s' stroke-width='%s'/>\n",
+                over == OVER_EDGE ? "M-1 0L0 -1L1 0L0 1z" : "M-.85 -.85h1.7v1.7h-1.7z", x, y, size, colours[class], rim == 0 ? "#222" : "#fff",
+                rim == 0 ? ".75" : ".35");
 }
 
 static int farther_first(const void *a, const void *b)
@@ -621,14 +665,13 @@ static void draw_view(FILE *f, const View *v, double size)
             add_edge(v, t, side, step);
     }
     for (size_t i = 0; i < points; i++)
-        add_dot(v, i, step);
+        add_mark(v, i, step);
     qsort(pieces, piece_count, sizeof *pieces, farther_first);
     for (size_t i = 0; i < piece_count; i++) {
         const Piece *p = &pieces[i];
         const int *s = shades[p->class];
-        if (p->kind == DOT) {
-            fprintf(f, "<circle cx='%.1f' cy='%.1f' r='%s' fill='%s'/>\n", p->x[0], p->y[0], p->class == SHORT ? "5" : "1.8",
-                    p->class == SHORT ? "#fff" : "#222");
+        if (p->kind == MARK) {
+            draw_mark(f, p->x[0], p->y[0], p->class, p->over);
             continue;
         }
         if (p->kind == EDGE) {
@@ -682,11 +725,25 @@ static void draw_legend(FILE *f)
     }
 }
 
+/* What the marks are, under the verdict. */
+static void draw_marks(FILE *f)
+{
+    static const char *const words[OVERS] = {"over a face", "over a corner", "over an edge"};
+    static const double at[OVERS] = {960, 1364, 1152};
+    for (int k = 0; k < OVERS; k++) {
+        if (k == OVER_FACE)
+            fprintf(f, "<circle cx='%.0f' cy='150' r='4' fill='#222'/>\n", at[k]);
+        else
+            draw_mark(f, at[k], 150, GOOD, k);
+        text(f, at[k] + 22, 158, 22, "#000", "start", words[k]);
+    }
+}
+
 /* A ring round the place with the least stock, where the view shows it, with its number. */
 static void draw_ring(FILE *f, const View *v)
 {
     char number[32];
-    if (worst >= points || class_of(worst) > THIN || dot(normal_of(answers[worst].triangle), v->eye) <= 0.05)
+    if (worst >= points || class_of(worst) > THIN || !is_seen(v, worst))
         return;
     double x = across(v, foot(worst)), y = down(v, foot(worst));
     int low = y > v->y;
@@ -739,6 +796,7 @@ static void draw(const char *path)
     text(f, under.x, 800, 28, "#000", "middle", "from below");
     draw_verdict(f);
     draw_legend(f);
+    draw_marks(f);
     fprintf(f, "</svg>\n");
     if (fclose(f) != 0)
         fail("cannot write ", path);

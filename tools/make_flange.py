@@ -10,7 +10,8 @@ Its STL and its points alone are made of that, by examples/stock.c and by sed; t
     { head -n 1 examples/flange_points.txt; sed -n 's/^point //p' examples/flange.txt; }
 
 The casting stands about 2.6 mm over the drawing, more below, less on one lobe, and is sunk at one
-place beside the hub: there it is short of stock.
+place beside the hub: there it is short of stock. Most points are touched over the faces; then the arm
+goes along the rims, and to some of their corners.
 """
 import math
 import random
@@ -19,6 +20,10 @@ AROUND = 36
 # radius and height of the profile, counter-clockwise round the metal; lobes move the outer ones
 PROFILE = [(20, 0), (52, 0), (72, 0), (72, 16), (54, 18), (36, 18), (32, 46), (20, 46)]
 SUNK = (-0.10, 54.0)  # angle and radius, on the upper face
+# places of the profile where the metal has a sharp rim, and how many steps the arm goes on between two points there; the corners of the
+# rims that it touches, at the tips of the lobes and about the hub
+RIMS = {2: 3, 3: 3, 6: 4, 7: 9, 0: 9}
+CORNERS = [(k, step) for k in (2, 3) for step in (0, 12, 24)] + [(6, step) for step in (3, 11, 19, 31)]
 
 
 def lobe(angle):
@@ -44,6 +49,12 @@ def normal(a, b, c):
     return tuple(x / size for x in n)
 
 
+def faces(k, step):
+    """The two triangles between two places of the profile, and between two steps."""
+    a, b, c, d = place(k, step), place(k + 1, step), place(k + 1, step + 1), place(k, step + 1)
+    return (a, d, c), (a, c, b)
+
+
 def stock(p, n, chance):
     angle = math.atan2(p[1], p[0])
     radius = math.hypot(p[0], p[1])
@@ -66,18 +77,28 @@ def written(p):
 def main():
     chance = random.Random(1)
     triangles, points = [], []
+
+    def touch(p, *normals):
+        """Straight out of the faces that meet there, as far as the one with the most stock."""
+        over = max(stock(p, n, chance) for n in normals)
+        out = [sum(numbers) for numbers in zip(*normals)]
+        points.append(tuple(x + over * y / math.hypot(*out) for x, y in zip(p, out)))
+
     for step in range(AROUND):
         for k in range(len(PROFILE)):
-            a, b, c, d = place(k, step), place(k + 1, step), place(k + 1, step + 1), place(k, step + 1)
-            triangles += [(a, d, c), (a, c, b)]
-            for corners in ((a, d, c), (a, c, b)):
-                n = normal(*corners)
+            for corners in faces(k, step):
+                triangles.append(corners)
                 size = math.dist(corners[0], corners[1]) * math.dist(corners[0], corners[2])
                 for _ in range(1 if size < 500 else 2):
                     s, t = sorted((chance.uniform(0.1, 0.9), chance.uniform(0.1, 0.9)))
-                    p = tuple(x * s + y * (t - s) + z * (1 - t) for x, y, z in zip(*corners))
-                    over = stock(p, n, chance)
-                    points.append(tuple(x + over * y for x, y in zip(p, n)))
+                    touch(tuple(x * s + y * (t - s) + z * (1 - t) for x, y, z in zip(*corners)), normal(*corners))
+    for k, steps in RIMS.items():
+        for step in range(1, AROUND, steps):
+            s = chance.uniform(0.2, 0.8)
+            p = tuple(x * s + y * (1 - s) for x, y in zip(place(k, step), place(k, step + 1)))
+            touch(p, *(normal(*faces(before, step)[0]) for before in (k - 1, k)))
+    for k, step in CORNERS:
+        touch(place(k, step), *(normal(*faces(*at)[0]) for at in ((k - 1, step - 1), (k - 1, step), (k, step - 1), (k, step))))
     print("# A flange with three lobes and a hub, in millimetres, and the points touched on its casting.")
     print("# tools/make_flange.py makes this file.")
     print("settings area 1 40")
