@@ -1,18 +1,20 @@
 // This text's library beside that of an earlier text, in one process, turn about: build, tree check and sure query over both
 // strategies with leaf minimum 1, 4 and 10, processor time, the least of TURNS turns, each first in every other turn. Trees and
-// answers of the two are compared word for word: trees must be the same, and of the points the line tells how many are answered
-// otherwise, since a text may measure what an earlier one did not. A line a tree, times in microseconds a call:
+// answers of the two are compared word for word, as far as both have words: trees must be the same, and of the points the line tells
+// how many are answered otherwise, since a text may measure what an earlier one did not. A line a tree, times in microseconds a call:
 //
 //     before CASE TREE NODES build NOW BEFORE RATIO check NOW BEFORE RATIO sure NOW BEFORE RATIO otherwise POINTS
 //
 // The earlier library's exports are renamed from timing_ to was_. Where its build is lent no working lists, it passes over those
-// arguments. Both sure queries are asked by rule 1; of a text before there was a rule, was_sure is declared and called without it.
+// arguments. Both sure queries are asked by rule 1; of a text before there was a rule, was_sure is declared and called without it. An
+// answer of the earlier text has six words, without the part; where it tells the part, -DWAS_WORDS=7 says so.
 //
 //     rt staticlib test_exports          (in the engine's folder, and in that of the earlier text: libtest_exports.a, was.a)
 //     nm -g --defined-only was.a | sed -n 's/.* timing_\(.*\)/timing_\1 was_\1/p' > names && objcopy --redefine-syms names was.a
 //     g++ -O3 -o before tests/peers/before.cpp libtest_exports.a was.a && ./before CASE TURNS < request
 //
 // A request is what the oracle's gen writes.
+#include "answers.hpp"
 #include <algorithm>
 #include <cstddef>
 #include <cstdint>
@@ -35,6 +37,11 @@ Build timing_build, was_build;
 Check timing_check, was_check;
 Sure timing_sure, was_sure;
 }
+
+#ifndef WAS_WORDS
+#define WAS_WORDS 6
+#endif
+static constexpr size_t widths[2] = {answer_words, WAS_WORDS}, shared_words = std::min(widths[0], widths[1]);
 
 static double now() {
   timespec t;
@@ -87,7 +94,7 @@ int main(int argc, char **argv) {
   int turns = atoi(argv[2]);
   std::vector<float> bounds(6 * n), centres(3 * n);
   std::vector<uint32_t> scratch(n), answers[2];
-  for (auto &a : answers) a.resize(2 * points.size());
+  for (int was = 0; was < 2; was++) answers[was].resize(widths[was] * (points.size() / 3));
   for (size_t strategy = 1; strategy <= 2; strategy++)
     for (size_t leaf : {1, 4, 10}) {
       Tree trees[2];
@@ -119,7 +126,8 @@ int main(int argc, char **argv) {
       race("check", turns, check);
       race("sure", turns, sure);
       size_t otherwise = 0;
-      for (size_t at = 0; at < answers[0].size(); at += 6) otherwise += memcmp(&answers[0][at], &answers[1][at], 24) != 0;
+      for (size_t i = 0; i < points.size() / 3; i++)
+        otherwise += !std::equal(&answers[0][widths[0] * i], &answers[0][widths[0] * i] + shared_words, &answers[1][widths[1] * i]);
       printf(" otherwise %zu\n", otherwise);
       fflush(stdout);
       if (!good) refused("a call is refused");

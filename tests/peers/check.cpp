@@ -1,7 +1,7 @@
 // The tree check and the sure query from C beside those of an earlier text's library, in one process, turn about: separate triangles in
 // a ball's box, 1 to 65,536 of them, both strategies with leaf minimum 1 and 10. Processor time, the least of TURNS turns. The answers
-// of the two are compared byte for byte. The earlier library is one of header version 2 or 3, whose sure query has no rule; this one is
-// asked by rule 1. A line a tree, times in microseconds a call:
+// of the two are compared byte for byte, but for the part. The earlier library is one of header version 2 or 3, whose sure query has no
+// rule and tells no part; this one is asked by rule 1. A line a tree, times in microseconds a call:
 //
 //     check N TREE NODES check NOW BEFORE RATIO sure 1 NOW BEFORE RATIO sure 1000 NOW BEFORE RATIO
 //
@@ -23,7 +23,7 @@ uint64_t was_gauge_sure(const float *, size_t, const uint32_t *, size_t, const u
                         const uint8_t *, size_t, float distance, uint8_t *, size_t);
 }
 
-enum { TURNS = 60 };
+enum { TURNS = 60, WAS_BYTES = offsetof(gauge_answer, part) };
 
 static double now() {
   timespec t;
@@ -73,15 +73,16 @@ int main() {
           expect((was ? was_gauge_check : gauge_check)(d.triangles, 9 * n, d.order, n, d.links, 3 * d.nodes, d.boxes, 6 * d.nodes, d.nodes) == n);
         });
         for (size_t asked : {1, 1000}) {
-          std::vector<uint8_t> answers[2] = {std::vector<uint8_t>(24 * asked), std::vector<uint8_t>(24 * asked)};
+          std::vector<uint8_t> answers[2] = {std::vector<uint8_t>(GAUGE_ANSWER_BYTES * asked), std::vector<uint8_t>(WAS_BYTES * asked)};
           race(asked == 1 ? "sure 1" : "sure 1000", [&](int was) {
             const uint8_t *p = (const uint8_t *)points.data();
             uint8_t *a = answers[was].data();
-            expect((was ? was_gauge_sure(d.triangles, 9 * n, d.order, n, d.links, 3 * d.nodes, d.boxes, 6 * d.nodes, d.nodes, p, 12 * asked, 1000, a, 24 * asked)
+            expect((was ? was_gauge_sure(d.triangles, 9 * n, d.order, n, d.links, 3 * d.nodes, d.boxes, 6 * d.nodes, d.nodes, p, 12 * asked, 1000, a,
+                                         answers[1].size())
                         : gauge_sure(d.triangles, 9 * n, d.order, n, d.links, 3 * d.nodes, d.boxes, 6 * d.nodes, d.nodes, p, 12 * asked, 1000,
-                                     GAUGE_RULE_BELOW, a, 24 * asked)) == asked);
+                                     GAUGE_RULE_BELOW, a, answers[0].size())) == asked);
           });
-          expect(answers[0] == answers[1]);
+          for (size_t i = 0; i < asked; i++) expect(memcmp(&answers[0][GAUGE_ANSWER_BYTES * i], &answers[1][WAS_BYTES * i], WAS_BYTES) == 0);
         }
         printf("\n");
         fflush(stdout);

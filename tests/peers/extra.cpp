@@ -1,9 +1,10 @@
 // This engine as a contender beside others that answer closest-point queries: the sure query over trees of both strategies
 // with leaf minimum 1, 4 and 10, so that each stands beside the same tree and walk in plain C++. A query's time includes
-// the call's own check of the tree. From the folder of the contenders, which has contender.h and the Makefile:
+// the call's own check of the tree. From the folder of the contenders, which has contender.h and the Makefile, with answers.hpp beside it:
 //
 //     rt staticlib test_exports          (in the engine's folder: target/staticlib/libtest_exports.a)
 //     make EXTRA=extra.cpp EXTRA_LIB=libtest_exports.a
+#include "answers.hpp"
 #include "contender.h"
 #include <cstdio>
 #include <cstdlib>
@@ -32,12 +33,12 @@ template <int STRATEGY, int LEAF> struct Engine : Contender {
     if (nodes == 0) fprintf(stderr, "the build was refused\n"), exit(2);
   }
   void ask(const float *points, size_t n, float limit, Answer *out) override {
-    words.resize(6 * n);
+    words.resize(answer_words * n);
     uint32_t answered = timing_sure(triangles.data(), triangles.size(), order.data(), order.size(), links.data(), links.size(), boxes.data(),
                                     boxes.size(), nodes, points, 3 * n, limit, 1, words.data(), words.size());
     if (answered == 0) fprintf(stderr, "the query was refused\n"), exit(2);
     for (size_t k = 0; k < n; k++) {
-      const uint32_t *w = &words[6 * k];
+      const uint32_t *w = &words[answer_words * k];
       out[k].found = w[0] == 1;
       out[k].triangle = w[1];
       memcpy(&out[k].x, w + 2, 16);

@@ -7,6 +7,7 @@
 //
 //     rt staticlib test_exports          (in the engine's folder)
 //     g++ -O3 -o growth tests/peers/growth.cpp target/staticlib/libtest_exports.a && ./growth | tests/peers/growth.py docs/growth.svg
+#include "answers.hpp"
 #include <algorithm>
 #include <cmath>
 #include <cstddef>
@@ -78,7 +79,7 @@ int main(int argc, char **argv) {
     double z = 2 * unit() - 1, r = std::sqrt(1 - z * z), turn = 6.283185307179586 * unit(), far = 0.98 + 0.04 * unit();
     points.insert(points.end(), {(float)(far * r * std::cos(turn)), (float)(far * r * std::sin(turn)), (float)(far * z)});
   }
-  std::vector<uint32_t> words(2 * points.size());
+  std::vector<uint32_t> words(answer_words * (points.size() / 3));
   for (size_t strategy = 1; strategy <= 2; strategy++)
     for (size_t n = 16; n <= 65536; n *= 2) {
       std::vector<float> t = shingles(n), boxes(6 * (2 * n - 1)), bounds(6 * n), centres(3 * n);

@@ -82,13 +82,13 @@ int main(int count, char **words) {
         tree.build(t, strategy, leaf);
         tree.sum(t);
         if (strategy == 1 && leaf == 10) {
-          std::vector<uint32_t> answers(6 * m);
+          std::vector<uint32_t> answers(answer_words * m);
           if (!timing_sure(t.data(), t.size(), tree.order.data(), tree.order.size(), tree.links.data(), tree.links.size(), tree.boxes.data(),
                            tree.boxes.size(), tree.nodes, p.data(), p.size(), 100, 1, answers.data(), answers.size()))
             refused("sure query");
           for (size_t j = 0; j < m; j++) {
             float squared;
-            std::copy_n((const char *)&answers[6 * j + 5], 4, (char *)&squared);
+            std::copy_n((const char *)&answers[answer_words * j + answer_squared], 4, (char *)&squared);
             double far = std::sqrt((double)squared) / size;
             while (far >= steps[step[j] + 1]) step[j]++;
             inside += right[j] >= 0.5f;

@@ -1,5 +1,6 @@
 // Closed drawings for near.cpp and fast.cpp, the calls of the library, and the tree with its numbers of the nodes.
 #pragma once
+#include "answers.hpp"
 #include <algorithm>
 #include <array>
 #include <cmath>

@@ -3,7 +3,7 @@
 //
 //     turns CASE NAME NANOSECONDS_A_POINT FOUND
 //
-// From the folder of the contenders, with extra.cpp beside it:
+// From the folder of the contenders, with extra.cpp and answers.hpp beside it:
 //
 //     cp turns.cpp main.cpp
 //     make EXTRA=extra.cpp EXTRA_LIB=libtest_exports.a CXXFLAGS='-O3 -DNDEBUG -DCGAL_NDEBUG -std=c++17 -w -ffp-contract=off'
