@@ -1,7 +1,8 @@
 pub mod Rules
 pub mod Scan
-pub mod Smallest
-pub mod Sure
+pub mod Ranked
+pub mod Searches
+pub mod Few
 pub mod Nearest
 pub mod Touched
 pub mod Turns

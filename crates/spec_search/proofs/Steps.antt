@@ -1,7 +1,7 @@
 -- One step of a walk, over plain lists: what each call needs, and what its answer makes of the node's or the pair's.
 -- The proofs of the recursive calls only apply these.
 use mathlib.Core.Path.{_≡_, refl, sym, ap, _∙_}
-use mathlib.Core.Bool.{Bool, true, false}
+use mathlib.Core.Bool.{Bool, true, false, not, _||_}
 use mathlib.Core.List.{List}
 use Prim.Native.Nat.{ℕ, suc, _+_, _-_, _^_, _≤_, _<_}
 use native.Mathlib.Nat.{le-max-left, le-max-right}
@@ -10,6 +10,7 @@ use borrow.Author.Tests.{eq-eqb, ne-eqb}
 use lib.ListN.{length, drop, length-append, length-take, length-drop}
 use lib.Seq.{getD-take, getD-drop}
 use lib.Ieee.{Float, Format, lt}
+use Rattle.spec_numbers.specs.Values.{Number}
 use Rattle.spec_tables.specs.Tables.{slice}
 use Rattle.spec_shapes.specs.Points.{Point}
 use Rattle.spec_lists.specs.Reading.{boxAt, triangleCount}
@@ -19,11 +20,14 @@ use Rattle.spec_tree.specs.Hangs.{Hangs, There}
 use Rattle.spec_tree.proofs.Standing.{slice-length}
 use Rattle.spec_tree.proofs.Trees.{levels-least}
 use Rattle.spec_search.specs.Walk.{Search, Sought, isLeaf, tookAll, nodeWalk, pairWalk, rootWalk}
-use Rattle.spec_search.specs.Answers.{Answer}
-use Rattle.spec_search.specs.Rules.{Limit}
-use Rattle.spec_search.specs.Sure.{isSkipped, nodeSquared, skippedSure, rightNearer, hit, tookSure}
+use Rattle.spec_search.specs.Answers.{Hit, squaredOf, numberOf}
+use Rattle.spec_search.specs.Rules.{Limit, counts}
+use Rattle.spec_search.specs.Ranked.{Sorted}
+use Rattle.spec_search.specs.Sure.{hit}
+use Rattle.spec_search.specs.Few.{offeredFew, isSkipped, tookFew, nodeSquared, skippedFew, rightNearer}
 use Rattle.spec_search.specs.Safe.{NodeSafe, PairSafe, LinksAre}
-use Rattle.spec_search.proofs.Smallest.{still-skipped}
+use Rattle.spec_search.proofs.Rules.{counts-number}
+use Rattle.spec_search.proofs.Ranked.{sorted-rises, sorted-stays, few-above}
 use Rattle.spec_search.proofs.Walked.{walk-skipped, walk-leaf, walk-branch, root-leaf, root-branch, pair-right, pair-left, walk-keeps, counted-most}
 
 -- a slice of the order list has entries below n too, wherever it starts and ends, so measuring its triangles stays within the list
@@ -170,13 +174,16 @@ module _ {S : Type 0} (how : Search S) (order links : List ℕ) (d l r : ℕ) (s
   left-answers e a b = b ∙ ap (nodeWalk how order links d r) a ∙ sym (pair-left how order links d l r s e)
 
 -- ---- a pair whose farther child is skipped before the nearer one is walked: where what is skipped stays so, nothing remains
--- to do after the nearer one
-module _ {S : Type 0} (how : Search S) (stays : (node t : ℕ) (k : S) → how .skipped node k ≡ true → how .skipped node (how .took t k) ≡ true)
-    (order links : List ℕ) (d l r : ℕ) (s next : Sought S) where
+-- to do after the nearer one. `Good` is what holds of all that is ever kept
+module _ {S : Type 0} (how : Search S) (Good : S → Type 0) (good-stays : (t : ℕ) (k : S) → Good k → Good (how .took t k))
+    (stays : (node t : ℕ) (k : S) → Good k → how .skipped node k ≡ true → how .skipped node (how .took t k) ≡ true)
+    (order links : List ℕ) (d l r : ℕ) (s next : Sought S) (good : Good (s .best)) where
   skipped-after : (near far : ℕ) → how .skipped far (s .best) ≡ true
       → nodeWalk how order links d near s ≡ nodeWalk how order links d far (nodeWalk how order links d near s)
   skipped-after near far h =
-      sym (walk-skipped how order links d far _ (walk-keeps how order links (λ (k : S). how .skipped far k ≡ true) (stays far) d near s h))
+      sym (walk-skipped how order links d far _
+      (walk-keeps how order links (λ (k : S). Good k × (how .skipped far k ≡ true)) (λ t k g. (good-stays t k (g .0), stays far t k (g .0) (g .1))) d near s
+      (good, h) .1))
 
   -- the left child is skipped beforehand: the walk of the right one alone is the walk of the pair
   pub right-alone : how .rightFirst l r ≡ true → how .skipped l (s .best) ≡ true
@@ -191,10 +198,10 @@ module _ {S : Type 0} (how : Search S) (stays : (node t : ℕ) (k : S) → how .
 -- ---- what the tests of the sure walk say, of distances that were measured
 module _ (f : Format) (boxes : List Float) (p : Point) where
   -- whether a node is skipped, decided by its box's distance that was computed before
-  pub skipped-here : (limit : Limit) (squared : Float) (node : ℕ) (k : Answer) (b flag : Bool) → squared ≡ nodeSquared f boxes p node
-      → b ≡ isSkipped limit squared k → b ≡ flag → skippedSure f boxes p limit node k ≡ flag
-  unfolding skippedSure
-  skipped-here limit squared node k b flag s e h = ap (λ (d : Float). isSkipped limit d k) (sym s) ∙ sym e ∙ h
+  pub skipped-here : (most : ℕ) (limit : Limit) (squared : Float) (node : ℕ) (ks : List Hit) (b flag : Bool) → squared ≡ nodeSquared f boxes p node
+      → b ≡ isSkipped most limit squared ks → b ≡ flag → skippedFew f boxes p most limit node ks ≡ flag
+  unfolding skippedFew
+  skipped-here most limit squared node ks b flag s e h = ap (λ (d : Float). isSkipped most limit d ks) (sym s) ∙ sym e ∙ h
 
   -- which child goes first, decided by the boxes' distances that were computed before
   pub right-first-here : (l r : ℕ) (toLeft toRight : Float) (flag : Bool) → toLeft ≡ nodeSquared f boxes p l → toRight ≡ nodeSquared f boxes p r
@@ -202,8 +209,32 @@ module _ (f : Format) (boxes : List Float) (p : Point) where
   unfolding rightNearer
   right-first-here l r toLeft toRight flag s t h = rw (← s, ← t) h
 
--- the sure search is one in which what is skipped stays so
-pub sure-stays : (f : Format) (triangles boxes : List Float) (p : Point) (limit : Limit) (node t : ℕ) (k : Answer)
-    → skippedSure f boxes p limit node k ≡ true → skippedSure f boxes p limit node (tookSure f triangles p limit t k) ≡ true
-unfolding skippedSure tookSure hit
-sure-stays f triangles boxes p limit node t k = still-skipped limit (hit f triangles p) (λ u. refl) (nodeSquared f boxes p node) t k
+-- ---- the sure search is one in which what is kept stays sorted, and what is skipped stays so
+module _ (f : Format) (triangles : List Float) (p : Point) (most : ℕ) (limit : Limit) where
+  bears : (t : ℕ) → numberOf (hit f triangles p t) ≡ t
+  unfolding hit
+  bears t = refl
+
+  abbrev countsAt : ℕ → Bool
+  countsAt t = counts limit (hit f triangles p t .squared)
+
+  numeric : (t : ℕ) → countsAt t ≡ true → Number (squaredOf (hit f triangles p t))
+  numeric t c = counts-number limit _ c
+
+  -- what is kept stays sorted, whatever is measured
+  pub few-sorted : (t : ℕ) (ks : List Hit) → Sorted squaredOf numberOf ks → Sorted squaredOf numberOf (tookFew f triangles p most limit t ks)
+  unfolding tookFew offeredFew
+  few-sorted t ks r = sorted-stays squaredOf numberOf most (countsAt t) (hit f triangles p t) ks (numeric t) r
+
+  above-stays : (b : Bool) (x y : Bool) → (x ≡ true → y ≡ true) → (b || x) ≡ true → (b || y) ≡ true
+  above-stays true x y h e = refl
+  above-stays false x y h e = h e
+
+  -- a box that is skipped stays so: what is kept only comes nearer
+  pub few-skipped : (boxes : List Float) (node t : ℕ) (ks : List Hit) → Sorted squaredOf numberOf ks → skippedFew f boxes p most limit node ks ≡ true
+      → skippedFew f boxes p most limit node (tookFew f triangles p most limit t ks) ≡ true
+  unfolding skippedFew isSkipped tookFew offeredFew
+  few-skipped boxes node t ks r e =
+      above-stays (not (counts limit (nodeSquared f boxes p node))) _ _
+      (few-above squaredOf numberOf most (hit f triangles p) bears countsAt numeric (nodeSquared f boxes p node) t ks
+      (sorted-rises squaredOf numberOf ks r)) e

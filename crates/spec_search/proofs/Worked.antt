@@ -19,14 +19,15 @@ use Rattle.spec_tree.specs.Accepted.{sameBox, present}
 use Rattle.spec_tree.specs.Reasons as Reasons
 use Rattle.spec_tree.specs.Reasons.{failingFrom, refusedWhere, isNew, orderRefusal, countRefusal, scanLeaf, listingRefusal, levelUnder, isShallow, depthRefusal, isBoxed, boxRefusal, reason}
 use Rattle.spec_tree.specs.Refusals.{treeRefusal}
-use Rattle.spec_search.specs.Answers.{sure, source, Answer, nothing, found, wordsOf}
+use Rattle.spec_search.specs.Answers.{Query, sure, few, source, Hit, Answer, nothing, found, wordsOf}
 use Rattle.spec_search.specs.Walk.{Sought, tookAll, nodeWalk, pairWalk, rootWalk, fold}
 use Rattle.spec_search.specs.Rules.{Rule, strictlyBelow, belowOrEqual, ruleOf, ruleRefusal, limitSquared, limitOf, counts}
-use Rattle.spec_search.specs.Sure.{offered, isSkipped, hit, tookSure, scan, nodeSquared, skippedSure, rightNearer, sureWalk}
+use Rattle.spec_search.specs.Ranked.{inserted, offeredTo, aboveLast}
+use Rattle.spec_search.specs.Sure.{offered, hit, tookSure, scan}
+use Rattle.spec_search.specs.Few.{offeredFew, isSkipped, tookFew, scanFew, answerIn, nodeSquared, skippedFew, rightNearer, fewWalk}
 use Rattle.spec_search.specs.Source.{sourceHit, keepSmaller, tookSource, enters, sourceWalk}
-use Rattle.spec_search.specs.Kept.{kept}
-use Rattle.spec_search.specs.Marked.{markedWalk, unmarked}
-use Rattle.spec_search.specs.Calls.{queryRefusal, sureAnswer, sourceAnswer}
+use Rattle.spec_search.specs.Marked.{marker, markers, markedWalk, unmarked}
+use Rattle.spec_search.specs.Calls.{mostRefusal, queryRefusal, sureAnswer, fewAnswer, sourceAnswer}
 use Rattle.spec_search.specs.Wider.{Passing, answerOf, narrowedTo, numberedFrom, nearerOf}
 
 module _ (f : Format) where
@@ -59,16 +60,24 @@ module _ (f : Format) where
   abbrev sureIn : Rule → List Float → Float → Float → Answer
   sureIn rule triangles x distance = sureAnswer f rule triangles distance (onX x)
 
-  abbrev walkIn : Rule → Float → Float → Sought Answer
-  walkIn rule x distance = sureWalk f t0t1 (numbers two) (linksFrom 0 0 two) (boxesOf (boxAt t0t1) two) (nodeCount two) (onX x) (limitOf f rule distance)
+  abbrev fewIn : ℕ → Rule → Float → Float → List Answer
+  fewIn most rule x distance =
+      let at : ℕ → Answer = fewAnswer f rule most t0t1 distance (onX x) in
+      at 0 ∷ at 1 ∷ at 2 ∷ []
 
-  abbrev markedIn : Rule → Float → Float → Sought Answer
-  markedIn rule x distance =
-      let walked = markedWalk f t0t1 (numbers two) (linksFrom 0 0 two) (boxesOf (boxAt t0t1) two) (nodeCount two) (onX x) (limitOf f rule distance) in
-      record { best = unmarked (walked .best); measured = walked .measured }
+  abbrev walkIn : ℕ → Rule → Float → Float → Sought (List Hit)
+  walkIn most rule x distance =
+      fewWalk f t0t1 (numbers two) (linksFrom 0 0 two) (boxesOf (boxAt t0t1) two) (nodeCount two) (onX x) most (limitOf f rule distance)
+
+  abbrev markedIn : ℕ → Rule → Float → Float → Sought (List Hit)
+  markedIn most rule x distance =
+      markedWalk f t0t1 (numbers two) (linksFrom 0 0 two) (boxesOf (boxAt t0t1) two) (nodeCount two) (onX x) most (limitOf f rule distance)
+
+  abbrev hitAtX : ℕ → ℕ → ℤ → Float → Hit
+  hitAtX triangle part x squared = record { point = onX (n x); squared = squared; triangle = triangle; part = part }
 
   abbrev foundAt : ℕ → ℕ → ℤ → Float → Answer
-  foundAt triangle part x squared = found (record { point = onX (n x); squared = squared; triangle = triangle; part = part })
+  foundAt triangle part x squared = found (hitAtX triangle part x squared)
 
   -- 5.5 is 11 / 2, 4.5 is 9 / 2, and 20.25, which is 4.5 squared, is 81 / 4
   abbrev between : Float
@@ -80,6 +89,10 @@ module _ (f : Format) where
   abbrev level : Float
   level = fin false 81 (negsuc 1)
 
+-- what a query at one point refuses, with a list of so many words lent and no tree
+abbrev refusedAt : Format → Query → List Float → ℕ → Verdict
+refusedAt f query triangles room = queryRefusal query triangles [] [] [] 0 (n f (pos 0) ∷ n f (pos 0) ∷ n f (pos 0) ∷ []) (n f (pos 1)) room
+
 -- at 5.5 both triangles are level: the source has the right one, which it meets first, and at 4.5, which is as far as they are, none is entered; of
 -- T0 alone, (100,0,0) finds what is beyond the limit
 pub source-worked : (f : Format)
@@ -89,8 +102,8 @@ pub source-worked : (f : Format)
 unfolding add sub mul div lt le eq round ofInt minus plus scale dot smallest largest isUnder isFinite plusZero squaredDistance union withExcess
     withOutside boxSquared containsPoint heldIn heldSquared boxOf dots crossed part along facePoint pointOn closestSpot partNumber heldSpot
     numberAt pointAt triangleAt boxAt triangleCount numbers nodeCount joinedTo joined boxOver rootFrom linksFrom boxesOf range tookAll nodeWalk
-    pairWalk rootWalk fold limitSquared counts offered isSkipped hit tookSure scan nodeSquared skippedSure rightNearer sureWalk sourceHit keepSmaller
-    tookSource enters sourceWalk sureAnswer sourceAnswer
+    pairWalk rootWalk fold limitSquared counts offered hit tookSure scan inserted offeredTo aboveLast offeredFew isSkipped tookFew scanFew answerIn
+    nodeSquared skippedFew rightNearer fewWalk sourceHit keepSmaller tookSource enters sourceWalk sureAnswer fewAnswer sourceAnswer
 source-worked binary32 = refl
 source-worked binary64 = refl
 
@@ -104,39 +117,65 @@ pub sure-worked : (f : Format)
 unfolding add sub mul div lt le eq round ofInt minus plus scale dot smallest largest isUnder isFinite plusZero squaredDistance union withExcess
     withOutside boxSquared containsPoint heldIn heldSquared boxOf dots crossed part along facePoint pointOn closestSpot partNumber heldSpot
     numberAt pointAt triangleAt boxAt triangleCount numbers nodeCount joinedTo joined boxOver rootFrom linksFrom boxesOf range tookAll nodeWalk
-    pairWalk rootWalk fold limitSquared counts offered isSkipped hit tookSure scan nodeSquared skippedSure rightNearer sureWalk sourceHit keepSmaller
-    tookSource enters sourceWalk sureAnswer sourceAnswer
+    pairWalk rootWalk fold limitSquared counts offered hit tookSure scan inserted offeredTo aboveLast offeredFew isSkipped tookFew scanFew answerIn
+    nodeSquared skippedFew rightNearer fewWalk sourceHit keepSmaller tookSource enters sourceWalk sureAnswer fewAnswer sourceAnswer
 sure-worked binary32 = refl
 sure-worked binary64 = refl
 
--- a box that is level with what is kept is looked into, and by the second rule one at the limit; the nearer box goes first, and the farther one is
--- skipped
+-- the nearest few: of two that are level the lower number first; at 9 the nearer first; nothing in a spare place, and in none behind those that are
+-- asked for; at 4.5 none by the first rule, and both by the second
+pub few-worked : (f : Format)
+    → (fewIn f 3 strictlyBelow (between f) (n f (pos 5)) ∷ fewIn f 2 strictlyBelow (n f (pos 9)) (n f (pos 50))
+    ∷ fewIn f 1 strictlyBelow (n f (pos 9)) (n f (pos 50)) ∷ fewIn f 2 strictlyBelow (between f) (reach f) ∷ fewIn f 2 belowOrEqual (between f) (reach f) ∷ [])
+    ≡ ((foundAt f 0 2 (pos 1) (level f) ∷ foundAt f 1 1 (pos 10) (level f) ∷ nothing ∷ [])
+    ∷ (foundAt f 1 1 (pos 10) (n f (pos 1)) ∷ foundAt f 0 2 (pos 1) (n f (pos 64)) ∷ nothing ∷ [])
+    ∷ (foundAt f 1 1 (pos 10) (n f (pos 1)) ∷ nothing ∷ nothing ∷ []) ∷ (nothing ∷ nothing ∷ nothing ∷ [])
+    ∷ (foundAt f 0 2 (pos 1) (level f) ∷ foundAt f 1 1 (pos 10) (level f) ∷ nothing ∷ []) ∷ [])
+unfolding add sub mul div lt le eq round ofInt minus plus scale dot smallest largest isUnder isFinite plusZero squaredDistance union withExcess
+    withOutside boxSquared containsPoint heldIn heldSquared boxOf dots crossed part along facePoint pointOn closestSpot partNumber heldSpot
+    numberAt pointAt triangleAt boxAt triangleCount range fold limitSquared counts hit inserted offeredTo offeredFew tookFew scanFew answerIn fewAnswer
+few-worked binary32 = refl
+few-worked binary64 = refl
+
+-- a box that is level with the last that is kept is looked into, and by the second rule one at the limit; the nearer box goes first, and the farther
+-- one is skipped once as many are kept as may be, and not before
 pub walk-worked : (f : Format)
-    → (walkIn f strictlyBelow (between f) (n f (pos 5)) ∷ walkIn f strictlyBelow (n f (pos 9)) (n f (pos 50))
-    ∷ walkIn f strictlyBelow (between f) (reach f) ∷ walkIn f belowOrEqual (between f) (reach f) ∷ [])
-    ≡ (record { best = foundAt f 0 2 (pos 1) (level f); measured = 2 } ∷ record { best = foundAt f 1 1 (pos 10) (n f (pos 1)); measured = 1 }
-    ∷ record { best = nothing; measured = 0 } ∷ record { best = foundAt f 0 2 (pos 1) (level f); measured = 2 } ∷ [])
+    → (walkIn f 1 strictlyBelow (between f) (n f (pos 5)) ∷ walkIn f 1 strictlyBelow (n f (pos 9)) (n f (pos 50))
+    ∷ walkIn f 2 strictlyBelow (n f (pos 9)) (n f (pos 50)) ∷ walkIn f 1 strictlyBelow (between f) (reach f)
+    ∷ walkIn f 1 belowOrEqual (between f) (reach f) ∷ [])
+    ≡ (record { best = hitAtX f 0 2 (pos 1) (level f) ∷ []; measured = 2 } ∷ record { best = hitAtX f 1 1 (pos 10) (n f (pos 1)) ∷ []; measured = 1 }
+    ∷ record { best = hitAtX f 1 1 (pos 10) (n f (pos 1)) ∷ hitAtX f 0 2 (pos 1) (n f (pos 64)) ∷ []; measured = 2 }
+    ∷ record { best = []; measured = 0 } ∷ record { best = hitAtX f 0 2 (pos 1) (level f) ∷ []; measured = 2 } ∷ [])
 unfolding add sub mul div lt le eq round ofInt minus plus scale dot smallest largest isUnder isFinite plusZero squaredDistance union withExcess
     withOutside boxSquared containsPoint heldIn heldSquared boxOf dots crossed part along facePoint pointOn closestSpot partNumber heldSpot
     numberAt pointAt triangleAt boxAt triangleCount numbers nodeCount joinedTo joined boxOver rootFrom linksFrom boxesOf range tookAll nodeWalk
-    pairWalk rootWalk fold limitSquared counts offered isSkipped hit tookSure scan nodeSquared skippedSure rightNearer sureWalk sourceHit keepSmaller
-    tookSource enters sourceWalk sureAnswer sourceAnswer
+    pairWalk rootWalk fold limitSquared counts hit inserted offeredTo aboveLast offeredFew isSkipped tookFew nodeSquared skippedFew rightNearer fewWalk
 walk-worked binary32 = refl
 walk-worked binary64 = refl
 
--- the walk as the code makes it, from the marker or not: the same answers and counts
+-- the walk as the code makes it, from markers: the same hits and counts, and markers at the limit in the spare places
 pub marked-worked : (f : Format)
-    → (markedIn f strictlyBelow (between f) (n f (pos 5)) ∷ markedIn f strictlyBelow (between f) (reach f)
-    ∷ markedIn f belowOrEqual (between f) (reach f) ∷ markedIn f belowOrEqual (n f (pos 100)) (n f (pos 1)) ∷ [])
-    ≡ (record { best = foundAt f 0 2 (pos 1) (level f); measured = 2 } ∷ record { best = nothing; measured = 0 }
-    ∷ record { best = foundAt f 0 2 (pos 1) (level f); measured = 2 } ∷ record { best = nothing; measured = 0 } ∷ [])
+    → (markedIn f 1 strictlyBelow (between f) (n f (pos 5)) ∷ markedIn f 3 strictlyBelow (between f) (n f (pos 5))
+    ∷ markedIn f 1 strictlyBelow (between f) (reach f) ∷ markedIn f 2 belowOrEqual (between f) (reach f)
+    ∷ markedIn f 1 belowOrEqual (n f (pos 100)) (n f (pos 1)) ∷ [])
+    ≡ (record { best = hitAtX f 0 2 (pos 1) (level f) ∷ []; measured = 2 }
+    ∷ record { best = hitAtX f 0 2 (pos 1) (level f) ∷ hitAtX f 1 1 (pos 10) (level f) ∷ marker (n f (pos 25)) ∷ []; measured = 2 }
+    ∷ record { best = marker (level f) ∷ []; measured = 0 }
+    ∷ record { best = hitAtX f 0 2 (pos 1) (level f) ∷ hitAtX f 1 1 (pos 10) (level f) ∷ []; measured = 2 }
+    ∷ record { best = marker (n f (pos 1)) ∷ []; measured = 0 } ∷ [])
 unfolding add sub mul div lt le eq round ofInt minus plus scale dot smallest largest isUnder isFinite plusZero squaredDistance union withExcess
     withOutside boxSquared containsPoint heldIn heldSquared boxOf dots crossed part along facePoint pointOn closestSpot partNumber heldSpot
     numberAt pointAt triangleAt boxAt triangleCount numbers nodeCount joinedTo joined boxOver rootFrom linksFrom boxesOf range tookAll nodeWalk
-    pairWalk rootWalk fold limitSquared counts offered isSkipped hit tookSure scan nodeSquared skippedSure rightNearer sureWalk sourceHit keepSmaller
-    tookSource enters sourceWalk sureAnswer sourceAnswer kept markedWalk
+    pairWalk rootWalk fold limitSquared counts hit inserted offeredTo aboveLast offeredFew isSkipped tookFew nodeSquared skippedFew rightNearer
+    fewWalk markers markedWalk
 marked-worked binary32 = refl
 marked-worked binary64 = refl
+
+-- a place that is a triangle's is answered, and one that is still a marker's is nothing
+pub unmarked-worked : (unmarked (hitAtX binary32 3 2 (pos 1) (level binary32)) ∷ unmarked (marker (level binary32)) ∷ [])
+    ≡ (foundAt binary32 3 2 (pos 1) (level binary32) ∷ nothing ∷ [])
+unfolding unmarked
+unmarked-worked = refl
 
 -- an answer's numbers: found, triangle, the bits of (1,0,0) and of 20.25, part; and nothing
 pub words-worked : (wordsOf binary32 (foundAt binary32 3 2 (pos 1) (level binary32)) ∷ wordsOf binary32 nothing ∷ [])
@@ -154,15 +193,22 @@ pub rule-refusals-worked : (ruleRefusal 0 ∷ ruleRefusal 1 ∷ ruleRefusal 2 �
 unfolding ruleRefusal
 rule-refusals-worked = refl
 
--- 5 comes behind the triangles' tests and before the room's, and the source query has none: one point and no room, under no rule
+-- and of so many answers as none may ask for
+pub most-refusals-worked : (mostRefusal 0 ∷ mostRefusal 1 ∷ mostRefusal 16 ∷ mostRefusal 17 ∷ []) ≡ (refused 5 0 ∷ passes ∷ passes ∷ refused 5 0 ∷ [])
+unfolding mostRefusal
+most-refusals-worked = refl
+
+-- 5 comes behind the triangles' tests and before the room's, and the source query has none: one point and no room, under no rule, then for none and for
+-- 17; and with room for one answer of the two that are asked for
 pub query-refusals-worked : (f : Format)
-    → (queryRefusal (sure 3) [] [] [] [] 0 (n f (pos 0) ∷ n f (pos 0) ∷ n f (pos 0) ∷ []) (n f (pos 1)) 0
-    ∷ queryRefusal (sure 3) (t0 f) [] [] [] 0 (n f (pos 0) ∷ n f (pos 0) ∷ n f (pos 0) ∷ []) (n f (pos 1)) 0
-    ∷ queryRefusal (sure 2) (t0 f) [] [] [] 0 (n f (pos 0) ∷ n f (pos 0) ∷ n f (pos 0) ∷ []) (n f (pos 1)) 0
-    ∷ queryRefusal source (t0 f) [] [] [] 0 (n f (pos 0) ∷ n f (pos 0) ∷ n f (pos 0) ∷ []) (n f (pos 1)) 0 ∷ [])
-    ≡ (refused 2 0 ∷ refused 5 0 ∷ refused 6 0 ∷ refused 6 0 ∷ [])
+    → (refusedAt f (sure 3) [] 0 ∷ refusedAt f (sure 3) (t0 f) 0 ∷ refusedAt f (sure 2) (t0 f) 0 ∷ refusedAt f source (t0 f) 0
+    ∷ refusedAt f (few 3 2) (t0 f) 0 ∷ refusedAt f (few 2 0) (t0 f) 0 ∷ refusedAt f (few 2 17) (t0 f) 0 ∷ refusedAt f (few 2 2) (t0 f) 13
+    ∷ refusedAt f (few 2 2) (t0 f) 14 ∷ [])
+    ≡ (refused 2 0 ∷ refused 5 0 ∷ refused 6 0 ∷ refused 6 0 ∷ refused 5 0 ∷ refused 5 0 ∷ refused 5 0 ∷ refused 6 0 ∷ refused 71 0 ∷ [])
 unfolding lt le eq round ofInt triangleCount pointCount firstRefusal isCoordinate firstBad raggedRefusal noneRefusal tooManyRefusal coordinateRefusal
-    trianglesRefusal roomRefusal ruleRefusal queryRefusal
+    trianglesRefusal roomRefusal ruleRefusal mostRefusal queryRefusal treeRefusal reason orderRefusal failingFrom refusedWhere isNew occurs
+    numberAt pointAt triangleAt boxAt smallest largest isUnder plusZero union boxOf sameBox present countRefusal scanLeaf Reasons.scan listingRefusal
+    levelUnder isShallow depthRefusal isBoxed boxRefusal
 query-refusals-worked binary32 = refl
 query-refusals-worked binary64 = refl
 

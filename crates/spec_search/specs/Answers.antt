@@ -6,9 +6,11 @@ use lib.Ieee.{Float, Format, toBits}
 use Rattle.spec_shapes.specs.Points.{Point, squaredDistance}
 use Rattle.spec_shapes.specs.Triangles.{Spot, partNumber}
 
--- the query that was added, with the number of its measuring rule, or the one that is carried over, which has none
+-- the query that was added, with the number of its measuring rule; the same for so many answers a point; or the one that is carried over, which has
+-- no rule
 pub data Query : Type 0 where
   sure : (rule : ℕ) → Query
+  few : (rule most : ℕ) → Query
   source : Query
 
 pub record Hit : Type 0 where
@@ -17,6 +19,12 @@ pub record Hit : Type 0 where
   pub triangle : ℕ
   -- its number: 0 face, 1 to 3 corners a, b, c, 4 to 6 edges ab, ac, bc
   pub part : ℕ
+
+abbrev pub squaredOf : Hit → Float
+squaredOf h = h .squared
+
+abbrev pub numberOf : Hit → ℕ
+numberOf h = h .triangle
 
 -- what is measured from p of triangle t, at a spot of it
 abbrev pub hitAt : Format → Spot → Point → ℕ → Hit

@@ -1,7 +1,9 @@
 pub mod Answers
 pub mod Rules
 pub mod Walk
+pub mod Ranked
 pub mod Sure
+pub mod Few
 pub mod Nearest
 pub mod Source
 pub mod Safe

@@ -12,7 +12,6 @@ use Rattle.spec_lists.specs.Reading.{triangleAt}
 use Rattle.spec_tree.specs.Trees.{nodeBox}
 use Rattle.spec_search.specs.Answers.{Hit, hitAt, Answer, nothing, found}
 use Rattle.spec_search.specs.Walk.{Search, Sought, rootWalk}
-use Rattle.spec_search.specs.Sure.{atFirst}
 
 -- the smallest squared distance so far: infinite before anything is found
 abbrev pub smallest : Answer → Float
@@ -37,6 +36,10 @@ enters f boxes p limit node = containsPoint (nodeBox boxes node) p || lt (boxSqu
 abbrev pub sourceSearch : Format → List Float → List Float → Point → Float → Search Answer
 sourceSearch f triangles boxes p limit =
     record { skipped = λ node k. not (enters f boxes p limit node); rightFirst = λ l r. true; took = tookSource f triangles p }
+
+-- before anything is measured
+abbrev pub atFirst : Sought Answer
+atFirst = record { best = nothing; measured = 0 }
 
 unfoldable pub sourceWalk : Format → List Float → List ℕ → List ℕ → List Float → ℕ → Point → Float → Sought Answer
 sourceWalk f triangles order links boxes nodes p limit = rootWalk (sourceSearch f triangles boxes p limit) order links (deepest - 1) (nodes - 1) atFirst

@@ -26,7 +26,7 @@ pub record Passing (rule : ℕ) (triangles : List Float) (distance : Float) : Ty
 -- what it answers at a point
 abbrev pub answerOf : {rule : ℕ} {triangles : List Float} {distance : Float} → Format → Passing rule triangles distance → Point → Answer
 answerOf {rule} {triangles} {distance} f query p =
-    answerBy f (sure rule) triangles (query .order) (query .links) (query .boxes) (query .nodes) distance p
+    answerBy f (sure rule) triangles (query .order) (query .links) (query .boxes) (query .nodes) distance p 0
 
 -- ---- a wider search
 -- what counts by the one limit counts by the other

@@ -31,7 +31,7 @@ module _ {A : Type 0} (f : ℕ → List A) (w at n : ℕ) (old : List A) where
       omega arith
 
   -- turn: the next piece is written behind the others
-  run-more : (out now : List A) (i : ℕ) → ((j : ℕ) → length (f j) ≡ w) → at + w * n ≤ length old → i < n → Run f at n old out i
+  pub run-more : (out now : List A) (i : ℕ) → ((j : ℕ) → length (f j) ≡ w) → at + w * n ≤ length old → i < n → Run f at n old out i
       → now ≡ overwrite (at + w * i) (f i) out → Run f at n old now (i + 1)
   run-more out now i sized room l r e =
       let here : length (f i) ≡ w = sized i in
