@@ -1,1 +1,4 @@
 pub mod Unique
+pub mod Counting
+pub mod Slots
+pub mod Reached

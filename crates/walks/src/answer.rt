@@ -1,13 +1,15 @@
 // What a walk is given, and what it answers; which query is made.
 use shapes::vec3::Vec3;
 
-// The query that was added, with the number of its measuring rule, or the one that is carried over, which has none.
+// The query that was added, with the number of its measuring rule; the same for so many answers a point; or the one that is carried over, which has no
+// rule.
 pub enum Query {
     Sure { rule: u32 },
+    Few { rule: u32, most: u32 },
     Source,
 }
 
-// Which point of a triangle is measured: the sure query's, or the source's.
+// Which point of a triangle is measured: the sure walk's, or the source's.
 pub enum Measures {
     Held,
     Computed,

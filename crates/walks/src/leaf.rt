@@ -1,4 +1,5 @@
-// Measures the triangles of a leaf one after another, for both queries: the sure query keeps held points, the source query the computed ones.
+// Measures the triangles of a leaf one after another, for both walks: the sure one keeps held points, the source's the computed ones. One function for
+// both, since the closest point is laid out in the leaf's loop only if it is called from one place.
 ghost use mathlib.Core.Path.{_≡_};
 ghost use Prim.Native.Nat.{_+_, _-_, _*_, _^_, _≤_, _<_};
 ghost use lib.ListN.{length};
@@ -9,13 +10,15 @@ ghost use Rattle.spec_tables.specs.Tables as Tables;
 ghost use Rattle.spec_tree.specs.Order as Order;
 ghost use Rattle.spec_search.specs.Answers as Answers;
 ghost use Rattle.spec_search.specs.Walk as Walk;
-ghost use Rattle.spec_search.specs.Kept as Kept;
+ghost use Rattle.walks.specs.Places as Places;
 ghost use Rattle.walks.specs.Values as Values;
 use crate::answer::Hit;
 use crate::answer::Measures;
 use crate::kept::keep_smaller;
-use crate::kept::offer;
 use crate::kept::point_of;
+use crate::places::BEST;
+use crate::places::WHICH;
+use crate::places::offer;
 use lists::reading::triangle_at;
 use shapes::triangle3::Spot;
 use shapes::vec3::Vec3;
@@ -35,19 +38,21 @@ fn hit_at(spot: Spot, p: Vec3, t: u32) -> Hit
     }
 }
 
-// Measures one triangle and keeps its point where the query keeps it.
+// Measures one triangle and keeps its point where the walk keeps it.
 fn measure(
     triangles: &[f32],
     t: u32,
     probe: &[f32; 4],
     measures: Measures,
-    best: &mut [f32; 4],
-    which: &mut [u32; 2],
+    best: &mut [f32; BEST],
+    which: &mut [u32; WHICH],
 )
     requires { ⌜ 9 * t + 9 ≤ length (now triangles) ⌝ }
-    ensures { λ _. ⌜ Kept.kept (Values.hitOf (now (best .exit)) (now (which .exit)))
-        ≡ Kept.tookBy (Values.asMeasures measures) binary32 (now (triangles .entry)) (Values.pointOf (now (probe .entry)))
-        (Values.fourthOf (now (probe .entry))) t (Kept.kept (Values.hitOf (now (best .entry)) (now (which .entry)))) ⌝ }
+    requires { ⌜ Places.Ready measures (now best) (now which) ⌝ }
+    ensures { λ _. ⌜ Places.Holds measures (now (best .exit)) (now (which .exit)) (Places.mostOf (now (which .entry)))
+        (Places.tookBy measures binary32 (now (triangles .entry)) (Values.pointOf (now (probe .entry))) (Values.fourthOf (now (probe .entry)))
+        (Places.mostOf (now (which .entry))) t
+        (Places.keptIn measures (now (best .entry)) (now (which .entry)))) ⌝ }
 {
     let p = point_of(probe);
     let triangle = triangle_at(triangles, wide(t));
@@ -74,14 +79,16 @@ fn measure_slice(
     probe: &[f32; 4],
     measures: Measures,
     measured: usize,
-    best: &mut [f32; 4],
-    which: &mut [u32; 2],
+    best: &mut [f32; BEST],
+    which: &mut [u32; WHICH],
 ) -> usize
     requires { ⌜ Order.EntriesBelow (Reading.triangleCount (now triangles)) (now slice) ⌝ }
     requires { ⌜ measured + length (now slice) < 2 ^ 64 ⌝ }
-    ensures { λ r. ⌜ Values.soughtOf (now (best .exit)) (now (which .exit)) r
-        ≡ Walk.tookAll (Kept.tookBy (Values.asMeasures measures) binary32 (now (triangles .entry)) (Values.pointOf (now (probe .entry)))
-        (Values.fourthOf (now (probe .entry)))) (now (slice .entry)) (Values.soughtOf (now (best .entry)) (now (which .entry)) measured) ⌝ }
+    requires { ⌜ Places.Ready measures (now best) (now which) ⌝ }
+    ensures { λ r. ⌜ Places.Reached measures (now (best .exit)) (now (which .exit)) r (Places.mostOf (now (which .entry)))
+        (Walk.tookAll (Places.tookBy measures binary32 (now (triangles .entry)) (Values.pointOf (now (probe .entry))) (Values.fourthOf (now (probe .entry)))
+        (Places.mostOf (now (which .entry))))
+        (now (slice .entry)) (Places.soughtOf measures (now (best .entry)) (now (which .entry)) measured)) ⌝ }
 {
     let mut i = 0;
     while i < slice.len() {
@@ -100,16 +107,17 @@ pub fn measure_leaf(
     probe: &[f32; 4],
     measures: Measures,
     measured: usize,
-    best: &mut [f32; 4],
-    which: &mut [u32; 2],
+    best: &mut [f32; BEST],
+    which: &mut [u32; WHICH],
 ) -> usize
     requires { ⌜ Order.EntriesBelow (Reading.triangleCount (now triangles)) (now order) ⌝ }
     requires { ⌜ (first ≤ last) × (last ≤ length (now order)) ⌝ }
     requires { ⌜ measured + (last - first) < 2 ^ 64 ⌝ }
-    ensures { λ r. ⌜ Values.soughtOf (now (best .exit)) (now (which .exit)) r
-        ≡ Walk.tookAll (Kept.tookBy (Values.asMeasures measures) binary32 (now (triangles .entry)) (Values.pointOf (now (probe .entry)))
-        (Values.fourthOf (now (probe .entry)))) (Tables.slice (now (order .entry)) first (last - first))
-        (Values.soughtOf (now (best .entry)) (now (which .entry)) measured) ⌝ }
+    requires { ⌜ Places.Ready measures (now best) (now which) ⌝ }
+    ensures { λ r. ⌜ Places.Reached measures (now (best .exit)) (now (which .exit)) r (Places.mostOf (now (which .entry)))
+        (Walk.tookAll (Places.tookBy measures binary32 (now (triangles .entry)) (Values.pointOf (now (probe .entry))) (Values.fourthOf (now (probe .entry)))
+        (Places.mostOf (now (which .entry))))
+        (Tables.slice (now (order .entry)) first (last - first)) (Places.soughtOf measures (now (best .entry)) (now (which .entry)) measured)) ⌝ }
 {
     measure_slice(
         triangles,

@@ -9,6 +9,8 @@ ghost use Rattle.spec_search.specs.Walk as Walk;
 ghost use Rattle.spec_search.specs.Source as Source;
 ghost use Rattle.spec_search.specs.Safe as Safe;
 ghost use Rattle.spec_search.specs.Calls as Calls;
+ghost use Rattle.walks.specs.declared.answer.Measures.the-variants.{Computed};
+ghost use Rattle.walks.specs.Places as Places;
 ghost use Rattle.walks.specs.Values as Values;
 use crate::answer::Measures;
 use crate::answer::Probe;
@@ -17,6 +19,8 @@ use crate::kept::answer_of;
 use crate::kept::point_of;
 use crate::leaf::measure_leaf;
 use crate::links::links_of;
+use crate::places::BEST;
+use crate::places::WHICH;
 use lists::limits;
 use tree::nodes::node_box;
 
@@ -40,13 +44,15 @@ pub fn look(
     depth: usize,
     node: usize,
     measured: usize,
-    best: &mut [f32; 4],
-    which: &mut [u32; 2],
+    best: &mut [f32; BEST],
+    which: &mut [u32; WHICH],
 ) -> usize
     requires { ⌜ Safe.NodeSafe (now triangles) (now order) (now links) (now boxes) depth node measured ⌝ }
-    ensures { λ r. ⌜ Values.soughtOf (now (best .exit)) (now (which .exit)) r
-        ≡ Walk.rootWalk (Source.sourceSearch binary32 (now (triangles .entry)) (now (boxes .entry)) (Values.pointOf (now (probe .entry))) (Values.fourthOf
-        (now (probe .entry)))) (now (order .entry)) (now (links .entry)) depth node (Values.soughtOf (now (best .entry)) (now (which .entry)) measured) ⌝ }
+    requires { ⌜ Places.Lent (now best) (now which) ⌝ }
+    ensures { λ r. ⌜ Places.Reached Computed (now (best .exit)) (now (which .exit)) r (Places.mostOf (now (which .entry)))
+        (Walk.rootWalk (Source.sourceSearch binary32 (now (triangles .entry)) (now (boxes .entry)) (Values.pointOf (now (probe .entry)))
+        (Values.fourthOf (now (probe .entry)))) (now (order .entry)) (now (links .entry)) depth node
+        (Places.soughtOf Computed (now (best .entry)) (now (which .entry)) measured)) ⌝ }
 {
     let here = links_of(links, node);
     if here.kind == 1 {
@@ -99,13 +105,15 @@ pub fn look_if_entered(
     depth: usize,
     node: usize,
     measured: usize,
-    best: &mut [f32; 4],
-    which: &mut [u32; 2],
+    best: &mut [f32; BEST],
+    which: &mut [u32; WHICH],
 ) -> usize
     requires { ⌜ Safe.NodeSafe (now triangles) (now order) (now links) (now boxes) depth node measured ⌝ }
-    ensures { λ r. ⌜ Values.soughtOf (now (best .exit)) (now (which .exit)) r
-        ≡ Walk.nodeWalk (Source.sourceSearch binary32 (now (triangles .entry)) (now (boxes .entry)) (Values.pointOf (now (probe .entry))) (Values.fourthOf
-        (now (probe .entry)))) (now (order .entry)) (now (links .entry)) depth node (Values.soughtOf (now (best .entry)) (now (which .entry)) measured) ⌝ }
+    requires { ⌜ Places.Lent (now best) (now which) ⌝ }
+    ensures { λ r. ⌜ Places.Reached Computed (now (best .exit)) (now (which .exit)) r (Places.mostOf (now (which .entry)))
+        (Walk.nodeWalk (Source.sourceSearch binary32 (now (triangles .entry)) (now (boxes .entry)) (Values.pointOf (now (probe .entry)))
+        (Values.fourthOf (now (probe .entry)))) (now (order .entry)) (now (links .entry)) depth node
+        (Places.soughtOf Computed (now (best .entry)) (now (which .entry)) measured)) ⌝ }
 {
     if does_enter(boxes, node, probe) {
         return look(
@@ -139,8 +147,8 @@ pub fn search(
         (Shapes.asPoint (probe .point)) (probe .limit) ⌝ }
 {
     let four = [probe.point.x, probe.point.y, probe.point.z, probe.limit];
-    let mut best = [0.0, 0.0, 0.0, 1.0 / 0.0];
-    let mut which = [0u32; 2];
+    let mut best = [1.0 / 0.0; BEST];
+    let mut which = [0u32; WHICH];
     let measured = look(
         triangles,
         order,

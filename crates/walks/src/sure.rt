@@ -1,6 +1,7 @@
-// The sure query's walk: the nearer child first. A box is skipped where it does not count or is above the best so far.
-// The probe is lent as four numbers, the point and the limit. The walk knows no rule, and keeps what is strictly below the limit. By the second rule it
-// starts from a marker, a hit at the limit squared under a number that no triangle has: whatever counts is nearer. So a box costs no test of the rule.
+// The walk for the nearest few, of which the sure query asks for one: the nearer child first. A box is skipped where it does not count or is above the
+// last place. The probe is lent as four numbers, the point and the limit. The walk knows no rule, and keeps what is strictly below the limit. All places
+// start as markers, hits at the limit squared under a number that no triangle has: whatever counts goes before them. So a box costs no test of the rule,
+// nor of how many places are filled.
 // Each list is lent by a reference to it: that is one word, handed on as it is, where a list's own reference is copied at each call.
 ghost use mathlib.Core.Path.{_≡_};
 ghost use mathlib.Core.Bool.{true, false};
@@ -10,28 +11,29 @@ ghost use lib.ListN.{length};
 ghost use Rattle.shapes.specs.Values as Shapes;
 ghost use Rattle.spec_search.specs.Walk as Walk;
 ghost use Rattle.spec_search.specs.Rules as Rules;
-ghost use Rattle.spec_search.specs.Sure as Sure;
-ghost use Rattle.spec_search.specs.Kept as Kept;
+ghost use Rattle.spec_search.specs.Few as Few;
 ghost use Rattle.spec_search.specs.Marked as Marked;
 ghost use Rattle.spec_search.specs.Safe as Safe;
 ghost use Rattle.spec_search.specs.Calls as Calls;
+ghost use Rattle.walks.specs.declared.answer.Measures.the-variants.{Held};
+ghost use Rattle.walks.specs.Places as Places;
 ghost use Rattle.walks.specs.Values as Values;
 use crate::answer::Measures;
 use crate::answer::Probe;
-use crate::answer::Sought;
-use crate::kept::NO_TRIANGLE;
-use crate::kept::is_skipped;
 use crate::kept::point_of;
-use crate::kept::unmarked_answer;
 use crate::leaf::measure_leaf;
 use crate::links::links_of;
+use crate::places::BEST;
+use crate::places::WHICH;
+use crate::places::is_skipped;
+use crate::places::start;
 use lists::limits;
 use tree::nodes::node_box;
 
 // The squared distance from the point to a node's box.
 fn node_squared(boxes: &[f32], node: usize, probe: &[f32; 4]) -> f32
     requires { ⌜ 6 * node + 6 ≤ length (now boxes) ⌝ }
-    ensures { λ r. ⌜ r ≡ Sure.nodeSquared binary32 (now (boxes .entry)) (Values.pointOf (now (probe .entry))) node ⌝ }
+    ensures { λ r. ⌜ r ≡ Few.nodeSquared binary32 (now (boxes .entry)) (Values.pointOf (now (probe .entry))) node ⌝ }
 {
     node_box(boxes, node).held_squared(point_of(probe))
 }
@@ -47,15 +49,16 @@ pub fn node_walk(
     node: usize,
     squared: f32,
     measured: usize,
-    best: &mut [f32; 4],
-    which: &mut [u32; 2],
+    best: &mut [f32; BEST],
+    which: &mut [u32; WHICH],
 ) -> usize
     requires { ⌜ Safe.NodeSafe (now (now triangles)) (now (now order)) (now (now links)) (now (now boxes)) depth node measured ⌝ }
-    requires { ⌜ squared ≡ Sure.nodeSquared binary32 (now (now boxes)) (Values.pointOf (now probe)) node ⌝ }
-    ensures { λ r. ⌜ Values.soughtOf (now (best .exit)) (now (which .exit)) r
-        ≡ Walk.nodeWalk (Sure.sureSearch binary32 (now (now (triangles .entry))) (now (now (boxes .entry))) (Values.pointOf (now (probe .entry)))
-        (Kept.below (Values.fourthOf (now (probe .entry))))) (now (now (order .entry))) (now (now (links .entry))) depth node
-        (Values.soughtOf (now (best .entry)) (now (which .entry)) measured) ⌝ }
+    requires { ⌜ squared ≡ Few.nodeSquared binary32 (now (now boxes)) (Values.pointOf (now probe)) node ⌝ }
+    requires { ⌜ Places.Sound (now best) (now which) ⌝ }
+    ensures { λ r. ⌜ Places.Reached Held (now (best .exit)) (now (which .exit)) r (Places.mostOf (now (which .entry)))
+        (Walk.nodeWalk (Few.fewSearch binary32 (now (now (triangles .entry))) (now (now (boxes .entry))) (Values.pointOf (now (probe .entry)))
+        (Places.mostOf (now (which .entry))) (Marked.below (Values.fourthOf (now (probe .entry))))) (now (now (order .entry))) (now (now (links .entry)))
+        depth node (Places.soughtOf Held (now (best .entry)) (now (which .entry)) measured)) ⌝ }
 {
     if is_skipped(probe[3], squared, best, which) {
         return measured;
@@ -102,14 +105,15 @@ pub fn pair_walk(
     left: usize,
     right: usize,
     measured: usize,
-    best: &mut [f32; 4],
-    which: &mut [u32; 2],
+    best: &mut [f32; BEST],
+    which: &mut [u32; WHICH],
 ) -> usize
     requires { ⌜ Safe.PairSafe (now (now triangles)) (now (now order)) (now (now links)) (now (now boxes)) depth left right measured ⌝ }
-    ensures { λ r. ⌜ Values.soughtOf (now (best .exit)) (now (which .exit)) r
-        ≡ Walk.pairWalk (Sure.sureSearch binary32 (now (now (triangles .entry))) (now (now (boxes .entry))) (Values.pointOf (now (probe .entry)))
-        (Kept.below (Values.fourthOf (now (probe .entry))))) (now (now (order .entry))) (now (now (links .entry))) depth left right
-        (Values.soughtOf (now (best .entry)) (now (which .entry)) measured) ⌝ }
+    requires { ⌜ Places.Sound (now best) (now which) ⌝ }
+    ensures { λ r. ⌜ Places.Reached Held (now (best .exit)) (now (which .exit)) r (Places.mostOf (now (which .entry)))
+        (Walk.pairWalk (Few.fewSearch binary32 (now (now (triangles .entry))) (now (now (boxes .entry))) (Values.pointOf (now (probe .entry)))
+        (Places.mostOf (now (which .entry))) (Marked.below (Values.fourthOf (now (probe .entry))))) (now (now (order .entry))) (now (now (links .entry)))
+        depth left right (Places.soughtOf Held (now (best .entry)) (now (which .entry)) measured)) ⌝ }
 {
     let to_left = node_squared(*boxes, left, probe);
     let to_right = node_squared(*boxes, right, probe);
@@ -209,17 +213,7 @@ fn walk_limit(rule: u32, limit: f32) -> f32
     limit
 }
 
-// The squared distance that the walk starts from: by the first rule an infinite one, which stands for nothing.
-fn start_squared(rule: u32, limit: f32) -> f32
-    ensures { λ r. ⌜ r ≡ Marked.startSquared (Rules.ruleOf rule) limit ⌝ }
-{
-    if rule == 2 {
-        return limit;
-    }
-    1.0 / 0.0
-}
-
-// The whole walk from the root, which is the last node, by the rule.
+// The whole walk from the root, which is the last node, by the rule, for so many places. Answers how many triangles were measured.
 pub fn search(
     triangles: &[f32],
     order: &[u32],
@@ -228,12 +222,17 @@ pub fn search(
     nodes: usize,
     probe: Probe,
     rule: u32,
-) -> Sought
+    most: usize,
+    best: &mut [f32; BEST],
+    which: &mut [u32; WHICH],
+) -> usize
     requires { ⌜ Calls.Searchable (now triangles) (now order) (now links) (now boxes) nodes ⌝ }
     requires { ⌜ lt (probe .limit) (inf false) ≡ true ⌝ }
-    ensures { λ r. ⌜ Values.asSought r
-        ≡ Sure.sureWalk binary32 (now (triangles .entry)) (now (order .entry)) (now (links .entry)) (now (boxes .entry)) nodes (Shapes.asPoint (probe .point))
-        (record { rule = Rules.ruleOf rule; squared = probe .limit }) ⌝ }
+    requires { ⌜ (1 ≤ most) × (most ≤ Calls.mostFew) ⌝ }
+    requires { ⌜ Places.Lent (now best) (now which) ⌝ }
+    ensures { λ r. ⌜ Places.Reached Held (now (best .exit)) (now (which .exit)) r most (Marked.paddedIn most (probe .limit)
+        (Few.fewWalk binary32 (now (triangles .entry)) (now (order .entry)) (now (links .entry)) (now (boxes .entry)) nodes (Shapes.asPoint (probe .point)) most
+        (record { rule = Rules.ruleOf rule; squared = probe .limit }))) ⌝ }
 {
     let root = nodes - 1;
     let four = [
@@ -243,9 +242,8 @@ pub fn search(
         walk_limit(rule, probe.limit),
     ];
     let squared = node_squared(boxes, root, &four);
-    let mut best = [0.0, 0.0, 0.0, start_squared(rule, probe.limit)];
-    let mut which = [NO_TRIANGLE, 0];
-    let measured = node_walk(
+    start(most, probe.limit, best, which);
+    node_walk(
         &triangles,
         &order,
         &links,
@@ -255,12 +253,7 @@ pub fn search(
         root,
         squared,
         0,
-        &mut best,
-        &mut which,
-    );
-    let found = unmarked_answer(&best, &which);
-    Sought {
-        best: found,
-        measured,
-    }
+        best,
+        which,
+    )
 }

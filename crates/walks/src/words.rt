@@ -1,14 +1,21 @@
-// An answer as words in a lent list.
+// An answer, and the answers in the places, as words in a lent list.
 ghost use mathlib.Core.Path.{_≡_};
 ghost use mathlib.Core.List.{[], _∷_};
-ghost use Prim.Native.Nat.{_+_, _≤_};
+ghost use Prim.Native.Nat.{_+_, _*_, _≤_};
 ghost use lib.ListN.{length};
 ghost use lib.Ieee.{binary32};
 ghost use Rattle.spec_tables.specs.Tables as Tables;
 ghost use Rattle.spec_search.specs.Answers as Answers;
+ghost use Rattle.spec_search.specs.Calls as Calls;
+ghost use Rattle.walks.specs.Places as Places;
 ghost use Rattle.walks.specs.Values as Values;
 use crate::answer::Answer;
+use crate::places::BEST;
+use crate::places::MOST_AT;
+use crate::places::WHICH;
+use crate::places::answer_at;
 use floats::bits_of;
+use tree::nodes::wide;
 
 // How many words an answer takes.
 pub const ANSWER_WIDTH: usize = 7;
@@ -52,5 +59,21 @@ pub fn put_answer(out: &mut [u32], at: usize, answer: Answer)
             bits_of(squared),
             part,
         ),
+    }
+}
+
+// Writes the answers in all places, the nearest first, from index `at` on.
+pub fn put_places(out: &mut [u32], at: usize, best: &[f32; BEST], which: &[u32; WHICH])
+    requires { ⌜ Places.mostOf (now which) ≤ Calls.mostFew ⌝ }
+    requires { ⌜ at + Answers.answerWidth * Places.mostOf (now which) ≤ length (now out) ⌝ }
+    ensures { λ _. ⌜ now (out .exit)
+        ≡ Tables.overwrite at (Calls.pointWords binary32 (Places.mostOf (now (which .entry))) (Places.answerOf (now (best .entry)) (now (which .entry))))
+        (now (out .entry)) ⌝ }
+{
+    let most = wide(which[MOST_AT]);
+    let mut j = 0;
+    while j < most {
+        put_answer(out, at + ANSWER_WIDTH * j, answer_at(best, which, j));
+        j += 1;
     }
 }

@@ -7,7 +7,10 @@ use lib.Ieee.{binary32}
 use Rattle.spec_search.specs.Source.{sourceSearch}
 use Rattle.spec_search.proofs.Walked.{walk-skipped, walk-looked}
 use Rattle.spec_search.proofs.Steps.{hangs-there, leaf-needs, pair-needs, levels-remaining, root-leaf-answers, root-pair-answers, right-needs, then-left-needs, right-answers}
-use Rattle.walks.specs.Values.{pointOf, fourthOf, soughtOf}
+use Rattle.walks.specs.Values.{pointOf, fourthOf}
+use Rattle.walks.specs.declared.answer.Measures.the-variants.{Computed}
+use Rattle.walks.specs.Places.{soughtOf}
+use Rattle.walks.proofs.Reached.{reached-is, reached-on, reached-still, reached-then}
 use Prim.Native.Nat.{ℕ, _+_, _-_, _<_}
 use borrow.Fn.Kinds.{In}
 use borrow.Fn.PlainCycle.{Measures, is, falls, and}
@@ -60,7 +63,7 @@ look-links-of-requires : (t : ℕ) → look-lts.Need-links-of-requires (look-cal
 look-links-of-requires t c κs =
     let start = c .before .before .before .before in
     let a = start .args in
-    hangs-there (a .triangles .now) (a .order .now) (a .links .now) (a .boxes .now) (start .pre .1 .tree) (a .node) (start .pre .1 .hangs) .links-there
+    hangs-there (a .triangles .now) (a .order .now) (a .links .now) (a .boxes .now) (start .pre .1 .0 .tree) (a .node) (start .pre .1 .0 .hangs) .links-there
 
 look-measure-leaf-requires : (t : ℕ) → look-lts.Need-measure-leaf-requires (look-calls t) (look-at t) look.Post
 look-measure-leaf-requires t c κs =
@@ -69,8 +72,10 @@ look-measure-leaf-requires t c κs =
     let known3 = after-links-of .before .before in
     let start = known3 .before .before .before in
     let a = start .args in
+    let wanted =
     leaf-needs (a .triangles .now) (a .order .now) (a .links .now) (a .boxes .now) (a .depth) (a .node) (a .measured) _ _ _ (after-links-of .links-of .ensures)
-    (start .pre .1) (chosen .if1 .taken)
+    (start .pre .1 .0) (chosen .if1 .taken) in
+    (wanted .0, (wanted .1 .0, (wanted .1 .1, start .pre .1 .1)))
 
 look-returns : (t : ℕ) → look-lts.Need-returns (look-calls t) (look-at t) look.Post
 look-returns t c =
@@ -80,9 +85,10 @@ look-returns t c =
     let start = known3 .before .before .before in
     let a = start .args in
     let how = sourceSearch binary32 (a .triangles .now) (a .boxes .now) (pointOf (a .probe .now)) (fourthOf (a .probe .now)) in
-    let s = soughtOf (a .best .now) (a .which .now) (a .measured) in
-    root-leaf-answers (a .triangles .now) (a .order .now) (a .links .now) (a .boxes .now) (a .depth) (a .node) (a .measured) _ _ _
-    (after-links-of .links-of .ensures) (start .pre .1) how s _ (chosen .if1 .taken) (c .measure-leaf .ensures)
+    let s = soughtOf Computed (a .best .now) (a .which .now) (a .measured) in
+    reached-on (c .measure-leaf .ensures)
+    (root-leaf-answers (a .triangles .now) (a .order .now) (a .links .now) (a .boxes .now) (a .depth) (a .node) (a .measured) _ _ _
+    (after-links-of .links-of .ensures) (start .pre .1 .0) how s _ (chosen .if1 .taken) refl)
 
 look-sub-below : (t : ℕ) → look-lts.Need-sub-below (look-calls t) (look-at t) look.Post
 look-sub-below t c =
@@ -91,7 +97,7 @@ look-sub-below t c =
     let start = known3 .before .before .before in
     let a = start .args in
     levels-remaining (a .triangles .now) (a .order .now) (a .links .now) (a .boxes .now) (a .depth) (a .node) (a .measured) _ _ _
-    (after-links-of .links-of .ensures) (start .pre .1) (c .if1 .left)
+    (after-links-of .links-of .ensures) (start .pre .1 .0) (c .if1 .left)
 
 look-look-if-entered-requires : (t : ℕ) → look-lts.Need-look-if-entered-requires (look-calls t) (look-at t) look.Post
 look-look-if-entered-requires t c κs =
@@ -101,10 +107,13 @@ look-look-if-entered-requires t c κs =
     let start = known3 .before .before .before in
     let a = start .args in (
       falls-in (a .depth) t (levels-remaining (a .triangles .now) (a .order .now) (a .links .now) (a .boxes .now) (a .depth) (a .node) (a .measured) _ _ _
-          (after-links-of .links-of .ensures) (start .pre .1) (chosen .if1 .left)) (start .pre .0),
-      right-needs (a .triangles .now) (a .order .now) (a .links .now) (a .boxes .now) (a .depth - 1) _ _ (a .measured)
-          (pair-needs (a .triangles .now) (a .order .now) (a .links .now) (a .boxes .now) (a .depth) (a .node) (a .measured) _ _ _
-          (after-links-of .links-of .ensures) (start .pre .1) (chosen .if1 .left)),
+          (after-links-of .links-of .ensures) (start .pre .1 .0) (chosen .if1 .left)) (start .pre .0),
+      (
+        right-needs (a .triangles .now) (a .order .now) (a .links .now) (a .boxes .now) (a .depth - 1) _ _ (a .measured)
+            (pair-needs (a .triangles .now) (a .order .now) (a .links .now) (a .boxes .now) (a .depth) (a .node) (a .measured) _ _ _
+            (after-links-of .links-of .ensures) (start .pre .1 .0) (chosen .if1 .left)),
+        start .pre .1 .1,
+      ),
     )
 
 look-look-if-entered-requires-2 : (t : ℕ) → look-lts.Need-look-if-entered-requires-2 (look-calls t) (look-at t) look.Post
@@ -116,12 +125,16 @@ look-look-if-entered-requires-2 t c κs =
     let start = known3 .before .before .before in
     let a = start .args in
     let how = sourceSearch binary32 (a .triangles .now) (a .boxes .now) (pointOf (a .probe .now)) (fourthOf (a .probe .now)) in
-    let s = soughtOf (a .best .now) (a .which .now) (a .measured) in (
+    let s = soughtOf Computed (a .best .now) (a .which .now) (a .measured) in (
       falls-in (a .depth) t (levels-remaining (a .triangles .now) (a .order .now) (a .links .now) (a .boxes .now) (a .depth) (a .node) (a .measured) _ _ _
-          (after-links-of .links-of .ensures) (start .pre .1) (chosen .if1 .left)) (start .pre .0),
-      then-left-needs (a .triangles .now) (a .order .now) (a .links .now) (a .boxes .now) (a .depth - 1) _ _ (a .measured)
-          (pair-needs (a .triangles .now) (a .order .now) (a .links .now) (a .boxes .now) (a .depth) (a .node) (a .measured) _ _ _
-          (after-links-of .links-of .ensures) (start .pre .1) (chosen .if1 .left)) how s _ refl (after-look-if-entered .look-if-entered .ensures),
+          (after-links-of .links-of .ensures) (start .pre .1 .0) (chosen .if1 .left)) (start .pre .0),
+      (
+        then-left-needs (a .triangles .now) (a .order .now) (a .links .now) (a .boxes .now) (a .depth - 1) _ _ (a .measured)
+            (pair-needs (a .triangles .now) (a .order .now) (a .links .now) (a .boxes .now) (a .depth) (a .node) (a .measured) _ _ _
+            (after-links-of .links-of .ensures) (start .pre .1 .0) (chosen .if1 .left)) how s _ refl
+            (reached-is (after-look-if-entered .look-if-entered .ensures)),
+        after-look-if-entered .look-if-entered .ensures .holds .lent,
+      ),
     )
 
 look-returns-2 : (t : ℕ) → look-lts.Need-returns-2 (look-calls t) (look-at t) look.Post
@@ -133,25 +146,27 @@ look-returns-2 t c =
     let start = known3 .before .before .before in
     let a = start .args in
     let how = sourceSearch binary32 (a .triangles .now) (a .boxes .now) (pointOf (a .probe .now)) (fourthOf (a .probe .now)) in
-    let s = soughtOf (a .best .now) (a .which .now) (a .measured) in
-    root-pair-answers (a .triangles .now) (a .order .now) (a .links .now) (a .boxes .now) (a .depth) (a .node) (a .measured) _ _ _
-    (after-links-of .links-of .ensures) (start .pre .1) how s _ (chosen .if1 .left)
-    (right-answers how (a .order .now) (a .links .now) (a .depth - 1) _ _ s _ _ refl (after-look-if-entered .look-if-entered .ensures)
+    let s = soughtOf Computed (a .best .now) (a .which .now) (a .measured) in
+    reached-on
+    (reached-then (λ most. how) (a .order .now) (a .links .now) (a .depth - 1) _ (after-look-if-entered .look-if-entered .ensures)
     (c .look-if-entered2 .ensures))
+    (root-pair-answers (a .triangles .now) (a .order .now) (a .links .now) (a .boxes .now) (a .depth) (a .node) (a .measured) _ _ _
+    (after-links-of .links-of .ensures) (start .pre .1 .0) how s _ (chosen .if1 .left)
+    (right-answers how (a .order .now) (a .links .now) (a .depth - 1) _ _ s _ _ refl refl refl))
 
 look-if-entered-does-enter-requires : (t : ℕ)
     → look-if-entered-lts.Need-does-enter-requires (look-if-entered-calls t) (look-if-entered-at t) look-if-entered.Post
 look-if-entered-does-enter-requires t c κs =
     let start = c .before .before .before .before in
     let a = start .args in
-    hangs-there (a .triangles .now) (a .order .now) (a .links .now) (a .boxes .now) (start .pre .1 .tree) (a .node) (start .pre .1 .hangs) .boxes-there
+    hangs-there (a .triangles .now) (a .order .now) (a .links .now) (a .boxes .now) (start .pre .1 .0 .tree) (a .node) (start .pre .1 .0 .hangs) .boxes-there
 
 look-if-entered-look-requires : (t : ℕ) → look-if-entered-lts.Need-look-requires (look-if-entered-calls t) (look-if-entered-at t) look-if-entered.Post
 look-if-entered-look-requires t c κs =
     let known4 = c .before .before .before .before in
     let start = known4 .before .before .before .before in
     let a = start .args in
-    (falls-out (a .depth) t (start .pre .0), start .pre .1)
+    (falls-out (a .depth) t (start .pre .0), (start .pre .1 .0, start .pre .1 .1))
 
 look-if-entered-returns : (t : ℕ) → look-if-entered-lts.Need-returns (look-if-entered-calls t) (look-if-entered-at t) look-if-entered.Post
 look-if-entered-returns t c =
@@ -161,9 +176,9 @@ look-if-entered-returns t c =
     let start = known3 .before .before .before in
     let a = start .args in
     let how = sourceSearch binary32 (a .triangles .now) (a .boxes .now) (pointOf (a .probe .now)) (fourthOf (a .probe .now)) in
-    let s = soughtOf (a .best .now) (a .which .now) (a .measured) in
-    c .look .ensures
-    ∙ walk-looked how (a .order .now) (a .links .now) (a .depth) (a .node) s (ap not (sym (after-does-enter .does-enter .ensures) ∙ chosen .if1 .taken))
+    let s = soughtOf Computed (a .best .now) (a .which .now) (a .measured) in
+    reached-on (c .look .ensures)
+    (walk-looked how (a .order .now) (a .links .now) (a .depth) (a .node) s (ap not (sym (after-does-enter .does-enter .ensures) ∙ chosen .if1 .taken)))
 
 look-if-entered-returns-2 : (t : ℕ) → look-if-entered-lts.Need-returns-2 (look-if-entered-calls t) (look-if-entered-at t) look-if-entered.Post
 look-if-entered-returns-2 t c =
@@ -171,8 +186,9 @@ look-if-entered-returns-2 t c =
     let start = known3 .before .before .before in
     let a = start .args in
     let how = sourceSearch binary32 (a .triangles .now) (a .boxes .now) (pointOf (a .probe .now)) (fourthOf (a .probe .now)) in
-    let s = soughtOf (a .best .now) (a .which .now) (a .measured) in
-    sym (walk-skipped how (a .order .now) (a .links .now) (a .depth) (a .node) s (ap not (sym (c .before .does-enter .ensures) ∙ c .if1 .left)))
+    let s = soughtOf Computed (a .best .now) (a .which .now) (a .measured) in
+    reached-on (reached-still Computed (a .measured) (start .pre .1 .1))
+    (sym (walk-skipped how (a .order .now) (a .links .now) (a .depth) (a .node) s (ap not (sym (c .before .does-enter .ensures) ∙ c .if1 .left))))
 
 pub +look+look-if-entered-spec : {M : Type 1} → statement M
 +look+look-if-entered-spec = close μ-look μ-look-if-entered (λ t. look-lts.spec (look-calls t)

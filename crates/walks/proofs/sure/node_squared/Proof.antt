@@ -1,5 +1,5 @@
 -- `walks::sure::node_squared` meets its contract: the node's box, measured.
-use Rattle.spec_search.specs.Sure.{nodeSquared}
+use Rattle.spec_search.specs.Few.{nodeSquared}
 use borrow.Author.Needs.{needs}
 use Rattle.walks.proofs.sure.node_squared.Statement.{statement}
 use Rattle.walks.proofs.sure.node_squared.Tie as tie
