@@ -1,4 +1,4 @@
-// The public queries, over any lists at all: an answer a point, or a refusal that changes nothing.
+// The public queries, over any lists at all: an answer a point or so many of them, or a refusal that changes nothing.
 ghost use mathlib.Core.Path.{_≡_};
 ghost use Prim.Native.Nat.{_*_, _≤_};
 ghost use lib.ListN.{length};
@@ -10,8 +10,10 @@ ghost use Rattle.spec_search.specs.Answers as Answers;
 ghost use Rattle.spec_search.specs.Rules as Rules;
 ghost use Rattle.spec_search.specs.Calls as Calls;
 ghost use Rattle.walks.specs.Values as Values;
-use crate::query::answer_at;
-use crate::rules::rule_refusal_by;
+use crate::query::few_at;
+use crate::query::source_at;
+use crate::rules::choice_refusal;
+use crate::rules::most_by;
 use lists::reading::point_at;
 use lists::tests::distance_refusal;
 use lists::tests::point_count;
@@ -20,9 +22,13 @@ use lists::tests::triangles_refusal;
 use lists::verdict::Verdict;
 use lists::verdict::room_refusal;
 use tree::calls::tree_refusal;
+use tree::nodes::wide;
 use walks::answer::Query;
+use walks::places::BEST;
+use walks::places::WHICH;
 use walks::words::ANSWER_WIDTH;
 use walks::words::put_answer;
+use walks::words::put_places;
 
 // The first of the tests 1 to 6, 71 to 75, 8 and 9 that refuses.
 fn query_refusal(
@@ -44,13 +50,90 @@ fn query_refusal(
     if drawing.refuses() {
         return drawing;
     }
-    let early = rule_refusal_by(query).or(room_refusal(room / ANSWER_WIDTH, point_count(points)));
-    if early.refuses() {
-        return early;
+    let choice = choice_refusal(query);
+    if choice.refuses() {
+        return choice;
+    }
+    let answers = room / ANSWER_WIDTH;
+    let fits = room_refusal(answers / most_by(query), point_count(points));
+    if fits.refuses() {
+        return fits;
     }
     tree_refusal(triangles, order, links, boxes, nodes)
         .or(points_refusal(points))
         .or(distance_refusal(distance))
+}
+
+// Writes the nearest few at all points to the front of the list.
+fn put_few(
+    triangles: &[f32],
+    order: &[u32],
+    links: &[u32],
+    boxes: &[f32],
+    nodes: usize,
+    points: &[f32],
+    distance: f32,
+    rule: u32,
+    most: usize,
+    answers: &mut [u32],
+)
+    requires { ⌜ Calls.Askable (now triangles) (now order) (now links) (now boxes) nodes (now points) distance ⌝ }
+    requires { ⌜ (1 ≤ most) × (most ≤ Calls.mostFew) ⌝ }
+    requires { ⌜ (Answers.answerWidth * most) * Reading.pointCount (now points) ≤ length (now answers) ⌝ }
+    ensures { λ _. ⌜ now (answers .exit)
+        ≡ Tables.overwrite 0 (Calls.fewWords binary32 most (Calls.fewAnswer binary32 (Rules.ruleOf rule) most (now (triangles .entry)) distance)
+        (now (points .entry))) (now (answers .entry)) ⌝ }
+{
+    let count = point_count(points);
+    let width = ANSWER_WIDTH * most;
+    let mut best = [0.0; BEST];
+    let mut which = [0u32; WHICH];
+    let mut k: usize = 0;
+    while k < count {
+        let touched = point_at(points, 3 * k);
+        few_at(
+            triangles,
+            order,
+            links,
+            boxes,
+            nodes,
+            touched,
+            distance,
+            rule,
+            most,
+            &mut best,
+            &mut which,
+        );
+        put_places(answers, width * k, &best, &which);
+        k += 1;
+    }
+}
+
+// Writes the source's answers at all points to the front of the list.
+fn put_source(
+    triangles: &[f32],
+    order: &[u32],
+    links: &[u32],
+    boxes: &[f32],
+    nodes: usize,
+    points: &[f32],
+    distance: f32,
+    answers: &mut [u32],
+)
+    requires { ⌜ Calls.Askable (now triangles) (now order) (now links) (now boxes) nodes (now points) distance ⌝ }
+    requires { ⌜ Answers.answerWidth * Reading.pointCount (now points) ≤ length (now answers) ⌝ }
+    ensures { λ _. ⌜ now (answers .exit)
+        ≡ Tables.overwrite 0 (Calls.fewWords binary32 1 (λ p j. Calls.sourceAnswer binary32 (now (triangles .entry)) (now (order .entry))
+        (now (links .entry)) (now (boxes .entry)) nodes distance p) (now (points .entry))) (now (answers .entry)) ⌝ }
+{
+    let count = point_count(points);
+    let mut k = 0;
+    while k < count {
+        let p = point_at(points, 3 * k);
+        let answer = source_at(triangles, order, links, boxes, nodes, p, distance);
+        put_answer(answers, ANSWER_WIDTH * k, answer);
+        k += 1;
+    }
 }
 
 // Writes the answers at all points to the front of the list.
@@ -66,27 +149,54 @@ fn put_answers(
     answers: &mut [u32],
 )
     requires { ⌜ Calls.Askable (now triangles) (now order) (now links) (now boxes) nodes (now points) distance ⌝ }
-    requires { ⌜ Answers.answerWidth * Reading.pointCount (now points) ≤ length (now answers) ⌝ }
+    requires { ⌜ (Answers.answerWidth * Calls.mostBy (Values.asQuery query)) * Reading.pointCount (now points) ≤ length (now answers) ⌝ }
+    requires { ⌜ (1 ≤ Calls.mostBy (Values.asQuery query)) × (Calls.mostBy (Values.asQuery query) ≤ Calls.mostFew) ⌝ }
     ensures { λ _. ⌜ now (answers .exit)
-        ≡ Tables.overwrite 0 (Calls.answerWords binary32 (Calls.answerBy binary32 (Values.asQuery query) (now (triangles .entry)) (now (order .entry))
-        (now (links .entry)) (now (boxes .entry)) nodes distance) (now (points .entry))) (now (answers .entry)) ⌝ }
+        ≡ Tables.overwrite 0 (Calls.fewWords binary32 (Calls.mostBy (Values.asQuery query)) (Calls.answerBy binary32 (Values.asQuery query)
+        (now (triangles .entry)) (now (order .entry)) (now (links .entry)) (now (boxes .entry)) nodes distance) (now (points .entry)))
+        (now (answers .entry)) ⌝ }
 {
-    let count = point_count(points);
-    let mut k = 0;
-    while k < count {
-        let touched = point_at(points, 3 * k);
-        let answer = answer_at(
-            query,
-            triangles,
-            order,
-            links,
-            boxes,
-            nodes,
-            touched,
-            distance,
-        );
-        put_answer(answers, ANSWER_WIDTH * k, answer);
-        k += 1;
+    match query {
+        Query::Sure { rule } => {
+            put_few(
+                triangles,
+                order,
+                links,
+                boxes,
+                nodes,
+                points,
+                distance,
+                rule,
+                1,
+                answers,
+            );
+        }
+        Query::Few { rule, most } => {
+            put_few(
+                triangles,
+                order,
+                links,
+                boxes,
+                nodes,
+                points,
+                distance,
+                rule,
+                wide(most),
+                answers,
+            );
+        }
+        Query::Source => {
+            put_source(
+                triangles,
+                order,
+                links,
+                boxes,
+                nodes,
+                points,
+                distance,
+                answers,
+            );
+        }
     }
 }
 
@@ -106,8 +216,9 @@ fn ask(
         ≡ Calls.queryRefusal (Values.asQuery query) (now (triangles .entry)) (now (order .entry)) (now (links .entry)) (now (boxes .entry)) nodes
         (now (points .entry)) distance (length (now (answers .entry))) ⌝ }
     ensures answers { λ r. ⌜ now (answers .exit)
-        ≡ Calls.afterQuery binary32 (Calls.answerBy binary32 (Values.asQuery query) (now (triangles .entry)) (now (order .entry)) (now (links .entry))
-        (now (boxes .entry)) nodes distance) (now (points .entry)) (Verdicts.asVerdict r) (now (answers .entry)) ⌝ }
+        ≡ Calls.afterFew binary32 (Calls.mostBy (Values.asQuery query)) (Calls.answerBy binary32 (Values.asQuery query) (now (triangles .entry))
+        (now (order .entry)) (now (links .entry)) (now (boxes .entry)) nodes distance) (now (points .entry)) (Verdicts.asVerdict r)
+        (now (answers .entry)) ⌝ }
 {
     let verdict = query_refusal(
         query,
@@ -160,6 +271,41 @@ pub fn sure_query(
 {
     ask(
         Query::Sure { rule },
+        triangles,
+        order,
+        links,
+        boxes,
+        nodes,
+        points,
+        distance,
+        answers,
+    )
+}
+
+// For each point so many answers, 1 to 16: the nearest held surface points within the search distance, one of each triangle, rising, the lower triangle
+// number first among equals, and nothing in the spare places: what a scan of all triangles finds, as `sure_query`, which finds the first of them.
+// `answers` holds so many answers a point at its front. A refusal changes nothing.
+pub fn few_query(
+    triangles: &[f32],
+    order: &[u32],
+    links: &[u32],
+    boxes: &[f32],
+    nodes: usize,
+    points: &[f32],
+    distance: f32,
+    rule: u32,
+    most: u32,
+    answers: &mut [u32],
+) -> Verdict
+    ensures verdict { λ r. ⌜ Verdicts.asVerdict r
+        ≡ Calls.queryRefusal (Answers.few rule most) (now (triangles .entry)) (now (order .entry)) (now (links .entry)) (now (boxes .entry)) nodes
+        (now (points .entry)) distance (length (now (answers .entry))) ⌝ }
+    ensures answers { λ r. ⌜ now (answers .exit)
+        ≡ Calls.afterFew binary32 most (Calls.fewAnswer binary32 (Rules.ruleOf rule) most (now (triangles .entry)) distance) (now (points .entry))
+        (Verdicts.asVerdict r) (now (answers .entry)) ⌝ }
+{
+    ask(
+        Query::Few { rule, most },
         triangles,
         order,
         links,

@@ -3,7 +3,7 @@ use mathlib.Core.Path.{_∙_, sym}
 use lib.Ieee.{binary32}
 use lib.ListN.{length}
 use Rattle.spec_lists.proofs.Verdicts.{did-pass}
-use Rattle.spec_search.specs.Calls.{answerBy}
+use Rattle.spec_search.specs.Calls.{mostBy, answerBy}
 use Rattle.spec_search.proofs.Calls.{query-passed, as-it-was, is-answered}
 use Rattle.walks.specs.Values.{asQuery}
 use borrow.Author.Needs.{needs}
@@ -17,7 +17,8 @@ returns c =
     let start = known4 .before .before .before .before in
     let a = start .args in (
       after-query-refusal .query-refusal .ensures,
-      as-it-was binary32 (answerBy binary32 (asQuery (a .query)) (a .triangles .now) (a .order .now) (a .links .now) (a .boxes .now) (a .nodes)
+      as-it-was binary32 (mostBy (asQuery (a .query)))
+          (answerBy binary32 (asQuery (a .query)) (a .triangles .now) (a .order .now) (a .links .now) (a .boxes .now) (a .nodes)
           (a .distance)) (a .points .now) (a .answers .now) _ (sym (c .before .refuses .ensures) ∙ c .if1 .taken),
     )
 
@@ -42,7 +43,8 @@ returns-2 c =
     let start = known4 .before .before .before .before in
     let a = start .args in (
       after-query-refusal .query-refusal .ensures,
-      is-answered binary32 (answerBy binary32 (asQuery (a .query)) (a .triangles .now) (a .order .now) (a .links .now) (a .boxes .now) (a .nodes) (a .distance))
+      is-answered binary32 (mostBy (asQuery (a .query)))
+          (answerBy binary32 (asQuery (a .query)) (a .triangles .now) (a .order .now) (a .links .now) (a .boxes .now) (a .nodes) (a .distance))
           (a .points .now) (a .answers .now) _ _ (after-query-refusal .query-refusal .ensures ∙ did-pass _ _ _ (after-query-refusal .query-refusal .ensures)
           (after-refuses .refuses .ensures) (chosen .if1 .left)) (after-put-answers .put-answers .ensures),
     )

@@ -1,90 +1,64 @@
--- `queries::calls::put_answers` meets its contract. The invariant: the first k answers stand at the front of the list.
+-- `queries::calls::put_answers` meets its contract: the sure query's answer is the first of one, and the source's is its only one.
 use mathlib.Core.Path.{ap, _∙_}
-use Prim.Native.Nat.{_-_}
+use mathlib.Core.List.{List}
+use Prim.Native.Nat.{ℕ}
 use native.Mathlib.Omega.{arith}
 use lib.Ieee.{binary32}
+use Rattle.spec_tables.specs.Tables.{overwrite}
+use Rattle.spec_search.specs.Rules.{ruleOf}
+use Rattle.spec_search.proofs.Calls.{few-words-same, one-is-sure}
 use borrow.Author.Needs.{needs}
-use Rattle.spec_lists.proofs.Reading.{point-inside, point-finite}
-use Rattle.spec_search.specs.Calls.{answerBy}
-use Rattle.spec_search.proofs.Calls.{Answered, answered-start, answered-more, answered-end}
-use Rattle.walks.specs.Values.{asQuery}
 use Rattle.queries.proofs.calls.put_answers.Statement.{statement}
 use Rattle.queries.proofs.calls.put_answers.Tie as tie
 
-abbrev Inv-loop : tie.InvT-loop
-Inv-loop query triangles order links boxes nodes points distance answers₀ count k₀ answers k =
-    Answered binary32 (answerBy binary32 (asQuery query) triangles order links boxes nodes distance) points answers₀ count answers k
-
-abbrev μ-loop : tie.MeasureT-loop
-μ-loop query triangles order links boxes nodes points distance answers₀ count k₀ answers k = count - k
-
-loop-holds : tie.Need-loop-holds Inv-loop μ-loop
-loop-holds c =
-    let known4 = c .before .before .before in
+put-few-requires : tie.Need-put-few-requires
+put-few-requires c κs =
+    let told = c .before .before in
+    let known4 = told .before .before .before .before in
     let start = known4 .before .before .before .before in
-    let a = start .args in
-    answered-start binary32 (answerBy binary32 (asQuery (a .query)) (a .triangles .now) (a .order .now) (a .links .now) (a .boxes .now) (a .nodes)
-    (a .distance)) (a .points .now) (a .answers .now) _
+    (start .pre .0, ((omega arith, omega arith), rw (told .query .given .1) at (start .pre .1 .0)))
 
-mul-point-at : tie.Need-mul-point-at Inv-loop μ-loop
-mul-point-at c = omega (arith, point-inside _ _ (rw (c .before .before .point-count .ensures) at (c .loop-test .taken)))
-
-point-at-requires : tie.Need-point-at-requires Inv-loop μ-loop
-point-at-requires c κs = omega (arith, point-inside _ _ (rw (c .before .before .point-count .ensures) at (c .loop-test .taken)))
-
-answer-at-requires : tie.Need-answer-at-requires Inv-loop μ-loop
-answer-at-requires c κs =
-    let after-point-count = c .before .before .before in
-    let known4 = after-point-count .before .before .before in
-    let start = known4 .before .before .before .before in (
-      start .pre .0 .searchable,
-      (
-        rw (c .point-at .ensures) (point-finite _ (start .pre .0 .points-good .coordinates) _
-            (omega (arith, point-inside _ _ (rw (after-point-count .point-count .ensures) at (c .before .loop-test .taken))))),
-        start .pre .0 .distance-good,
-      ),
-    )
-
-put-answer-requires : tie.Need-put-answer-requires Inv-loop μ-loop
-put-answer-requires c κs =
-    let tested = c .before .before .before in
-    let turn = tested .before in
-    let after-point-count = turn .before in
-    let known4 = after-point-count .before .before .before in
+put-few-requires-2 : tie.Need-put-few-requires-2
+put-few-requires-2 c κs =
+    let widened = c .before in
+    let told = widened .before .before in
+    let known4 = told .before .before .before .before in
     let start = known4 .before .before .before .before in
-    omega (arith, start .pre .1, after-point-count .point-count .ensures, turn .loop .inv .long, tested .loop-test .taken)
+    (start .pre .0, rw (widened .wide .ensures) (rw (told .query2 .given .1) at (start .pre .1 .1), rw (told .query2 .given .1) at (start .pre .1 .0)))
 
-loop-again : tie.Need-loop-again Inv-loop μ-loop
-loop-again c =
-    let after-put-answer = c .before .before in
-    let after-answer-at = after-put-answer .before .before in
-    let after-point-at = after-answer-at .before in
-    let tested = after-point-at .before in
-    let turn = tested .before in
-    let after-point-count = turn .before in
-    let known4 = after-point-count .before .before .before in
+put-source-requires : tie.Need-put-source-requires
+put-source-requires c κs =
+    let told = c .before in
+    let known4 = told .before .before .before .before in
     let start = known4 .before .before .before .before in
-    let a = start .args in
-    answered-more binary32 (answerBy binary32 (asQuery (a .query)) (a .triangles .now) (a .order .now) (a .links .now) (a .boxes .now) (a .nodes) (a .distance))
-    (a .points .now) (a .answers .now) _ _ _ _ _
-    (omega (arith, start .pre .1, after-point-count .point-count .ensures)) (tested .loop-test .taken) (turn .loop .inv)
-    (after-answer-at .answer-at .ensures ∙ ap (answerBy binary32 (asQuery (a .query)) (a .triangles .now) (a .order .now) (a .links .now) (a .boxes .now)
-    (a .nodes) (a .distance)) (after-point-at .point-at .ensures)) (after-put-answer .put-answer .ensures)
+    (start .pre .0, rw (told .enum-told .given .1) at (start .pre .1 .0))
 
-same-length : tie.Need-same-length Inv-loop μ-loop
-same-length c = c .before .loop .inv .long
-
-returns : tie.Need-returns Inv-loop μ-loop
+returns : tie.Need-returns
 returns c =
-    let after-point-count = c .before .before in
-    let known4 = after-point-count .before .before .before in
+    let put = c .before .before in
+    let told = put .before .before .before in
+    let known4 = told .before .before .before .before in
     let start = known4 .before .before .before .before in
     let a = start .args in
-    answered-end binary32 (answerBy binary32 (asQuery (a .query)) (a .triangles .now) (a .order .now) (a .links .now) (a .boxes .now) (a .nodes)
-    (a .distance)) (a .points .now) (a .answers .now) _ _ _ (after-point-count .point-count .ensures) (c .loop-test .left) (c .before .loop .inv)
+    rw (told .query .given .1)
+    (put .put-few .ensures
+    ∙ ap (λ (new : List ℕ). overwrite 0 new (a .answers .now))
+    (few-words-same binary32 1 _ _ (a .points .now) (one-is-sure binary32 (ruleOf _) (a .triangles .now) (a .distance))))
+
+returns-2 : tie.Need-returns-2
+returns-2 c =
+    let put = c .before .before in
+    let widened = put .before .before in
+    let told = widened .before .before in
+    rw (told .query2 .given .1) (rw (widened .wide .ensures) at (put .put-few2 .ensures))
+
+returns-3 : tie.Need-returns-3
+returns-3 c =
+    let put = c .before .before in
+    rw (put .before .before .enum-told .given .1) (put .put-source .ensures)
 
 pub put-answers-spec : {M : Type 1} → statement M
 put-answers-spec =
     tie.close
-    (tie.spec Inv-loop μ-loop (λ c κs. search needs) loop-holds mul-point-at point-at-requires answer-at-requires (λ c. search needs)
-    put-answer-requires (λ c. omega arith) (λ c. omega arith) loop-again same-length returns)
+    (tie.spec (λ c. search needs) put-few-requires (λ c. search needs) (λ c κs. search needs) put-few-requires-2 (λ c. search needs) put-source-requires
+    (λ c. search needs) returns (λ c. search needs) returns-2 (λ c. search needs) returns-3)
