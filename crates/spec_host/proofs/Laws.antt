@@ -17,7 +17,8 @@ use Rattle.spec_tree.specs.Refusals.{checkRefusal}
 use Rattle.spec_tree.proofs.Unchanged.{tree-passed}
 use Rattle.spec_tree.proofs.Accepted.{accepted-listed, listing-most}
 use Rattle.spec_search.specs.Answers.{Query, answerWidth}
-use Rattle.spec_search.specs.Calls.{queryRefusal, afterQuery, answerBy}
+use Rattle.spec_search.specs.Calls.{mostBy, queryRefusal, afterFew, answerBy}
+use Rattle.spec_search.proofs.Calls as Calls
 use Rattle.spec_angles.specs.Windings.{windingRefusal, windingAt, written, afterWinding}
 use Rattle.spec_dipoles.specs.Calls.{sumsRefusal, fastRefusal, fastWindings, fastAbout, afterFast}
 use Rattle.spec_host.specs.Status.{status, Decoded}
@@ -25,7 +26,7 @@ use Rattle.spec_host.proofs.Status.{decoded}
 use Rattle.spec_host.specs.PointBytes.{numbersOf, bytesOf, wordBytes, pointBytesRefusal, answerSize, windings, windingBytes, fastBytes}
 use Rattle.spec_host.specs.Requests.{queryBytesRefusal, windingBytesRefusal, fastBytesRefusal, QueryIs, WindingIs, SumsIs, FastIs}
 use Rattle.spec_host.proofs.PointBytes.{numbers-long, points-count, words-long, bytes-long, answers-after, numbers-after}
-use Rattle.spec_host.proofs.Requests.{check-encodable, query-passed, query-encodable, winding-passed, winding-encodable, sums-encodable, fast-passed, fast-encodable}
+use Rattle.spec_host.proofs.Requests.{check-encodable, query-encodable, winding-passed, winding-encodable, sums-encodable, fast-passed, fast-encodable}
 
 -- ---- the status is decoded
 -- the status of the check is decoded without loss
@@ -95,7 +96,7 @@ module _ (points : List ℕ) (whole : length points % 12 ≡ 0) where
   -- and in bytes that hold words it leaves the words that the list query leaves
   pub answers-as-lists : {query : Query} {triangles : List Float} {order links : List ℕ} {boxes : List Float} {nodes : ℕ} {distance : Float} {new : List ℕ}
       {r : ℕ} (old : List ℕ) → QueryIs query triangles order links boxes nodes points distance (wordBytes old) r new
-      → new ≡ wordBytes (afterQuery binary32 (answerBy binary32 query triangles order links boxes nodes distance) (numbersOf points)
+      → new ≡ wordBytes (afterFew binary32 (mostBy query) (answerBy binary32 query triangles order links boxes nodes distance) (numbersOf points)
       (queryRefusal query triangles order links boxes nodes (numbersOf points) distance (length old)) old)
   answers-as-lists {query} {triangles} {order} {links} {boxes} {nodes} {distance} old q =
       let answer = answerBy binary32 query triangles order links boxes nodes distance in
@@ -104,9 +105,10 @@ module _ (points : List ℕ) (whole : length points % 12 ≡ 0) where
       let same : v ≡ queryRefusal query triangles order links boxes nodes (numbersOf points) distance (length old) =
       queries-as-lists query triangles order links boxes nodes distance (length (wordBytes old))
       ∙ ap (queryRefusal query triangles order links boxes nodes (numbersOf points) distance) long in
-      q .answers-are ∙ answers-after answer points old v
-      (λ e. omega (arith, words-long old, query-passed triangles order links boxes nodes query points distance (length (wordBytes old)) e .1 .1 .0))
-      ∙ ap (λ (w : Verdict). wordBytes (afterQuery binary32 answer (numbersOf points) w old)) same
+      q .answers-are ∙ answers-after (mostBy query) answer points old v
+      (λ e. rw (points-count points) at (Calls.query-passed query triangles order links boxes nodes (numbersOf points) distance (length old)
+      (sym same ∙ e) .1 .0))
+      ∙ ap (λ (w : Verdict). wordBytes (afterFew binary32 (mostBy query) answer (numbersOf points) w old)) same
 
   -- on whole points the winding call is refused as the list call is
   pub windings-as-lists : (triangles : List Float) (room : ℕ)

@@ -12,7 +12,7 @@ use lib.Seq.{getD-append-add, drop-at, length-take-le}
 use lib.Ieee.{Float, nan, binary32, ofBits, toBits}
 use Rattle.spec_tables.specs.Tables.{overwrite, concatMap}
 use Rattle.spec_tables.proofs.Tables.{length-concatMap, concatMap-same}
-use Rattle.spec_tables.proofs.Pieces.{getD-concatMap, length-singles}
+use Rattle.spec_tables.proofs.Pieces.{piece-within, getD-concatMap, length-singles}
 use Rattle.spec_tables.proofs.Runs.{Run, run-start, run-front, run-end}
 use Rattle.spec_records.specs.Little.{little, littleAt}
 use Rattle.spec_records.specs.Entries.{numberBytes, floatBytes}
@@ -25,8 +25,8 @@ use Rattle.spec_lists.specs.Passed.{GoodPoints}
 use Rattle.spec_lists.proofs.Verdicts.{all-pass, so, refusal-leaves}
 use Rattle.spec_lists.proofs.Passed.{coordinates-passed}
 use Rattle.spec_search.specs.Answers.{Answer, answerWidth, wordsOf}
-use Rattle.spec_search.specs.Calls.{answerWords, afterQuery}
-use Rattle.spec_search.proofs.Calls.{answer-wide}
+use Rattle.spec_search.specs.Calls.{pointWords, fewWords, afterFew}
+use Rattle.spec_search.proofs.Calls.{answer-wide, point-wide, few-words-same}
 use Rattle.spec_host.specs.PointBytes.{numbersOf, bytesOf, pointBytesRefusal, wordBytes, answerSize, answerBytes, afterBytes}
 
 -- ---- what is read
@@ -97,9 +97,21 @@ unfolding concatMap
 word-concatMap f zero = refl
 word-concatMap f (suc n) = word-append (concatMap f n) (f n) ∙ ap (λ (l : List ℕ). l ++ wordBytes (f n)) (word-concatMap f n)
 
--- ---- the loop over the points that writes answers
-answer-long : (a : Answer) → length (wordBytes (wordsOf binary32 a)) ≡ answerSize
+-- ---- the bytes of the answers to a point
+-- every answer takes as many bytes: the j-th to a point stands at j times their size
+pub answer-long : (a : Answer) → length (wordBytes (wordsOf binary32 a)) ≡ answerSize
 answer-long a = length-numbers 4 (wordsOf binary32 a) 0 (length (wordsOf binary32 a)) ∙ ap (λ (n : ℕ). 4 * n) (answer-wide binary32 a)
+
+point-long : (most : ℕ) (answer : ℕ → Answer) → length (wordBytes (pointWords binary32 most answer)) ≡ answerSize * most
+point-long most answer =
+    let words = pointWords binary32 most answer in
+    omega (arith, length-numbers 4 words 0 (length words), point-wide binary32 most answer)
+
+-- the answers to a point, written one by one, are the bytes of their words
+pub point-bytes : (most : ℕ) (answer : ℕ → Answer)
+    → concatMap (λ j. wordBytes (wordsOf binary32 (answer j))) most ≡ wordBytes (pointWords binary32 most answer)
+unfolding pointWords
+point-bytes most answer = sym (word-concatMap (λ j. wordsOf binary32 (answer j)) most)
 
 overwrite-all : {A : Type 0} (new old : List A) → length old ≡ length new → overwrite 0 new old ≡ new
 unfolding overwrite
@@ -112,34 +124,47 @@ words-bytes a old e =
     ap (λ (l : List ℕ). numberBytes 4 l 0 answerWidth) (overwrite-all (wordsOf binary32 a) old (e ∙ sym (answer-wide binary32 a)))
     ∙ ap (numberBytes 4 (wordsOf binary32 a) 0) (sym (answer-wide binary32 a))
 
-module _ (answer : Point → Answer) (points old : List ℕ) where
-  abbrev piece : ℕ → List ℕ
-  piece k = wordBytes (wordsOf binary32 (answer (pointAt (numbersOf points) (3 * k))))
+-- answers that are the same place by place have the same bytes
+pub answer-bytes-same : (most : ℕ) (answer other : Point → ℕ → Answer) (points : List ℕ) → ((p : Point) (j : ℕ) → j < most → answer p j ≡ other p j)
+    → answerBytes most answer points ≡ answerBytes most other points
+unfolding answerBytes
+answer-bytes-same most answer other points e = ap wordBytes (few-words-same binary32 most answer other (numbersOf points) e)
 
-  -- k of n answers stand at the front of out
+-- ---- the loop over the points that writes so many answers a point
+module _ (most : ℕ) (answer : Point → ℕ → Answer) (points old : List ℕ) where
+  abbrev piece : ℕ → List ℕ
+  piece k = wordBytes (pointWords binary32 most (answer (pointAt (numbersOf points) (3 * k))))
+
+  -- the answers to k of n points stand at the front of out
   abbrev pub Answered : (n : ℕ) (out : List ℕ) (k : ℕ) → Type 0
   Answered n out k = Run piece 0 n old out k
 
   -- before the first turn no answer is written
   pub answered-start : (n : ℕ) → Answered n old 0
-  answered-start n = run-start piece answerSize 0 n old
+  answered-start n = run-start piece (answerSize * most) 0 n old
 
-  -- a turn of the loop writes the next point's answer behind the others
-  pub answered-more : (n : ℕ) (out new : List ℕ) (k : ℕ) (a : Answer) → answerSize * n ≤ length old → k < n → Answered n out k
-      → a ≡ answer (pointAt (numbersOf points) (3 * k))
-      → new ≡ overwrite (answerSize * k) (wordBytes (wordsOf binary32 a)) out → Answered n new (k + 1)
-  answered-more n out new k a room l r e h =
-      run-front piece answerSize n old out new k (λ j. answer-long (answer (pointAt (numbersOf points) (3 * j)))) room l r
-      (h ∙ ap (λ (b : Answer). overwrite (answerSize * k) (wordBytes (wordsOf binary32 b)) out) e)
+  -- a turn of the loop writes the next point's answers behind the others
+  pub answered-more : (n : ℕ) (out new : List ℕ) (k : ℕ) (words : List ℕ) → (answerSize * most) * n ≤ length old → k < n → Answered n out k
+      → words ≡ pointWords binary32 most (answer (pointAt (numbersOf points) (3 * k)))
+      → new ≡ overwrite ((answerSize * most) * k) (wordBytes words) out → Answered n new (k + 1)
+  answered-more n out new k words room l r e h =
+      run-front piece (answerSize * most) n old out new k (λ j. point-long most (answer (pointAt (numbersOf points) (3 * j)))) room l r
+      (h ∙ ap (λ (w : List ℕ). overwrite ((answerSize * most) * k) (wordBytes w) out) e)
+
+  -- the next point's answers have room
+  pub answers-room : (n : ℕ) (out : List ℕ) (k : ℕ) → (answerSize * most) * n ≤ length old → k < n → Answered n out k
+      → (answerSize * most) * k + answerSize * most ≤ length out
+  answers-room n out k room l r = omega (arith, piece-within (answerSize * most) n k l, r .long)
 
   -- after the last turn the answers at all points stand at the front
-  pub answered-end : (n : ℕ) (out : List ℕ) (k : ℕ) → n ≡ length points / 12 → n ≤ k → Answered n out k → out ≡ overwrite 0 (answerBytes answer points) old
-  unfolding answerBytes answerWords
+  pub answered-end : (n : ℕ) (out : List ℕ) (k : ℕ) → n ≡ length points / 12 → n ≤ k → Answered n out k
+      → out ≡ overwrite 0 (answerBytes most answer points) old
+  unfolding answerBytes fewWords
   answered-end n out k e l r =
       run-end piece 0 n old out k l r
       ∙ ap (λ (m : ℕ). overwrite 0 (concatMap piece m) old) (e ∙ sym (points-count points))
       ∙ ap (λ (new : List ℕ). overwrite 0 new old)
-      (sym (word-concatMap (λ j. wordsOf binary32 (answer (pointAt (numbersOf points) (3 * j)))) (pointCount (numbersOf points))))
+      (sym (word-concatMap (λ j. pointWords binary32 most (answer (pointAt (numbersOf points) (3 * j)))) (pointCount (numbersOf points))))
 
 -- ---- the loop over the points that writes a number a point: winding numbers, exact ones and those by dipoles
 module _ (number : ℕ → Float) (points old : List ℕ) where
@@ -193,15 +218,17 @@ pub bytes-long : (xs : List Float) → length (bytesOf xs) ≡ 4 * length xs
 bytes-long = entries-long (λ x. little 4 (toBits binary32 x)) nan 4 (λ x. length-little 4 (toBits binary32 x))
 
 -- in bytes that hold words, answers are left as the words that the list query leaves
-pub answers-after : (answer : Point → Answer) (points old : List ℕ) (v : Verdict) → (v ≡ passes → answerWidth * (length points / 12) ≤ length old)
-    → afterBytes v (answerBytes answer points) (wordBytes old) ≡ wordBytes (afterQuery binary32 answer (numbersOf points) v old)
-unfolding afterBytes afterQuery answerBytes answerWords
-answers-after answer points old passes room =
-    let words : List ℕ = answerWords binary32 answer (numbersOf points) in
-    let long : length words ≡ answerWidth * pointCount (numbersOf points) =
-    length-concatMap _ answerWidth (pointCount (numbersOf points)) (λ k. answer-wide binary32 _) in
-    sym (entries-overwrite (little 4) 0 4 (length-little 4) words old (omega (arith, room refl, points-count points)))
-answers-after answer points old (refused number place) room = refl
+pub answers-after : (most : ℕ) (answer : Point → ℕ → Answer) (points old : List ℕ) (v : Verdict)
+    → (v ≡ passes → (answerWidth * most) * (length points / 12) ≤ length old)
+    → afterBytes v (answerBytes most answer points) (wordBytes old) ≡ wordBytes (afterFew binary32 most answer (numbersOf points) v old)
+unfolding afterBytes afterFew answerBytes fewWords
+answers-after most answer points old passes room =
+    let words : List ℕ = fewWords binary32 most answer (numbersOf points) in
+    let long : length words ≡ (answerWidth * most) * (length points / 12) =
+    length-concatMap _ (answerWidth * most) (pointCount (numbersOf points)) (λ k. point-wide binary32 most _)
+    ∙ ap (λ (n : ℕ). (answerWidth * most) * n) (points-count points) in
+    sym (entries-overwrite (little 4) 0 4 (length-little 4) words old (rw long (room refl)))
+answers-after most answer points old (refused number place) room = refl
 
 -- in bytes that hold numbers, a number a point is left as the numbers that a list call leaves
 pub numbers-after : (number : ℕ → Float) (points : List ℕ) (old : List Float) (v : Verdict) → (v ≡ passes → length points / 12 ≤ length old)

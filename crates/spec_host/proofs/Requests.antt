@@ -15,14 +15,15 @@ use Rattle.spec_lists.proofs.Passed.{triangles-passed, room-passed, distance-pa
 use Rattle.spec_tree.specs.Refusals.{checkRefusal}
 use Rattle.spec_tree.proofs.Unchanged.{tree-passed}
 use Rattle.spec_search.specs.Answers.{Query}
-use Rattle.spec_search.specs.Calls.{Searchable}
+use Rattle.spec_search.specs.Calls.{mostFew, mostBy, Searchable}
+use Rattle.spec_search.proofs.Calls.{choice-passed, room-for}
 use Rattle.spec_dipoles.specs.Calls.{sumsRefusal}
 use Rattle.spec_dipoles.specs.Stored.{RootIn}
 use Rattle.spec_dipoles.proofs.Readable.{accepted-root}
 use Rattle.spec_host.specs.Status.{Placed, InPlace}
 use Rattle.spec_host.specs.PointBytes.{numbersOf, pointBytesRefusal, answerSize}
 use Rattle.spec_host.specs.Requests.{queryBytesRefusal, windingBytesRefusal, fastBytesRefusal}
-use Rattle.spec_host.proofs.Status.{no-test, then-test, placed, triangles-encodable, rule-encodable, room-encodable, tree-encodable, distance-encodable, scale-encodable}
+use Rattle.spec_host.proofs.Status.{no-test, then-test, placed, triangles-encodable, choice-encodable, room-encodable, tree-encodable, distance-encodable, scale-encodable}
 use Rattle.spec_host.proofs.PointBytes.{numbers-long, point-bytes-passed}
 
 -- ---- the tests of point bytes
@@ -47,24 +48,26 @@ module _ (triangles : List Float) (order links : List ℕ) (boxes : List Float) 
       (λ good. then-test _ _ (tree-encodable triangles order links boxes nodes good) (λ _. no-test))
 
   module _ (query : Query) (points : List ℕ) (distance : Float) (room : ℕ) where
-    -- lists that pass the tests of a query have what the searches need, and there is room for an answer a point
+    -- lists that pass the tests of a query have what the searches need, there is room for so many answers a point, and so many may be asked for
     pub query-passed : queryBytesRefusal query triangles order links boxes nodes points distance room ≡ passes
-        → Searchable triangles order links boxes nodes × (GoodPoints (numbersOf points) × ((answerSize * (length points / 12) ≤ room) × GoodDistance distance))
+        → Searchable triangles order links boxes nodes × (GoodPoints (numbersOf points) × (((answerSize * mostBy query) * (length points / 12) ≤ room)
+        × (GoodDistance distance × ((1 ≤ mostBy query) × (mostBy query ≤ mostFew)))))
     unfolding queryBytesRefusal
     query-passed e =
         let all = all-pass _ e in
-        let enough : length points / 12 ≤ room / answerSize = room-passed _ _ (all .1 .1 .0) in
+        let enough = room-for room answerSize (mostBy query) (length points / 12) (room-passed _ _ (all .1 .1 .0)) in
         let search : Searchable triangles order links boxes nodes =
         record { triangles-good = triangles-passed triangles (all .0); tree-accepted = tree-passed triangles order links boxes nodes (all .1 .1 .1 .0) } in
-        (search, (point-bytes-passed points (all .1 .1 .1 .1 .0), (omega arith, distance-passed distance (all .1 .1 .1 .1 .1 .0))))
+        let near = distance-passed distance (all .1 .1 .1 .1 .1 .0) in
+        (search, (point-bytes-passed points (all .1 .1 .1 .1 .0), (enough, (near, choice-passed query (all .1 .0)))))
 
     -- every verdict of a query can be encoded in the status
     pub query-encodable : length points < 2 ^ 63 → InPlace (queryBytesRefusal query triangles order links boxes nodes points distance room)
     unfolding queryBytesRefusal
     query-encodable fits =
         then-test _ _ (triangles-encodable triangles)
-        (λ good. then-test _ _ (rule-encodable query)
-        (λ _. then-test _ _ (room-encodable (room / answerSize) (length points / 12))
+        (λ good. then-test _ _ (choice-encodable query)
+        (λ _. then-test _ _ (room-encodable (room / answerSize / mostBy query) (length points / 12))
         (λ _. then-test _ _ (tree-encodable triangles order links boxes nodes good)
         (λ _. then-test _ _ (point-bytes-encodable points fits)
         (λ _. then-test _ _ (distance-encodable distance) (λ _. no-test))))))

@@ -1,11 +1,11 @@
 -- The status of a call is decoded without loss, number, place and count; and which verdicts can be encoded in it.
 use mathlib.Core.Path.{_≡_, refl, sym, ap, _∙_}
-use mathlib.Core.Bool.{Bool, true, false, cond, not, _||_}
+use mathlib.Core.Bool.{Bool, true, false, cond, not, _&&_, _||_}
 use mathlib.Core.List.{List, [], _∷_}
 use Prim.Native.Nat.{ℕ, _+_, _*_, _-_, _/_, _%_, _^_, _≤_, _<_}
 use native.Mathlib.Omega.{arith}
 use native.Mathlib.Nat.{mod-eq-of-lt, div-eq-of-lt, mul-add-div-right, mul-add-mod-self-right}
-use lib.Dec.{eqb, ltb}
+use lib.Dec.{eqb, leb, ltb}
 use lib.Ieee.{Float}
 use lib.ListN.{length}
 use borrow.Author.Tests.{eqb-true, ltb-true, ltb-false, lt-ltb, le-leb, lt-leb}
@@ -17,9 +17,10 @@ use Rattle.spec_lists.proofs.Passed.{triangles-passed}
 use Rattle.spec_tree.specs.Refusals.{treeRefusal}
 use Rattle.spec_tree.proofs.Places.{InTree}
 use Rattle.spec_tree.proofs.Unchanged.{tree-placed}
+use Rattle.spec_search.specs.Answers as Answers
 use Rattle.spec_search.specs.Answers.{Query, sure, source}
 use Rattle.spec_search.specs.Rules.{ruleRefusal}
-use Rattle.spec_search.specs.Calls.{ruleRefusalBy}
+use Rattle.spec_search.specs.Calls.{mostFew, mostRefusal, choiceRefusal}
 use Rattle.spec_host.specs.Status.{status, refusalStatus, saturated, statusNumber, statusPlace, statusCount, Placed, InPlace, Encodable, Decoded}
 
 -- ---- decoding
@@ -166,11 +167,19 @@ pub settings-encodable : (s : Settings) → InPlace (settingsRefusal s)
 unfolding settingsRefusal
 settings-encodable s = at-zero (not (areSettings s)) 5 (omega arith) (omega arith)
 
--- the test of a query's rule can be encoded
-pub rule-encodable : (query : Query) → InPlace (ruleRefusalBy query)
+rule-encodable : (rule : ℕ) → InPlace (ruleRefusal rule)
 unfolding ruleRefusal
-rule-encodable (sure rule) = at-zero (not (eqb rule 1 || eqb rule 2)) 5 (omega arith) (omega arith)
-rule-encodable source = tt
+rule-encodable rule = at-zero (not (eqb rule 1 || eqb rule 2)) 5 (omega arith) (omega arith)
+
+most-encodable : (most : ℕ) → InPlace (mostRefusal most)
+unfolding mostRefusal
+most-encodable most = at-zero (not (leb 1 most && leb most mostFew)) 5 (omega arith) (omega arith)
+
+-- the test of what a query chooses, its rule and how many answers it asks for, can be encoded
+pub choice-encodable : (query : Query) → InPlace (choiceRefusal query)
+choice-encodable (sure rule) = rule-encodable rule
+choice-encodable (Answers.few rule most) = then-test _ _ (rule-encodable rule) (λ _. then-test _ _ (most-encodable most) (λ _. no-test))
+choice-encodable source = tt
 
 -- the place of the room's test is low
 pub room-told : (given need : ℕ) → Told (roomRefusal given need)

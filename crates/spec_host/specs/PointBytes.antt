@@ -11,7 +11,7 @@ use Rattle.spec_shapes.specs.Points.{Point}
 use Rattle.spec_lists.specs.Reading.{pointCount}
 use Rattle.spec_lists.specs.Refusals.{Verdict, refusedIf, firstRefusal, coordinateRefusal, afterVerdict}
 use Rattle.spec_search.specs.Answers.{Answer, answerWidth}
-use Rattle.spec_search.specs.Calls.{answerWords}
+use Rattle.spec_search.specs.Calls.{fewWords}
 use Rattle.spec_angles.specs.Windings.{windingAt}
 use Rattle.spec_dipoles.specs.Calls.{fastWindings}
 
@@ -35,9 +35,9 @@ wordBytes words = numberBytes 4 words 0 (length words)
 abbrev pub answerSize : ℕ
 answerSize = 4 * answerWidth
 
--- the answers at all points: the bytes of what a list query answers at them
-unfoldable pub answerBytes : (Point → Answer) → (points : List ℕ) → List ℕ
-answerBytes answer points = wordBytes (answerWords binary32 answer (numbersOf points))
+-- the answers at all points, so many a point: the bytes of what a list query answers at them
+unfoldable pub answerBytes : ℕ → (Point → ℕ → Answer) → (points : List ℕ) → List ℕ
+answerBytes most answer points = wordBytes (fewWords binary32 most answer (numbersOf points))
 
 -- the winding numbers about all points
 unfoldable pub windings : (triangles points : List Float) → List Float

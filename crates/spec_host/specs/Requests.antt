@@ -9,17 +9,17 @@ use Rattle.spec_lists.specs.Refusals.{Verdict, firstRefusal, trianglesRefusal, 
 use Rattle.spec_tree.specs.Refusals.{treeRefusal}
 use Rattle.spec_dipoles.specs.Calls.{sumsRefusal, afterSums}
 use Rattle.spec_search.specs.Answers.{Query}
-use Rattle.spec_search.specs.Calls.{ruleRefusalBy, answerBy}
+use Rattle.spec_search.specs.Calls.{choiceRefusal, mostBy, answerBy}
 use Rattle.spec_host.specs.Status.{status}
 use Rattle.spec_host.specs.PointBytes.{pointBytesRefusal, answerSize, answerBytes, windingBytes, fastBytes, afterBytes}
 
--- 1 to 6, 71 to 75, 8, 9; 5 is of the sure query's rule
+-- 1 to 6, 71 to 75, 8, 9; 5 is of the sure query's rule and of how many answers are asked for, and 6 of room for so many a point
 unfoldable pub queryBytesRefusal : Query → (triangles : List Float) (order links : List ℕ) (boxes : List Float) (nodes : ℕ) (points : List ℕ)
     (distance : Float) (room : ℕ) → Verdict
 queryBytesRefusal query triangles order links boxes nodes points distance room =
     firstRefusal
     (trianglesRefusal triangles
-    ∷ ruleRefusalBy query ∷ roomRefusal (room / answerSize) (length points / 12)
+    ∷ choiceRefusal query ∷ roomRefusal (room / answerSize / mostBy query) (length points / 12)
     ∷ treeRefusal triangles order links boxes nodes
     ∷ pointBytesRefusal points ∷ distanceRefusal distance ∷ [])
 
@@ -40,13 +40,13 @@ fastBytesRefusal triangles order links boxes nodes sums points accuracy room =
     ∷ treeRefusal triangles order links boxes nodes
     ∷ pointBytesRefusal points ∷ scaleRefusal accuracy ∷ [])
 
--- ---- the contracts: the status counts points, and the lent bytes hold an answer a point from the front, on a refusal what they held
--- a query answers r and leaves `new`
+-- ---- the contracts: the status counts points, and the lent bytes hold what is written for each from the front, on a refusal what they held
+-- a query answers r and leaves `new`: an answer a point, or so many of them
 pub record QueryIs (query : Query) (triangles : List Float) (order links : List ℕ) (boxes : List Float) (nodes : ℕ) (points : List ℕ) (distance : Float)
     (old : List ℕ) (r : ℕ) (new : List ℕ) : Type 0 where
   pub status-is : r ≡ status (queryBytesRefusal query triangles order links boxes nodes points distance (length old)) (length points / 12)
   pub answers-are : new ≡ afterBytes (queryBytesRefusal query triangles order links boxes nodes points distance (length old))
-      (answerBytes (answerBy binary32 query triangles order links boxes nodes distance) points) old
+      (answerBytes (mostBy query) (answerBy binary32 query triangles order links boxes nodes distance) points) old
 
 -- the winding call answers r and leaves `new`
 pub record WindingIs (triangles : List Float) (points old : List ℕ) (r : ℕ) (new : List ℕ) : Type 0 where
