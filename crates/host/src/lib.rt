@@ -2,7 +2,7 @@
 ghost use mathlib.Core.Path.{_≡_};
 ghost use Rattle.spec_lists.specs.Reading.{triangleCount};
 ghost use Rattle.spec_tree.specs.Refusals.{checkRefusal};
-ghost use Rattle.spec_search.specs.Answers.{sure, source};
+ghost use Rattle.spec_search.specs.Answers.{sure, few, source};
 ghost use Rattle.image.specs.Values.{imageFrom};
 ghost use Rattle.spec_host.specs.Status.{status};
 ghost use Rattle.spec_host.specs.Build.{BuildPut};
@@ -11,6 +11,7 @@ ghost use Rattle.spec_host.specs.Stls.{ReadStlPut, WriteStlPut};
 ghost use Rattle.spec_host.specs.Requests.{QueryIs, WindingIs, SumsIs, FastIs};
 use host_ask::calls::check_lists;
 use host_ask::calls::fast_points;
+use host_ask::calls::few_points;
 use host_ask::calls::source_points;
 use host_ask::calls::sums_lists;
 use host_ask::calls::sure_points;
@@ -197,6 +198,37 @@ pub extern "C" fn gauge_sure(
         points,
         distance,
         rule,
+        answers,
+    )
+}
+
+// Writes the nearest few at each point, so many answers of 1 to 16. The status is the number of points.
+#[no_mangle]
+pub extern "C" fn gauge_few(
+    triangles: &[f32],
+    order: &[u32],
+    links: &[u32],
+    boxes: &[f32],
+    nodes: usize,
+    points: &[u8],
+    distance: f32,
+    rule: u32,
+    most: u32,
+    answers: &mut [u8],
+) -> u64
+    ensures { λ r. ⌜ QueryIs (few rule most) (now (triangles .entry)) (now (order .entry)) (now (links .entry)) (now (boxes .entry)) nodes
+        (now (points .entry)) distance (now (answers .entry)) r (now (answers .exit)) ⌝ }
+{
+    few_points(
+        triangles,
+        order,
+        links,
+        boxes,
+        nodes,
+        points,
+        distance,
+        rule,
+        most,
         answers,
     )
 }

@@ -2,7 +2,7 @@
 ghost use mathlib.Core.Path.{_≡_};
 ghost use Rattle.spec_lists.specs.Reading.{triangleCount};
 ghost use Rattle.spec_tree.specs.Refusals.{checkRefusal};
-ghost use Rattle.spec_search.specs.Answers.{sure, source};
+ghost use Rattle.spec_search.specs.Answers.{sure, few, source};
 ghost use Rattle.walks.specs.Values.{asQuery};
 ghost use Rattle.spec_host.specs.Status.{status};
 ghost use Rattle.spec_host.specs.Requests.{QueryIs, WindingIs, SumsIs, FastIs};
@@ -79,6 +79,36 @@ pub fn sure_points(
 {
     query_points(
         Query::Sure { rule },
+        triangles,
+        order,
+        links,
+        boxes,
+        nodes,
+        points,
+        distance,
+        answers,
+    )
+}
+
+// Writes so many answers at each point, 1 to 16: the nearest surface points, one of each triangle, rising, and nothing in the spare places.
+// The first of them is what `sure_points` writes, by the same rules. The status is the number of points.
+pub fn few_points(
+    triangles: &[f32],
+    order: &[u32],
+    links: &[u32],
+    boxes: &[f32],
+    nodes: usize,
+    points: &[u8],
+    distance: f32,
+    rule: u32,
+    most: u32,
+    answers: &mut [u8],
+) -> u64
+    ensures { λ r. ⌜ QueryIs (few rule most) (now (triangles .entry)) (now (order .entry)) (now (links .entry)) (now (boxes .entry)) nodes
+        (now (points .entry)) distance (now (answers .entry)) r (now (answers .exit)) ⌝ }
+{
+    query_points(
+        Query::Few { rule, most },
         triangles,
         order,
         links,

@@ -5,7 +5,7 @@ use native.Mathlib.Omega.{arith}
 use lib.ListN.{length}
 use lib.Ieee.{binary32}
 use Rattle.spec_lists.specs.Refusals.{Verdict}
-use Rattle.spec_search.specs.Calls.{answerBy}
+use Rattle.spec_search.specs.Calls.{mostBy, answerBy}
 use Rattle.walks.specs.Values.{asQuery}
 use Rattle.spec_host.specs.Status.{status}
 use Rattle.spec_host.specs.PointBytes.{answerBytes, afterBytes}
@@ -31,8 +31,9 @@ returns c =
     let a = start .args in
     record {
       status-is = c .encode .ensures ∙ ap (λ (v : Verdict). status v (length (a .points .now) / 12)) (asked .ask .ensures .0);
-      answers-are = asked .ask .ensures .1 ∙ ap (λ (v : Verdict). afterBytes v (answerBytes (answerBy binary32 (asQuery (a .query)) (a .triangles .now)
-          (a .order .now) (a .links .now) (a .boxes .now) (a .nodes) (a .distance)) (a .points .now)) (a .answers .now)) (asked .ask .ensures .0);
+      answers-are = asked .ask .ensures .1 ∙ ap (λ (v : Verdict). afterBytes v (answerBytes (mostBy (asQuery (a .query))) (answerBy binary32
+          (asQuery (a .query)) (a .triangles .now) (a .order .now) (a .links .now) (a .boxes .now) (a .nodes) (a .distance)) (a .points .now))
+          (a .answers .now)) (asked .ask .ensures .0);
     }
 
 pub query-points-spec : {M : Type 1} → statement M
