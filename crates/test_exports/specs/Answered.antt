@@ -13,7 +13,8 @@ use Rattle.spec_tree.specs.Accepted.{accepted}
 use Rattle.spec_tree.specs.Depth.{DepthFound, deep, notDeep}
 use Rattle.spec_build.specs.Build.{Lists, Built, made, notMade, BuildIs}
 use Rattle.spec_search.specs.Rules.{ruleOf, limitOf}
-use Rattle.spec_search.specs.Sure.{sureWalk}
+use Rattle.spec_search.specs.Few.{fewWalk}
+use Rattle.spec_search.specs.Calls.{mostRefusal}
 use Rattle.spec_angles.specs.Winding.{solidAngle}
 
 -- 1 where it passed, else 0
@@ -42,18 +43,20 @@ pub record BuildAnswered (answered : Built → ℕ) (f : Format) (triangles : Li
   pub built : BuildIs f triangles s old answer new
   pub answered-is : r ≡ answered answer
 
--- how many triangles the sure search measures for a point, by the rule; 0 where the distance is refused
-unfoldable pub measuredAt : Format → (triangles : List Float) (order links : List ℕ) (boxes : List Float) (nodes : ℕ) (distance : Float) (rule : ℕ) → Point → ℕ
-measuredAt f triangles order links boxes nodes distance rule p =
-    cond (refuses (distanceRefusal distance)) 0 (sureWalk f triangles order links boxes nodes p (limitOf f (ruleOf rule) distance) .measured)
+-- how many triangles the search for so many measures for a point, by the rule; 0 where the distance is refused, or so many
+unfoldable pub measuredAt : Format
+    → (triangles : List Float) (order links : List ℕ) (boxes : List Float) (nodes : ℕ) (distance : Float) (rule most : ℕ) → Point → ℕ
+measuredAt f triangles order links boxes nodes distance rule most p =
+    cond (refuses (distanceRefusal distance)) 0
+    (cond (refuses (mostRefusal most)) 0 (fewWalk f triangles order links boxes nodes p most (limitOf f (ruleOf rule) distance) .measured))
 
 -- and for the first point; 0 where the lists do not pass or there is no point
 unfoldable pub measuredFirst : Format
-    → (triangles : List Float) (order links : List ℕ) (boxes : List Float) (nodes : ℕ) (points : List Float) (distance : Float) (rule : ℕ) → ℕ
-measuredFirst f triangles order links boxes nodes points distance rule =
+    → (triangles : List Float) (order links : List ℕ) (boxes : List Float) (nodes : ℕ) (points : List Float) (distance : Float) (rule most : ℕ) → ℕ
+measuredFirst f triangles order links boxes nodes points distance rule most =
     cond (refuses (trianglesRefusal triangles)) 0
     (cond (accepted (boxAt triangles) (triangleCount triangles) order links boxes nodes)
-    (cond (leb 3 (length points)) (measuredAt f triangles order links boxes nodes distance rule (pointAt points 0)) 0)
+    (cond (leb 3 (length points)) (measuredAt f triangles order links boxes nodes distance rule most (pointAt points 0)) 0)
     0)
 
 -- the solid angle of one triangle from one point, a NaN where there are more or fewer

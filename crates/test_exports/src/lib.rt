@@ -20,10 +20,14 @@ use lists::reading::triangle_at;
 use lists::tests::distance_refusal;
 use lists::tests::triangles_refusal;
 use lists::verdict::Verdict;
+use queries::rules::most_refusal;
 use shapes::vec3::Vec3;
 use tree::calls::DepthFound;
 use tree::calls::tree_refusal;
+use tree::nodes::wide;
 use walks::answer::Probe;
+use walks::places::BEST;
+use walks::places::WHICH;
 use walks::sure::search;
 
 // 1 where the verdict is a pass, else 0.
@@ -198,6 +202,42 @@ pub extern "C" fn timing_sure(
     one_passed(verdict)
 }
 
+// Writes the answers of the query for the nearest few. 1 where the query was answered, else 0.
+#[no_mangle]
+pub extern "C" fn timing_few(
+    triangles: &[f32],
+    order: &[u32],
+    links: &[u32],
+    boxes: &[f32],
+    nodes: usize,
+    points: &[f32],
+    distance: f32,
+    rule: u32,
+    most: u32,
+    answers: &mut [u32],
+) -> u32
+    ensures passed { λ r. ⌜ r ≡ Answered.onePassed (Calls.queryRefusal (Answers.few rule most) (now (triangles .entry)) (now (order .entry))
+        (now (links .entry)) (now (boxes .entry)) nodes (now (points .entry)) distance (length (now (answers .entry)))) ⌝ }
+    ensures answers { λ _. ⌜ now (answers .exit)
+        ≡ Calls.afterFew binary32 most (Calls.fewAnswer binary32 (Rules.ruleOf rule) most (now (triangles .entry)) distance) (now (points .entry))
+        (Calls.queryRefusal (Answers.few rule most) (now (triangles .entry)) (now (order .entry)) (now (links .entry)) (now (boxes .entry)) nodes
+        (now (points .entry)) distance (length (now (answers .entry)))) (now (answers .entry)) ⌝ }
+{
+    let verdict = queries::calls::few_query(
+        triangles,
+        order,
+        links,
+        boxes,
+        nodes,
+        points,
+        distance,
+        rule,
+        most,
+        answers,
+    );
+    one_passed(verdict)
+}
+
 // Writes the source query's answers. 1 where the query was answered, else 0.
 #[no_mangle]
 pub extern "C" fn timing_source(
@@ -262,7 +302,7 @@ pub extern "C" fn timing_depth_read(
     depth_read(found)
 }
 
-// How many triangles the sure search measures for one point, 0 where the distance is refused.
+// How many triangles the search for the nearest few measures for one point, 0 where the distance is refused, or that many.
 fn measured_at(
     triangles: &[f32],
     order: &[u32],
@@ -272,24 +312,41 @@ fn measured_at(
     p: Vec3,
     distance: f32,
     rule: u32,
+    most: u32,
 ) -> usize
     requires { ⌜ Calls.Searchable (now triangles) (now order) (now links) (now boxes) nodes ⌝ }
     ensures { λ r. ⌜ r ≡ Answered.measuredAt binary32 (now (triangles .entry)) (now (order .entry)) (now (links .entry)) (now (boxes .entry)) nodes
-        distance rule (Shapes.asPoint p) ⌝ }
+        distance rule most (Shapes.asPoint p) ⌝ }
 {
     let bad_distance = distance_refusal(distance);
     if bad_distance.refuses() {
+        return 0;
+    }
+    let bad_most = most_refusal(most);
+    if bad_most.refuses() {
         return 0;
     }
     let probe = Probe {
         point: p,
         limit: distance * distance,
     };
-    let sought = search(triangles, order, links, boxes, nodes, probe, rule);
-    sought.measured
+    let mut best = [0.0; BEST];
+    let mut which = [0u32; WHICH];
+    search(
+        triangles,
+        order,
+        links,
+        boxes,
+        nodes,
+        probe,
+        rule,
+        wide(most),
+        &mut best,
+        &mut which,
+    )
 }
 
-// How many triangles the sure search measures for the first point, 0 where the lists are refused or there is no point.
+// How many triangles the search for the nearest few measures for the first point, 0 where the lists are refused or there is no point.
 #[no_mangle]
 pub extern "C" fn timing_measured(
     triangles: &[f32],
@@ -300,9 +357,10 @@ pub extern "C" fn timing_measured(
     points: &[f32],
     distance: f32,
     rule: u32,
+    most: u32,
 ) -> usize
     ensures { λ r. ⌜ r ≡ Answered.measuredFirst binary32 (now (triangles .entry)) (now (order .entry)) (now (links .entry)) (now (boxes .entry)) nodes
-        (now (points .entry)) distance rule ⌝ }
+        (now (points .entry)) distance rule most ⌝ }
 {
     let bad_triangles = triangles_refusal(triangles);
     if bad_triangles.refuses() {
@@ -314,7 +372,17 @@ pub extern "C" fn timing_measured(
     }
     if points.len() >= 3 {
         let p = point_at(points, 0);
-        return measured_at(triangles, order, links, boxes, nodes, p, distance, rule);
+        return measured_at(
+            triangles,
+            order,
+            links,
+            boxes,
+            nodes,
+            p,
+            distance,
+            rule,
+            most,
+        );
     }
     0
 }
