@@ -1,8 +1,10 @@
 //! The sure query as a plain scan, written from the scope document and its requests about pinched
-//! triangles and about the part that was hit alone, std only: for each triangle the computed closest point
-//! or, where a coordinate is not finite, the nearest of its feet on the edges, held into the triangle's box,
-//! zeros plus zero; the smallest squared distance that counts by the rule, the lowest number among equals.
-//! The part is told by the test that answered or by the edge that is kept, and nothing is chosen by it.
+//! triangles, about the part that was hit and about the nearest few alone, std only: for each triangle the
+//! computed closest point or, where a coordinate is not finite, the nearest of its feet on the edges, held
+//! into the triangle's box, zeros plus zero; the smallest squared distance that counts by the rule, the
+//! lowest number among equals. The part is told by the test that answered or by the edge that is kept, and
+//! nothing is chosen by it. The nearest few are all triangles measured, those that count, sorted, and of
+//! these the first.
 
 pub type V = [f32; 3];
 
@@ -181,4 +183,26 @@ pub fn scan_each<const N: usize>(tris: &[[V; 3]], p: V, asked: [(f32, u32); N]) 
 
 pub fn scan(tris: &[[V; 3]], p: V, distance: f32, rule: u32) -> Option<Found> {
     scan_each(tris, p, [(distance, rule)])[0]
+}
+
+/// All triangles measured, by their squared distance, then by their number. All that is measured is finite.
+pub fn sorted(tris: &[[V; 3]], p: V) -> Vec<Found> {
+    let measured = tris.iter().enumerate().map(|(k, t)| {
+        let (point, part) = held(t, p);
+        Found { triangle: k as u32, point, squared: squared(point, p), part }
+    });
+    let mut all: Vec<Found> = measured.collect();
+    all.sort_by(|a, b| a.squared.partial_cmp(&b.squared).unwrap().then(a.triangle.cmp(&b.triangle)));
+    all
+}
+
+/// Of all triangles sorted, the first so many that count; nothing where fewer do.
+pub fn first(sorted: &[Found], distance: f32, rule: u32, most: usize) -> Vec<Words> {
+    let count: Vec<Found> = sorted.iter().filter(|f| counts(f.squared, distance * distance, rule)).copied().collect();
+    (0..most).map(|place| words(count.get(place).copied())).collect()
+}
+
+/// The nearest few that count.
+pub fn few(tris: &[[V; 3]], p: V, distance: f32, rule: u32, most: usize) -> Vec<Words> {
+    first(&sorted(tris, p), distance, rule, most)
 }

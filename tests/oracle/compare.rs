@@ -2,14 +2,15 @@
 //! sure query against a plain scan. Prints counts and the first that differ, and ends with status 1 where any does.
 //! tests/compare builds and runs it.
 //!
-//!     compare [REQUESTS [POINTS [LARGE [LARGE_POINTS [LEVEL [WIDER [FEET [PARTS]]]]]]]]
+//!     compare [REQUESTS [POINTS [LARGE [LARGE_POINTS [LEVEL [WIDER [FEET [PARTS [FEW]]]]]]]]]
 //!
 //! 200,000 requests of up to 4,096 triangles and 10,000,000 points of as large drawings, then 408 requests of 4,096 to 65,536
 //! triangles and 100,000 points of drawings of 4,097 to 65,536, each by both measuring rules; then 5,000,000 points at exactly the
 //! distance of their nearest and a float more or less; then 5,000,000 points before and after a wider search and a patch; then
 //! 2,000,000 points by the edges of triangles of which many have no computed point; then 2,000,000 points of single triangles and small
-//! drawings for the part that was hit. In each of these two every part that can be met must have been met, by a computed point and by a
-//! foot, so with fewer than some 10,000 points they fail; with none they pass.
+//! drawings for the part that was hit; then 1,000,000 points for their nearest few. Of the two before the last every part that can be met
+//! must have been met, by a computed point and by a foot, and of the last every number of answers by each rule with a tie across the cut,
+//! with fewer and with none, so with fewer than some 10,000 points they may fail; with none they pass.
 //!
 //! The Rust tells no part. A source answer's is that of the plain reading of the triangle that the Rust answers, whose point must be the
 //! Rust's, and whose part that of the return in the Rust's text by which it comes (tagged.sed).
@@ -30,6 +31,8 @@ mod asked;
 mod degenerate;
 #[path = "beside/engine.rs"]
 mod engine;
+#[path = "beside/few.rs"]
+mod few;
 #[path = "beside/scan.rs"]
 mod scan;
 #[path = "beside/tagged.rs"]
@@ -901,6 +904,7 @@ fn too_many() -> u64 {
         refused.note(!tree.accepted(&given) && tree.depth_read(&given) == 0, || "check".into());
         RULES.into_iter().for_each(|rule| refused.note(tree.sure(&given, &a.given_points, a.distance, rule).is_none(), || format!("sure by rule {rule}")));
         refused.note(tree.source(&given, &a.given_points, a.distance).is_none(), || "source".into());
+        RULES.into_iter().for_each(|rule| refused.note(tree.few(&given, &a.given_points, a.distance, rule, 2).is_none(), || format!("few by rule {rule}")));
         refused.note(engine::windings(&given, &a.given_points).is_none(), || "winding".into());
         refused.note(tree.sums(&given).is_none(), || "node sums".into());
         refused.note(tree.fast(&given, &vec![[0.0; 16]; tree.nodes], &a.given_points, 2.0).is_none(), || "winding by dipoles".into());
@@ -912,10 +916,10 @@ fn main() {
     let mut args = std::env::args().skip(1).map(|a| a.parse().expect("a number"));
     let mut next = |usual| args.next().unwrap_or(usual);
     let (trees, points, large, large_points) = (next(200_000), next(10_000_000), next(408), next(100_000));
-    let (level, wide, by_feet, by_part) = (next(5_000_000), next(5_000_000), next(2_000_000), next(2_000_000));
+    let (level, wide, by_feet, by_part, nearest_few) = (next(5_000_000), next(5_000_000), next(2_000_000), next(2_000_000), next(1_000_000));
     faults();
     let small = requests(trees, request) + scans(points, small_size);
-    let differ = small + requests(large, large_request) + scans(large_points, large_size) + too_many() + levels(level) + wider(wide) + feet(by_feet) + parts(by_part);
+    let differ = small + requests(large, large_request) + scans(large_points, large_size) + too_many() + levels(level) + wider(wide) + feet(by_feet) + parts(by_part) + few::few(nearest_few);
     println!("{differ} differ");
     std::process::exit((differ > 0) as i32);
 }

@@ -10,6 +10,8 @@ extern "C" {
     fn timing_depth_read(t: *const f32, tn: usize, o: *const u32, on: usize, l: *const u32, ln: usize, b: *const f32, bn: usize, nodes: usize) -> usize;
     fn timing_sure(t: *const f32, tn: usize, o: *const u32, on: usize, l: *const u32, ln: usize, b: *const f32, bn: usize, nodes: usize, p: *const f32, pn: usize, d: f32, rule: u32, a: *mut u32, an: usize) -> u32;
     fn timing_source(t: *const f32, tn: usize, o: *const u32, on: usize, l: *const u32, ln: usize, b: *const f32, bn: usize, nodes: usize, p: *const f32, pn: usize, d: f32, a: *mut u32, an: usize) -> u32;
+    fn timing_few(t: *const f32, tn: usize, o: *const u32, on: usize, l: *const u32, ln: usize, b: *const f32, bn: usize, nodes: usize, p: *const f32, pn: usize, d: f32, rule: u32, most: u32, a: *mut u32, an: usize) -> u32;
+    fn timing_measured(t: *const f32, tn: usize, o: *const u32, on: usize, l: *const u32, ln: usize, b: *const f32, bn: usize, nodes: usize, p: *const f32, pn: usize, d: f32, rule: u32, most: u32) -> usize;
     fn timing_winding(t: *const f32, tn: usize, p: *const f32, pn: usize, w: *mut f32, wn: usize) -> u32;
     fn timing_node_sums(t: *const f32, tn: usize, o: *const u32, on: usize, l: *const u32, ln: usize, b: *const f32, bn: usize, nodes: usize, s: *mut f32, sn: usize) -> u32;
     fn timing_fast(t: *const f32, tn: usize, o: *const u32, on: usize, l: *const u32, ln: usize, b: *const f32, bn: usize, nodes: usize, s: *const f32, sn: usize, p: *const f32, pn: usize, accuracy: f32, w: *mut f32, wn: usize) -> u32;
@@ -96,6 +98,30 @@ impl Tree {
         assert!(answered == 1 || a.iter().all(|&x| x == UNTOUCHED), "a refused query wrote");
         let right = answered == 1 && a[need..].iter().all(|&x| x == UNTOUCHED);
         right.then(|| a[..need].chunks_exact(WORDS).map(|w| w.try_into().unwrap()).collect())
+    }
+
+    /// As many answers a point as asked for, the nearest first, or nothing where the call refuses or writes past them. It is lent room for one
+    /// answer more.
+    pub fn few(&self, t: &[f32], p: &[f32], d: f32, rule: u32, most: u32) -> Option<Vec<Words>> {
+        let need = most as usize * (p.len() / 3);
+        let words = self.few_in(t, p, d, rule, most, WORDS * (need + 1))?;
+        let right = words[WORDS * need..].iter().all(|&x| x == UNTOUCHED);
+        right.then(|| words[..WORDS * need].chunks_exact(WORDS).map(|w| w.try_into().unwrap()).collect())
+    }
+
+    /// What the call leaves in so many words, or nothing where it refuses.
+    pub fn few_in(&self, t: &[f32], p: &[f32], d: f32, rule: u32, most: u32, room: usize) -> Option<Vec<u32>> {
+        let (n, o, l, b) = (t.len() / 9, &self.order, &self.links, &self.boxes);
+        let mut a = vec![UNTOUCHED; room];
+        let answered = unsafe { timing_few(t.as_ptr(), t.len(), o.as_ptr(), n, l.as_ptr(), l.len(), b.as_ptr(), b.len(), self.nodes, p.as_ptr(), p.len(), d, rule, most, a.as_mut_ptr(), a.len()) };
+        assert!(answered == 1 || a.iter().all(|&x| x == UNTOUCHED), "a refused query wrote");
+        (answered == 1).then_some(a)
+    }
+
+    /// How many triangles the search for so many measures for the first point; 0 where it refuses.
+    pub fn measured(&self, t: &[f32], p: &[f32], d: f32, rule: u32, most: u32) -> usize {
+        let (n, o, l, b) = (t.len() / 9, &self.order, &self.links, &self.boxes);
+        unsafe { timing_measured(t.as_ptr(), t.len(), o.as_ptr(), n, l.as_ptr(), l.len(), b.as_ptr(), b.len(), self.nodes, p.as_ptr(), p.len(), d, rule, most) }
     }
 
     /// Sixteen numbers a node, or nothing where the call refuses or writes past them.
