@@ -1,5 +1,5 @@
-// Replays trees and source answers of the Rust, and sure answers and all parts of a plain scan (tests/oracle/trees.rs made the list on
-// standard input).
+// Replays trees and source answers of the Rust, and sure answers, the nearest few and all parts of a plain scan (tests/oracle/trees.rs
+// made the list on standard input).
 // Prints the first ten words that differ, how many cases, trees and points there are and how many words differ.
 use build::calls::Built;
 use lists::verdict::Verdict;
@@ -9,7 +9,8 @@ use test_words::more;
 use test_words::pattern_at;
 use walks::words::ANSWER_WIDTH;
 
-// The first eight words of a case.
+// The first ten words of a case: how many answers a point has as its nearest few, and how many words these are, come last. Both are 0
+// where the few are not asked for.
 struct Head {
     triangles: usize,
     strategy: usize,
@@ -19,6 +20,8 @@ struct Head {
     points: usize,
     nodes: usize,
     depth: usize,
+    most: u32,
+    few: usize,
 }
 
 // Where the lists of a case begin in its bytes.
@@ -29,6 +32,8 @@ struct Places {
     boxes: usize,
     source: usize,
     sure: usize,
+    few: usize,
+    few_or_equal: usize,
 }
 
 struct Tally {
@@ -51,12 +56,14 @@ fn head_of(bytes: &[u8]) -> Head {
         points: number_at(bytes, 20),
         nodes: number_at(bytes, 24),
         depth: number_at(bytes, 28),
+        most: pattern_at(bytes, 32),
+        few: number_at(bytes, 36),
     }
 }
 
 // Whether the case fits the arrays below.
 fn is_small(head: Head) -> bool {
-    (head.triangles <= 24) & (head.points <= 20) & (head.nodes <= 47)
+    (head.triangles <= 24) & (head.points <= 20) & (head.nodes <= 47) & (head.few <= 560)
 }
 
 fn places_of(head: Head) -> Places {
@@ -67,6 +74,8 @@ fn places_of(head: Head) -> Places {
         let boxes = links + 12 * (head.nodes % 48);
         let source = boxes + 24 * (head.nodes % 48);
         let sure = source + 4 * ANSWER_WIDTH * (head.points % 21);
+        let few = sure + 4 * ANSWER_WIDTH * (head.points % 21);
+        let few_or_equal = few + 4 * (head.few % 561);
         return Places {
             points,
             order,
@@ -74,6 +83,8 @@ fn places_of(head: Head) -> Places {
             boxes,
             source,
             sure,
+            few,
+            few_or_equal,
         };
     }
     Places {
@@ -83,12 +94,14 @@ fn places_of(head: Head) -> Places {
         boxes: 0,
         source: 0,
         sure: 0,
+        few: 0,
+        few_or_equal: 0,
     }
 }
 
 // How many bytes follow the head.
 fn body_size(head: Head, places: Places) -> usize {
-    more(places.sure, 4 * ANSWER_WIDTH * (head.points % 21))
+    more(places.few_or_equal, 4 * (head.few % 561))
 }
 
 impl Tally {
@@ -244,7 +257,7 @@ fn built(bytes: &[u8], head: Head, places: Places, triangles: &[f32], tally: Tal
     )
 }
 
-// Compares both queries over the tree that stands in the case.
+// Compares all queries over the tree that stands in the case.
 fn with_boxes(
     bytes: &[u8],
     head: Head,
@@ -258,7 +271,7 @@ fn with_boxes(
     let mut all = [0.0f32; 282];
     let boxes = &mut all[0..6 * (head.nodes % 48)];
     fill_floats(bytes, places.boxes, boxes);
-    answered(
+    let near = answered(
         bytes,
         head,
         places,
@@ -268,6 +281,33 @@ fn with_boxes(
         links,
         boxes,
         tally,
+    );
+    if head.few == 0 {
+        return near;
+    }
+    let below = few_answered(
+        bytes,
+        head,
+        places.few,
+        1,
+        triangles,
+        points,
+        order,
+        links,
+        boxes,
+        near,
+    );
+    few_answered(
+        bytes,
+        head,
+        places.few_or_equal,
+        2,
+        triangles,
+        points,
+        order,
+        links,
+        boxes,
+        below,
     )
 }
 
@@ -313,6 +353,38 @@ fn answered(
         .words(b"source", source, bytes, places.source)
         .verdict(b"sure", sured)
         .words(b"sure", sure, bytes, places.sure)
+}
+
+// Compares the nearest few by a rule, in just as many words as they are, with those from a place on.
+fn few_answered(
+    bytes: &[u8],
+    head: Head,
+    from: usize,
+    rule: u32,
+    triangles: &[f32],
+    points: &[f32],
+    order: &[u32],
+    links: &[u32],
+    boxes: &[f32],
+    tally: Tally,
+) -> Tally {
+    let mut all = [7u32; 80 * ANSWER_WIDTH];
+    let few = &mut all[0..head.few % 561];
+    let verdict = queries::calls::few_query(
+        triangles,
+        order,
+        links,
+        boxes,
+        head.nodes,
+        points,
+        head.distance,
+        rule,
+        head.most,
+        few,
+    );
+    tally
+        .verdict(b"few", verdict)
+        .words(b"few", few, bytes, from)
 }
 
 fn with_links(
@@ -382,9 +454,9 @@ fn replay_body(head: Head, tally: Tally) -> Tally {
 
 // Replays the next case, if there is one that fits.
 fn replay_next(tally: Tally) -> Tally {
-    let mut bytes = [0u8; 32];
+    let mut bytes = [0u8; 40];
     let got = io::read_full(0, &mut bytes);
-    if got < 32 {
+    if got < 40 {
         return tally;
     }
     let head = head_of(&bytes);
