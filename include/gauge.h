@@ -27,7 +27,8 @@
  *
  *     points      12 bytes each: x y z. A slice of none is accepted
  *     answers     28 bytes each: 1 or 0, triangle, x, y, z, squared distance, part of the triangle
- *                 (struct gauge_answer); nothing found is seven zeros
+ *                 (struct gauge_answer); nothing found is seven zeros. One a point, or, where the
+ *                 nearest few are asked for, as many in a row as the call says
  *     windings    4 bytes each: an f32
  *     image       settings, triangles, order and nodes: version 1 of up to 4,096 triangles, version 2
  *                 of more. Both are written and read; one drawing with one tree has one image
@@ -50,8 +51,9 @@
  *     GAUGE_TOO_MANY      3  there are more than 65,536                          0
  *     GAUGE_COORDINATE    4  a coordinate of a triangle is no number, or         index of the first
  *                            beyond 1,048,576 either way                         among the numbers
- *     GAUGE_SETTING       5  a setting is out of range, or the rule of           0
- *                            gauge_sure is neither 1 nor 2
+ *     GAUGE_SETTING       5  a setting is out of range, the rule of a            0
+ *                            query is neither 1 nor 2, or most of
+ *                            gauge_few is not 1 to 16
  *     GAUGE_ROOM          6  a list or slice to write is too short               0
  *     GAUGE_TREE_ORDER   71  an entry of the order list is no triangle's         index of the first such
  *                            number, or stands there a second time;              entry;
@@ -96,7 +98,7 @@
 
 /* Of this header: the first number changes when a host must change. */
 #define GAUGE_VERSION_MAJOR 5
-#define GAUGE_VERSION_MINOR 0
+#define GAUGE_VERSION_MINOR 1
 
 #define GAUGE_MAX_TRIANGLES 65536
 #define GAUGE_MAX_LEAF_MINIMUM 65536
@@ -104,6 +106,7 @@
 #define GAUGE_MAX_COORDINATE 1048576.0f
 #define GAUGE_MAX_DISTANCE 4194304.0f
 #define GAUGE_MAX_SCALE 1000.0f
+#define GAUGE_MAX_FEW 16
 
 /* A drawing of so many triangles or fewer is small: its image is of version 1 and keeps no larger leaf
  * minimum. The image of a larger drawing is of version 2. */
@@ -119,7 +122,7 @@
 #define GAUGE_MEDIAN 1
 #define GAUGE_AREA 2
 
-/* Measuring rules of gauge_sure: whether a point at exactly the search distance counts. */
+/* Measuring rules of gauge_sure and gauge_few: whether a point at exactly the search distance counts. */
 #define GAUGE_RULE_BELOW 1          /* it does not: for castings that were gauged so, before the rule was revised */
 #define GAUGE_RULE_BELOW_OR_EQUAL 2 /* it does: the rule as revised */
 
@@ -163,6 +166,7 @@
 #define GAUGE_STACK_WRITE (78 * 1024)
 #define GAUGE_STACK_CHECK (78 * 1024)
 #define GAUGE_STACK_SURE (78 * 1024)
+#define GAUGE_STACK_FEW (78 * 1024)
 #define GAUGE_STACK_SOURCE (78 * 1024)
 #define GAUGE_STACK_WINDING (16 * 1024)
 #define GAUGE_STACK_NODE_SUMS (78 * 1024)
@@ -258,7 +262,7 @@ uint64_t gauge_write_stl(const float *triangles, size_t triangles_length, uint8_
 /* Builds a tree of boxes over n triangles, into the front of order, links and boxes.
  *
  *     strategy        GAUGE_MEDIAN or GAUGE_AREA: how a box is cut in two. The answers of
- *                     gauge_sure are the same by either
+ *                     gauge_sure and gauge_few are the same by either
  *     leaf_minimum    1 to 65,536: so few triangles are not cut further
  *     maximum_depth   0 to 64: how many levels the tree may have; 0 is one level too
  *
@@ -335,7 +339,32 @@ uint64_t gauge_sure(const float *triangles, size_t triangles_length, const uint3
                     const uint8_t *points, size_t points_length, float distance, uint32_t rule,
                     uint8_t *answers, size_t answers_length);
 
-/* The same question as the engine's source in Rust answers it, for comparing with it. Its answer may
+/* For each point the nearest few, not the nearest one: as many answers in a row as most says. Every triangle is
+ * measured as gauge_sure measures it. Of those that count at that distance the nearest stands first, then the
+ * next, the lower number first among equals. Where fewer count, each answer that is left over is nothing found,
+ * seven zeros. It is what measuring every triangle and sorting them would find, bit for bit, whatever tree is
+ * used.
+ *
+ *     distance, rule   as gauge_sure
+ *     most             1 to 16: how many answers stand in the row of each point
+ *
+ * The first of a row is the answer of gauge_sure, and by a most of 1 what is written is what gauge_sure writes. A
+ * larger most changes none of the answers: more stand behind them.
+ *
+ * A triangle is answered once at most. Triangles that share an edge or a corner are often level there and so
+ * stand one behind the other: the nearest two may be of one wall. On a thin rib, to find the other wall, ask for
+ * more and take the first whose triangle faces the other way, with the metal in between: examples/stock.c.
+ * Where the triangles are small beside the rib, all sixteen may be of one wall.
+ *
+ * Counted: the points answered, a row each, from the front of answers.
+ * Refused: as gauge_sure, GAUGE_SETTING also where most is 0 or above 16, and GAUGE_ROOM where answers has
+ * room for fewer than most times points_length / 12 answers. */
+uint64_t gauge_few(const float *triangles, size_t triangles_length, const uint32_t *order, size_t order_length,
+                   const uint32_t *links, size_t links_length, const float *boxes, size_t boxes_length, size_t nodes,
+                   const uint8_t *points, size_t points_length, float distance, uint32_t rule, uint32_t most,
+                   uint8_t *answers, size_t answers_length);
+
+/* The question of gauge_sure as the engine's source in Rust answers it, for comparing with it. Its answer may
  * lie beyond the distance, and is not always the nearest: for measuring use gauge_sure. Its part is that of
  * the test that found the point; triangles without a computed point it passes over.
  *
@@ -505,7 +534,16 @@ static inline uint64_t gauge_drawing_sure(const struct gauge_drawing *d, const f
                       GAUGE_ANSWER_BYTES * count);
 }
 
-/* gauge_source, likewise without a rule. */
+/* gauge_few, likewise with most answers for each point. */
+static inline uint64_t gauge_drawing_few(const struct gauge_drawing *d, const float *points, size_t count, float distance,
+                                         uint32_t rule, uint32_t most, struct gauge_answer *answers)
+{
+    return gauge_few(d->triangles, 9 * d->count, d->order, d->count, d->links, 6 * d->count, d->boxes, 12 * d->count, d->nodes,
+                     (const uint8_t *)points, GAUGE_POINT_BYTES * count, distance, rule, most, (uint8_t *)answers,
+                     GAUGE_ANSWER_BYTES * (size_t)most * count);
+}
+
+/* gauge_source, of so many points with as many answers, without a rule. */
 static inline uint64_t gauge_drawing_source(const struct gauge_drawing *d, const float *points, size_t count, float distance,
                                             struct gauge_answer *answers)
 {

@@ -1,6 +1,6 @@
 /* include/gauge.h alone, compiled as C99 and as C++, each with every warning an error; what it states
  * of its numbers and of a drawing's block, and the worked example of two triangles, also by both measuring
- * rules, with a damaged tree and as an STL, and each part of a triangle, from C and from C++ alike. */
+ * rules, with a damaged tree and as an STL, its nearest few, and each part of a triangle, from C and from C++ alike. */
 #include "gauge.h"
 #include "gauge.h"
 
@@ -27,7 +27,7 @@ static void expect_numbers(void)
 {
     const uint64_t point = (uint64_t)1 << 63 | 17, layout = (uint64_t)10 << 56 | 14;
     const uint64_t scale = (uint64_t)GAUGE_SCALE << 56, stl = (uint64_t)GAUGE_STL << 56 | 134, box = (uint64_t)GAUGE_TREE_BOX << 56 | 131070;
-    expect(GAUGE_VERSION_MAJOR == 5 && GAUGE_VERSION_MINOR == 0, "the header's version");
+    expect(GAUGE_VERSION_MAJOR == 5 && GAUGE_VERSION_MINOR == 1, "the header's version");
     expect(sizeof(struct gauge_answer) == GAUGE_ANSWER_BYTES && sizeof(float) == 4, "the bytes of an answer");
     expect(offsetof(struct gauge_answer, part) == GAUGE_ANSWER_BYTES - sizeof(uint32_t), "an answer's part is its last word");
     expect(GAUGE_FACE == 0 && GAUGE_CORNER_A == 1 && GAUGE_CORNER_B == 2 && GAUGE_CORNER_C == 3 && GAUGE_EDGE_AB == 4 && GAUGE_EDGE_AC == 5 &&
@@ -166,6 +166,61 @@ static void expect_rules(void)
     expect(gauge_drawing_source(&d, between, 1, 4.5f, &answer) == 1, "the source query has no rule");
 }
 
+/* The nearest few of the two triangles: the first point is exactly 4.5 from both, the second 2 from the second of them and 12 from the
+ * first. Behind the answers the row has bytes that stay. */
+static void expect_few(void)
+{
+    static const float corners[18] = {0, 0, 0, 1, 0, 0, 0, 1, 0, 10, 0, 0, 11, 0, 0, 10, 1, 0};
+    static const float points[6] = {5.5f, 0, 0, 13, 0, 0};
+    static const struct gauge_answer rows[2][2] = {{{1, 0, 1, 0, 0, 20.25f, GAUGE_CORNER_B}, {1, 1, 10, 0, 0, 20.25f, GAUGE_CORNER_A}},
+                                                   {{1, 1, 11, 0, 0, 4, GAUGE_CORNER_B}, {1, 0, 1, 0, 0, 144, GAUGE_CORNER_B}}};
+    static const struct gauge_answer nothing = {0, 0, 0, 0, 0, 0, 0};
+    static const uint32_t none[] = {0, GAUGE_MAX_FEW + 1, 256 + 2, 65536 + 2, 0x80000002, 0xffffffff};
+    static float block[GAUGE_DRAWING_BYTES(2) / 4];
+    struct gauge_drawing d = gauge_lay(block, 2);
+    struct gauge_answer few[2 * GAUGE_MAX_FEW + 1], sure[2], painted;
+    const uint64_t five = (uint64_t)GAUGE_SETTING << 56, six = (uint64_t)GAUGE_ROOM << 56;
+    memcpy(d.triangles, corners, sizeof corners);
+    memset(&painted, 0xff, sizeof painted);
+    expect(gauge_drawing_build(&d, GAUGE_MEDIAN, 1, 40) == 3, "a tree");
+    expect(GAUGE_MAX_FEW == 16, "how many the nearest few are at most");
+
+    for (uint32_t most = 1; most <= GAUGE_MAX_FEW; most++) {
+        memset(few, 0xff, sizeof few);
+        expect(gauge_drawing_few(&d, points, 2, 50, GAUGE_RULE_BELOW, most, few) == 2, "two points");
+        for (uint32_t i = 0; i < 2 * most; i++)
+            expect(memcmp(&few[i], i % most < 2 ? &rows[i / most][i % most] : &nothing, sizeof *few) == 0, "the nearest few of two");
+        expect(memcmp(&few[2 * most], &painted, sizeof painted) == 0, "what stands behind the nearest few");
+    }
+    expect(gauge_drawing_sure(&d, points, 2, 50, GAUGE_RULE_BELOW, sure) == 2 &&
+               gauge_drawing_few(&d, points, 2, 50, GAUGE_RULE_BELOW, 1, few) == 2 && memcmp(sure, few, sizeof sure) == 0,
+           "the nearest one of the few is the sure answer");
+    expect(gauge_drawing_few(&d, points, 1, 4.5f, GAUGE_RULE_BELOW, 2, few) == 1 && few[0].found == 0 && few[1].found == 0,
+           "both at exactly the distance, below");
+    expect(gauge_drawing_few(&d, points, 1, 4.5f, GAUGE_RULE_BELOW_OR_EQUAL, 2, few) == 1 && memcmp(few, rows[0], sizeof rows[0]) == 0,
+           "both at exactly the distance, below or equal");
+    expect(gauge_drawing_few(&d, points + 3, 1, 12, GAUGE_RULE_BELOW, 2, few) == 1 && memcmp(&few[0], &rows[1][0], sizeof *few) == 0 &&
+               memcmp(&few[1], &nothing, sizeof *few) == 0,
+           "the second at exactly the distance, below");
+
+    memset(few, 0xff, sizeof few);
+    for (size_t i = 0; i < sizeof none / sizeof *none; i++)
+        expect(gauge_drawing_few(&d, points, 1, 50, GAUGE_RULE_BELOW, none[i], few) == five, "a number that is no few");
+    expect(gauge_drawing_few(&d, points, 1, 50, 3, 2, few) == five, "no rule of the nearest few");
+    expect(gauge_few(d.triangles, 17, d.order, 2, d.links, 9, d.boxes, 18, 3, NULL, 0, 50, 1, 0, NULL, 0) == (uint64_t)GAUGE_RAGGED << 56,
+           "no few, and a ragged list");
+    expect(gauge_few(d.triangles, 18, NULL, 0, d.links, 9, d.boxes, 18, 3, (const uint8_t *)points, 11, -1, 1, 0, NULL, 0) == five,
+           "no few, no tree, no whole point, no distance and no room");
+    expect(gauge_few(d.triangles, 18, d.order, 2, d.links, 9, d.boxes, 18, 3, (const uint8_t *)points, 24, 50, 1, 3, (uint8_t *)few,
+                     6 * GAUGE_ANSWER_BYTES - 1) == six,
+           "a byte short of two rows of three");
+    expect(memcmp(&few[0], &painted, sizeof painted) == 0, "a refused call writes nothing");
+    expect(gauge_few(d.triangles, 18, d.order, 2, d.links, 9, d.boxes, 18, 3, (const uint8_t *)points, 24, 50, 1, 3, (uint8_t *)few,
+                     6 * GAUGE_ANSWER_BYTES) == 2,
+           "two rows of three");
+    expect(gauge_few(d.triangles, 18, d.order, 2, d.links, 9, d.boxes, 18, 3, NULL, 0, 50, 1, 3, NULL, 0) == 0, "no points, and no room");
+}
+
 /* A triangle asked from over its face and from beside each corner and edge; then one whose corners a and b are the same, which has no
  * computed point: its edge ac is kept, at its end too. The source query answers the first likewise, and of the second nothing. */
 static void expect_parts(void)
@@ -270,6 +325,7 @@ int main(void)
     expect_block();
     expect_example();
     expect_rules();
+    expect_few();
     expect_parts();
     expect_damage();
     expect_stl();
