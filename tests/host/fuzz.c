@@ -4,8 +4,8 @@
  *     fuzz CALLS [SEED]
  *
  * First each bad image, each bad STL, each bad tree, each small length, each rule, each step about the distance of
- * a point, each part of a triangle and each kind of foot in turn, then drawings, damages and questions by chance,
- * until so many calls are made. Each list and slice stands flush with a page that
+ * a point, each part of a triangle, each kind of foot and each of the nearest few in turn, then drawings, damages
+ * and questions by chance, until so many calls are made. Each list and slice stands flush with a page that
  * cannot be touched, before it or behind it, and has other bytes beside it: a byte read or written
  * outside ends the program or is counted as a difference, and so is a byte that a refused call writes.
  * The exit status is 0 where nothing differs and, of ENOUGH calls or more, each call was done and refused
@@ -99,13 +99,13 @@ static int as_wanted(void)
 
 /* ---- one call, compared */
 
-enum { MAX_CALL, COUNT, READ, READ_STL, WRITE_STL, BUILD, WRITE, CHECK, SURE, SOURCE, WINDING, NODE_SUMS, FAST, CALLS };
+enum { MAX_CALL, COUNT, READ, READ_STL, WRITE_STL, BUILD, WRITE, CHECK, FEW, SURE, SOURCE, WINDING, NODE_SUMS, FAST, CALLS };
 static const char *const names[CALLS] = {"gauge_image_max", "gauge_image_triangles", "gauge_read", "gauge_read_stl", "gauge_write_stl",
-                                         "gauge_build", "gauge_write", "gauge_check", "gauge_sure", "gauge_source", "gauge_winding",
-                                         "gauge_node_sums", "gauge_fast_winding"};
+                                         "gauge_build", "gauge_write", "gauge_check", "gauge_few", "gauge_sure", "gauge_source",
+                                         "gauge_winding", "gauge_node_sums", "gauge_fast_winding"};
 
 /* How a call may end, as gauge.h lists it: the first is done, the others are refusals. */
-enum { ENDS = 17, ENOUGH = 30000 };
+enum { ENDS = 17, ENOUGH = 33000 };
 static const unsigned numbers[ENDS] = {0, 1, 2, 3, 4, 5, 6, 71, 72, 73, 74, 75, 8, 9, 10, 11, 14};
 static uint64_t calls, called[CALLS], ended[CALLS][ENDS], differences, unknown;
 static const int listed[CALLS][ENDS] = {
@@ -117,6 +117,7 @@ static const int listed[CALLS][ENDS] = {
     {1, 1, 1, 1, 1, 1, 1, 0, 0, 0, 0, 0, 0, 0, 0, 0, 0}, /* gauge_build */
     {1, 1, 1, 1, 1, 1, 1, 1, 1, 1, 1, 1, 0, 0, 0, 0, 0}, /* gauge_write */
     {1, 1, 1, 1, 1, 0, 0, 1, 1, 1, 1, 1, 0, 0, 0, 0, 0}, /* gauge_check */
+    {1, 1, 1, 1, 1, 1, 1, 1, 1, 1, 1, 1, 1, 1, 0, 0, 0}, /* gauge_few */
     {1, 1, 1, 1, 1, 1, 1, 1, 1, 1, 1, 1, 1, 1, 0, 0, 0}, /* gauge_sure */
     {1, 1, 1, 1, 1, 0, 1, 1, 1, 1, 1, 1, 1, 1, 0, 0, 0}, /* gauge_source */
     {1, 1, 1, 1, 1, 0, 1, 0, 0, 0, 0, 0, 1, 0, 0, 0, 0}, /* gauge_winding */
@@ -152,6 +153,12 @@ static uint64_t compared(int call, const uint64_t returned[BOTH])
                 (unsigned long long)calls, names[call], gauge_number(by_library), (unsigned long long)gauge_place(by_library),
                 gauge_number(wanted), (unsigned long long)gauge_place(wanted), same ? "same" : "differ");
     return wanted;
+}
+
+static void differs(const char *what)
+{
+    if (differences++ < 10)
+        fprintf(stderr, "fuzz: call %llu: %s\n", (unsigned long long)calls, what);
 }
 
 /* A slice of bytes. */
@@ -295,6 +302,27 @@ static uint64_t ask_points(int call, Drawing d, Slice points, float distance, ui
         else
             returned[who] = (who == PLAIN ? plain_winding : gauge_winding)(FLOATS(TRIANGLES), BYTES(POINTS), BYTES(ANSWERS));
     return compared(call, returned);
+}
+
+/* The nearest few. Where they are answered, the first of each point must be what the library's sure query answers. */
+static void ask_few(Drawing d, Slice points, float distance, uint32_t rule, uint32_t most, size_t room)
+{
+    static struct gauge_answer sure[64];
+    uint64_t returned[BOTH];
+    lend_drawing(d);
+    lend(POINTS, points.bytes, points.length);
+    lend(ANSWERS, NULL, room);
+    for (int who = 0; who < BOTH; who++)
+        returned[who] = (who == PLAIN ? plain_few : gauge_few)(TREE, d.nodes, BYTES(POINTS), distance, rule, most, BYTES(ANSWERS));
+    size_t count = gauge_refused(returned[PLAIN]) ? 0 : returned[PLAIN];
+    int who = GAUGE, firsts = 1;
+    if (count != 0)
+        firsts = gauge_sure(TREE, d.nodes, BYTES(POINTS), distance, rule, (uint8_t *)sure, sizeof sure) == count;
+    for (size_t i = 0; i < count && firsts; i++)
+        firsts = memcmp(&sure[i], lent[ANSWERS].at + room_for(most) * i, sizeof *sure) == 0;
+    compared(FEW, returned);
+    if (!firsts)
+        differs("the first of the nearest few is not the sure query's answer");
 }
 
 /* The same bits for every NaN: which of them a call writes is left open. */
@@ -513,6 +541,20 @@ static uint32_t make_rule(void)
     return below(12) ? good_rule() : no_rules[below(NO_RULES)];
 }
 
+/* Numbers that are no few, some of them one in fewer bits. */
+static const uint32_t no_fews[] = {0, 17, 18, 32, 255, 256, 257, 272, 65535, 65536, 65537, 65552, 0x80000001, 0x80000010, 0xfffffff0, 0xffffffff};
+enum { NO_FEWS = sizeof no_fews / sizeof *no_fews };
+
+static uint32_t good_few(void)
+{
+    return 1 + below(below(3) ? 4 : GAUGE_MAX_FEW);
+}
+
+static uint32_t make_few(void)
+{
+    return below(12) ? good_few() : no_fews[below(NO_FEWS)];
+}
+
 static float make_scale(void)
 {
     static const float some[] = {0, -0.0f, 1e-40f, 0.25f, 0.5f, 1, 1.5f, 2, 2, 2, 3, 10, 1000};
@@ -661,13 +703,23 @@ static float nearest_root(Drawing d, const float *point)
     return root_of(answer.squared);
 }
 
-/* That, or one step of a float less or more. */
-static float level_distance(Drawing d, const float *point)
+/* How far it is from one triangle of it. */
+static float triangle_root(const float *triangle, const float *point)
+{
+    uint32_t order[1], links[3];
+    float boxes[6];
+    size_t nodes = plain_chain(1, PLAIN_LEFT, triangle, 1, order, links, boxes);
+    Drawing alone = {triangle, 9, order, 1, links, 3, boxes, 6, nodes};
+    return nearest_root(alone, point);
+}
+
+/* Either of them, or one step of a float less or more. */
+static float level_distance(Drawing d, const float *triangle, const float *point)
 {
     for (int k = 0; k < 3; k++)
         if (!(fabsf(point[k]) <= GAUGE_MAX_COORDINATE))
             return make_distance();
-    float at = nearest_root(d, point);
+    float at = triangle == NULL ? nearest_root(d, point) : triangle_root(triangle, point);
     unsigned step = below(4);
     return step == 0 ? nextafterf(at, 0) : step == 1 ? nextafterf(at, INFINITY) : at;
 }
@@ -685,6 +737,10 @@ static void ask_all(Settings s, Drawing d, Slice points, float distance)
     size_t n = points.length / 12;
     ask_check(d);
     ask_points(SURE, d, points, distance, good_rule(), room_for(n));
+    if (below(2)) {
+        uint32_t most = good_few();
+        ask_few(d, points, distance, good_rule(), most, room_for(n * most));
+    }
     ask_points(SOURCE, d, points, distance, 0, room_for(n));
     ask_points(WINDING, d, points, distance, 0, 4 * n);
     ask_write(s, d, exact_size(d));
@@ -937,12 +993,6 @@ static Slice make_stl(size_t n)
     for (size_t i = 0; i < n; i++)
         memcpy(corner_at(9 * i), drawing + 9 * i, 36);
     return bytes_of(stl_bytes, length);
-}
-
-static void differs(const char *what)
-{
-    if (differences++ < 10)
-        fprintf(stderr, "fuzz: call %llu: %s\n", (unsigned long long)calls, what);
 }
 
 /* Where the STL is read, what was read is written: the same count and corners, and zeros beside them. Read again it is
@@ -1250,6 +1300,54 @@ static void each_rule(Drawing d, Slice points)
     }
 }
 
+/* Each number of answers, and each that is none, by both rules and by none, and beside whatever else is refused: before it the triangles,
+ * behind it all the rest, of which room is the first. */
+static void each_most(Drawing d, Slice points)
+{
+    static float point[3];
+    size_t n = points.length / 12;
+    memcpy(point, points.bytes, 12);
+    point[2] = NAN;
+    for (uint32_t k = 0; k < GAUGE_MAX_FEW + NO_FEWS; k++) {
+        uint32_t most = k < GAUGE_MAX_FEW ? 1 + k : no_fews[k - GAUGE_MAX_FEW], each = most <= GAUGE_MAX_FEW ? most : GAUGE_MAX_FEW + 1;
+        size_t room = room_for(n * each);
+        for (uint32_t rule = 0; rule <= 3; rule++)
+            ask_few(d, points, GAUGE_MAX_DISTANCE, rule, most, room);
+        ask_few(d, points, GAUGE_MAX_DISTANCE, good_rule(), most, 0);
+        ask_few(d, bytes_of(NULL, 0), GAUGE_MAX_DISTANCE, good_rule(), most, 0);
+        if (most > 2 && most < GAUGE_MAX_FEW)
+            continue;
+        Drawing ragged = d, none = d, nodeless = d, corner = copied(d);
+        ragged.triangles_length--;
+        none.triangles_length = 0;
+        nodeless.nodes = 0;
+        bad_triangles[8] = INFINITY;
+        ask_few(corner, points, GAUGE_MAX_DISTANCE, good_rule(), most, room);
+        ask_few(ragged, points, GAUGE_MAX_DISTANCE, good_rule(), most, room);
+        ask_few(none, points, GAUGE_MAX_DISTANCE, good_rule(), most, room);
+        ask_few(with_order(d, 0, 65536), points, GAUGE_MAX_DISTANCE, good_rule(), most, room);
+        ask_few(nodeless, points, GAUGE_MAX_DISTANCE, good_rule(), most, room);
+        ask_few(with_link(d, 0, 3), points, GAUGE_MAX_DISTANCE, good_rule(), most, room);
+        ask_few(with_side(d, 0, 0x7fc00000), points, GAUGE_MAX_DISTANCE, good_rule(), most, room);
+        ask_few(d, bytes_of(points.bytes, points.length - 1), GAUGE_MAX_DISTANCE, good_rule(), most, room);
+        ask_few(d, bytes_of(point, 12), GAUGE_MAX_DISTANCE, good_rule(), most, room);
+        ask_few(d, points, -1, good_rule(), most, room);
+        ask_few(nodeless, bytes_of(point, 11), NAN, good_rule(), most, room);
+        ask_few(nodeless, points, NAN, good_rule(), most, room_for(n) - 1); /* no room for one answer a point either */
+    }
+}
+
+/* Room for the nearest few: as much as they take, a byte less and a byte more, an answer less, as much as one a point takes, and none. */
+static void each_few_room(Drawing d, Slice points)
+{
+    for (size_t n = 0; 12 * n <= points.length; n++)
+        for (uint32_t most = 1; most <= GAUGE_MAX_FEW; most++) {
+            size_t exact = room_for(n * most), rooms_given[] = {exact, exact + 1, exact - 1, exact - room_for(1), room_for(n), 0};
+            for (size_t k = 0; k < (n == 0 ? 2 : sizeof rooms_given / sizeof *rooms_given); k++)
+                ask_few(d, bytes_of(points.bytes, 12 * n), GAUGE_MAX_DISTANCE, good_rule(), most, rooms_given[k]);
+        }
+}
+
 /* Both rules at a distance. */
 static void both_rules(Drawing d, Slice points, float distance)
 {
@@ -1427,9 +1525,109 @@ static void each_degenerate(void)
             touched[i] += between(-far, far);
         }
         Drawing d = make_tree(n, s);
-        float distance = below(2) ? GAUGE_MAX_DISTANCE : level_distance(d, touched);
+        float distance = below(2) ? GAUGE_MAX_DISTANCE : level_distance(d, NULL, touched);
         both_rules(d, bytes_of(touched, sizeof touched), distance);
         ask_points(SOURCE, d, bytes_of(touched, sizeof touched), distance, 0, room_for(many));
+        uint32_t most = good_few();
+        ask_few(d, bytes_of(touched, sizeof touched), distance, good_rule(), most, room_for(many * most));
+    }
+}
+
+/* Whether the nearest few are these, that were told by hand: each number of them, in bytes that were others; and one number of them beside
+ * plain C. */
+static void expect_few(Drawing d, const float *point, float distance, uint32_t rule, const struct gauge_answer *wanted, const char *otherwise)
+{
+    static const struct gauge_answer painted = {0xa5a5a5a5, 0xa5a5a5a5, 1, 1, 1, 1, 0xa5a5a5a5};
+    struct gauge_answer said[GAUGE_MAX_FEW + 1];
+    for (uint32_t most = 1; most <= GAUGE_MAX_FEW; most++) {
+        for (int k = 0; k <= GAUGE_MAX_FEW; k++)
+            said[k] = painted;
+        uint64_t returned = gauge_few(d.triangles, d.triangles_length, d.order, d.order_length, d.links, d.links_length, d.boxes,
+                                      d.boxes_length, d.nodes, (const uint8_t *)point, 12, distance, rule, most, (uint8_t *)said, sizeof said);
+        if (returned != 1 || memcmp(said, wanted, room_for(most)) != 0 || memcmp(&said[most], &painted, sizeof painted) != 0)
+            differs(otherwise);
+    }
+    uint32_t most = 1 + below(GAUGE_MAX_FEW);
+    ask_few(d, bytes_of(point, 12), distance, rule, most, room_for(most));
+}
+
+/* Of the drawing trees of each kind: built, and chains, which come to the triangles in another order. There are so many. */
+enum { TREES = 6 };
+
+static Drawing few_tree(size_t n, int which)
+{
+    static const Settings settings[] = {{1, 1, 40}, {2, 1, 40}, {1, 3, 40}};
+    if (which < 3)
+        return make_tree(n, settings[which]);
+    return tree_of(n, plain_chain(n, PLAIN_LEFT + which - 3, drawing, n, tree_order, tree_links, tree_boxes));
+}
+
+/* The nearest few by hand. Triangles that lie one over the other, seen from a point that stands square to the face of each: how high each
+ * is, and their numbers as they must be told at the largest distance. At a distance it is the front of that, by rule 1 as far as they are
+ * lower, by rule 2 those too that are as high. Then walls of two triangles each. */
+static void each_few(void)
+{
+    static const struct { size_t count; float heights[20]; uint32_t told[20]; } stacks[] = {
+        {1, {3}, {0}},
+        {2, {-1, 1}, {0, 1}},                              /* level */
+        {2, {2, -0.5f}, {1, 0}},                           /* a thin rib from inside */
+        {2, {-3, -1}, {1, 0}},                             /* and from outside */
+        {5, {2, 2, 2, 2, 2}, {0, 1, 2, 3, 4}},             /* one triangle five times */
+        {6, {4, 1, 4, 1, -2, -2}, {1, 3, 4, 5, 0, 2}},     /* three told twice */
+        {17, {4, 4, -4, 4, 4, 4, 4, 4, -4, 4, 4, 4, 4, 4, 4, 4, 4}, {0, 1, 2, 3, 4, 5, 6, 7, 8, 9, 10, 11, 12, 13, 14, 15, 16}},
+        {18, {9, 8, 7, 6, 5, 4, 3, 2, 1, 18, 17, 16, 15, 14, 13, 12, 11, 10}, {8, 7, 6, 5, 4, 3, 2, 1, 0, 17, 16, 15, 14, 13, 12, 11, 10, 9}},
+        {20, {3, 1, -1, 2, 1, -3, 1, 1, 2, 5, 4, -4, 6, 5, -6, 7, 8, 8, 9, -7}, /* five are level, then two and two, at 16 of them too */
+         {1, 2, 4, 6, 7, 3, 8, 0, 5, 10, 11, 9, 13, 12, 14, 15, 19, 16, 17, 18}},
+    };
+    static const float walls[] = {0, 0, 0, 0, 4, 0, 0, 4, 4, 0, 0, 0, 0, 4, 4, 0, 0, 4, 1, 0, 0, 1, 4, 4, 1, 4, 0, 1, 0, 0, 1, 0, 4, 1, 4, 4};
+    static const struct { float point[3]; struct gauge_answer answers[GAUGE_MAX_FEW]; } ribs[] = {
+        /* over the edge between the two triangles of a wall: both are of this wall, then both of the other */
+        {{-2, 2, 2}, {{1, 0, 0, 2, 2, 4, GAUGE_EDGE_AC}, {1, 1, 0, 2, 2, 4, GAUGE_EDGE_AB}, {1, 2, 1, 2, 2, 9, GAUGE_EDGE_AB},
+                      {1, 3, 1, 2, 2, 9, GAUGE_EDGE_AC}}},
+        /* inside: one wall, then the other, by their faces */
+        {{0.25f, 1, 3}, {{1, 1, 0, 1, 3, 0.0625f, GAUGE_FACE}, {1, 3, 1, 1, 3, 0.5625f, GAUGE_FACE}, {1, 0, 0, 2, 2, 2.0625f, GAUGE_EDGE_AC},
+                         {1, 2, 1, 2, 2, 2.5625f, GAUGE_EDGE_AB}}},
+        /* beside a corner, where each wall is level with itself, and half way the walls are too */
+        {{0.5f, -1, -1}, {{1, 0, 0, 0, 0, 2.25f, GAUGE_CORNER_A}, {1, 1, 0, 0, 0, 2.25f, GAUGE_CORNER_A}, {1, 2, 1, 0, 0, 2.25f, GAUGE_CORNER_A},
+                          {1, 3, 1, 0, 0, 2.25f, GAUGE_CORNER_A}}},
+    };
+    static const float pinched[] = {0, 0, 0, 0, 0, 0, 4, 0, 0, 1, 3, 0, 1, 3, 0, 1, 3, 0}; /* an edge and a corner: no computed point */
+    static const float by_pinched[] = {1, 1, 0};
+    static const struct gauge_answer of_pinched[GAUGE_MAX_FEW] = {{1, 0, 1, 0, 0, 1, GAUGE_EDGE_AC}, {1, 1, 1, 3, 0, 4, GAUGE_CORNER_A}};
+    static const float above[] = {1, 1, 0};
+    for (size_t k = 0; k < sizeof stacks / sizeof *stacks; k++)
+        for (int which = 0; which < TREES; which++) {
+            size_t n = stacks[k].count;
+            for (size_t t = 0; t < n; t++) {
+                float h = stacks[k].heights[t], corners[] = {0, 0, h, 4, 0, h, 0, 4, h};
+                memcpy(drawing + 9 * t, corners, sizeof corners);
+            }
+            Drawing d = few_tree(n, which);
+            for (size_t i = 0; i < 3 * n + 2; i++) {
+                float height = fabsf(stacks[k].heights[i / 3 % n]), distance = i == 3 * n ? 0 : GAUGE_MAX_DISTANCE;
+                if (i < 3 * n) /* as high as one of them, a step lower, a step higher */
+                    distance = i % 3 == 0 ? height : nextafterf(height, i % 3 == 1 ? 0 : INFINITY);
+                for (uint32_t rule = 1; rule <= 2; rule++) {
+                    struct gauge_answer wanted[20];
+                    memset(wanted, 0, sizeof wanted);
+                    for (size_t place = 0; place < n; place++) {
+                        float h = stacks[k].heights[stacks[k].told[place]];
+                        struct gauge_answer a = {1, stacks[k].told[place], 1, 1, h, h * h, GAUGE_FACE};
+                        if (fabsf(h) < distance || (rule == 2 && fabsf(h) == distance))
+                            wanted[place] = a;
+                    }
+                    expect_few(d, above, distance, rule, wanted, "the nearest few are not what they are by hand");
+                }
+            }
+        }
+    for (int which = 0; which < TREES; which++) {
+        memcpy(drawing, walls, sizeof walls);
+        Drawing d = few_tree(4, which);
+        for (size_t k = 0; k < sizeof ribs / sizeof *ribs; k++)
+            expect_few(d, ribs[k].point, 50, good_rule(), ribs[k].answers, "the walls of a rib are not what they are by hand");
+        memcpy(drawing, pinched, sizeof pinched);
+        expect_few(few_tree(2, which), by_pinched, 50, good_rule(), of_pinched,
+                   "the nearest few without a computed point are not what they are by hand");
     }
 }
 
@@ -1455,6 +1653,8 @@ static void in_turn(size_t n)
     each_stl_size(n);
     each_corner(n);
     each_rule(d, points);
+    each_most(d, points);
+    each_few_room(d, points);
     each_step(d, touched, 4);
 }
 
@@ -1512,6 +1712,7 @@ static void ask_limits(void)
         ask_build(s, zeros, lengths[i], rooms_for(n, 2 * n));
         ask_all(usual, d, points, GAUGE_MAX_DISTANCE);
         ask_points(SURE, d, points, GAUGE_MAX_DISTANCE, 3, room_for(points.length / 12));
+        ask_few(d, points, GAUGE_MAX_DISTANCE, 1, GAUGE_MAX_FEW + 1, room_for(points.length / 12));
     }
 }
 
@@ -1632,6 +1833,26 @@ static void ask_writes(Drawing d)
     ask_write(any, d, exact_size(d));
 }
 
+/* Room for the nearest few: mostly what they take, else a byte less, some more, less or none. */
+static size_t few_room(size_t count, uint32_t most)
+{
+    size_t exact = room_for(count * (most <= GAUGE_MAX_FEW ? most : GAUGE_MAX_FEW));
+    unsigned kind = below(8);
+    return kind == 0 ? exact - (exact != 0) : kind == 1 ? exact + 1 + below(60) : kind == 2 ? below((unsigned)exact + 1) : kind == 3 ? 0 : exact;
+}
+
+/* The nearest few, at a distance at which one of the triangles may stand exactly. */
+static void ask_fews(Drawing d, size_t n, Slice points, float distance)
+{
+    size_t many = (points.length + 11) / 12;
+    if (many > 0 && below(2))
+        distance = level_distance(d, drawing + 9 * below((unsigned)n), touched + 3 * below((unsigned)many));
+    for (int i = 0; i < 2; i++) {
+        uint32_t most = i == 0 ? make_few() : good_few();
+        ask_few(d, points, distance, i == 0 ? make_rule() : good_rule(), most, i == 0 ? few_room(many, most) : room_for(many * most));
+    }
+}
+
 static void ask_questions(Drawing d, size_t n, int times)
 {
     for (int i = 0; i < times; i++) {
@@ -1643,10 +1864,11 @@ static void ask_questions(Drawing d, size_t n, int times)
         if (many > 0 && below(10) == 0)
             points.length -= below(12);
         Drawing asked = below(3) ? d : damage(d);
-        float distance = many > 0 && below(2) ? level_distance(d, touched + 3 * below((unsigned)many)) : make_distance();
+        float distance = many > 0 && below(2) ? level_distance(d, NULL, touched + 3 * below((unsigned)many)) : make_distance();
         size_t spare = below(3) ? 0 : below(60);
         ask_points(SURE, asked, points, distance, make_rule(), room_for(many) + spare);
         ask_points(SURE, asked, points, distance, good_rule(), room_for(many) + spare);
+        ask_fews(asked, n, points, distance);
         ask_points(SOURCE, asked, points, distance, 0, room_for(many) + spare);
         ask_points(WINDING, asked, points, distance, 0, 4 * many + spare);
         ask_fast(asked, any_sums(asked), points, make_scale(), 4 * many + spare);
@@ -1723,6 +1945,15 @@ static int wrong_ends(void)
                 fprintf(stderr, "fuzz: %s, part %d %s\n", ways[way], part, can_be[way][part] ? "was never answered" : "was answered and cannot be");
                 wrong++;
             }
+    for (int k = 0; k <= GAUGE_MAX_FEW; k++)
+        if (calls >= ENOUGH && plain_told[k] == 0) {
+            fprintf(stderr, "fuzz: at no point the nearest few were %d\n", k);
+            wrong++;
+        }
+    if (calls >= ENOUGH && (plain_left_over == 0 || plain_cut_level == 0)) {
+        fprintf(stderr, "fuzz: the nearest few were always all that count, or never level with what is left over\n");
+        wrong++;
+    }
     if (calls >= ENOUGH && plain_moved == 0) {
         fprintf(stderr, "fuzz: no point was moved when it was held into the box\n");
         wrong++;
@@ -1750,6 +1981,7 @@ int main(int argc, char **argv)
     each_level();
     each_part();
     each_foot();
+    each_few();
     each_degenerate();
     each_depth();
     each_max();
@@ -1788,6 +2020,11 @@ int main(int argc, char **argv)
         printf(way + 1 < PLAIN_WAYS ? "," : "; ");
     }
     printf("%llu points were moved when held\n", (unsigned long long)plain_moved);
+    printf("nearest few, points by how many were told:");
+    for (int k = 0; k <= GAUGE_MAX_FEW; k++)
+        printf(" %llu", (unsigned long long)plain_told[k]);
+    printf("; at %llu points more count, at %llu of them the next is level\n", (unsigned long long)plain_left_over,
+           (unsigned long long)plain_cut_level);
     printf("seed %llu: %llu calls, %llu differences; %llu angles, %llu of them more than 2^-20 off; %llu far terms, %llu of them not finite\n",
            (unsigned long long)seed, (unsigned long long)calls, (unsigned long long)(differences + unknown), (unsigned long long)plain_angles,
            (unsigned long long)plain_angles_off, (unsigned long long)plain_far, (unsigned long long)plain_far_not_finite);

@@ -121,6 +121,20 @@ static float root_of(float squared)
     return near;
 }
 
+/* The nearest few: two within 2.5, which some points do not have, then sixteen as far as can be, by both rules. */
+static void few_asked(const struct gauge_drawing *d, const float *points, const char *line)
+{
+    static struct gauge_answer ours[GAUGE_MAX_FEW * POINTS], plain[GAUGE_MAX_FEW * POINTS];
+    for (uint32_t reach = 0; reach < 2; reach++) {
+        uint32_t rule = 1 + reach, most = reach == 0 ? 2 : GAUGE_MAX_FEW;
+        float distance = reach == 0 ? 2.5f : GAUGE_MAX_DISTANCE;
+        expect(gauge_drawing_few(d, points, POINTS, distance, rule, most, ours) == POINTS, "the count of the nearest few", line);
+        plain_few(d->triangles, 9 * d->count, d->order, d->count, d->links, 3 * d->nodes, d->boxes, 6 * d->nodes, d->nodes,
+                  (const uint8_t *)points, 12 * POINTS, distance, rule, most, (uint8_t *)plain, sizeof plain);
+        expect(memcmp(ours, plain, sizeof *ours * most * POINTS) == 0, "the nearest few", line);
+    }
+}
+
 /* Within 2.5, as far as can be, and as far as the nearest of the last point, by both rules; and by the source query. */
 static void asked(const struct gauge_drawing *d, const char *line)
 {
@@ -133,6 +147,7 @@ static void asked(const struct gauge_drawing *d, const char *line)
         points[i] = (float)(state / 256 % 4096) / 16.0f;
     }
     wound(d, points, line);
+    few_asked(d, points, line);
     for (uint32_t reach = 0; reach < 6; reach++) {
         float distance = reach < 2 ? 2.5f : reach < 4 ? GAUGE_MAX_DISTANCE : root_of(nearest);
         uint32_t rule = 1 + reach % 2;
@@ -197,6 +212,8 @@ static void limits(void)
     expect(gauge_check(more, 9 * (n + 1), lists, n + 1, lists, 3, many, 6, 1) == three, "a check is no refusal 3", "65,537");
     expect(gauge_sure(more, 9 * (n + 1), lists, n + 1, lists, 3, many, 6, 1, (uint8_t *)more, 12, 1, 3, (uint8_t *)&answer, sizeof answer) == three,
            "a query by no rule is no refusal 3", "65,537");
+    expect(gauge_few(more, 9 * (n + 1), lists, n + 1, lists, 3, many, 6, 1, (uint8_t *)more, 12, 1, 1, 17, (uint8_t *)&answer, sizeof answer) == three,
+           "seventeen of the nearest are no refusal 3", "65,537");
     expect(gauge_winding(more, 9 * (n + 1), (uint8_t *)more, 12, (uint8_t *)&answer, 4) == three, "winding is no refusal 3", "65,537");
     expect(gauge_node_sums(more, 9 * (n + 1), lists, n + 1, lists, 3, many, 6, 1, sums, 16) == three, "sums are no refusal 3", "65,537");
     expect(gauge_fast_winding(more, 9 * (n + 1), lists, n + 1, lists, 3, many, 6, 1, many, 16, (uint8_t *)more, 12, 2, (uint8_t *)&answer, 4) == three,
@@ -226,5 +243,6 @@ int main(int argc, char **argv)
     expect(lines > 0, "no line", argv[1]);
     limits();
     expect(plain_level[0] > 0 && plain_level[1] > 0, "no point's nearest was at exactly the distance", argv[1]);
+    expect(plain_told[0] > 0 && plain_told[2] > 0 && plain_told[GAUGE_MAX_FEW] > 0, "the nearest few were never none, two or sixteen", argv[1]);
     return wrong;
 }

@@ -28,6 +28,10 @@ uint64_t plain_sure(const float *triangles, size_t triangles_length, const uint3
                     const uint32_t *links, size_t links_length, const float *boxes, size_t boxes_length, size_t nodes,
                     const uint8_t *points, size_t points_length, float distance, uint32_t rule,
                     uint8_t *answers, size_t answers_length);
+uint64_t plain_few(const float *triangles, size_t triangles_length, const uint32_t *order, size_t order_length,
+                   const uint32_t *links, size_t links_length, const float *boxes, size_t boxes_length, size_t nodes,
+                   const uint8_t *points, size_t points_length, float distance, uint32_t rule, uint32_t most,
+                   uint8_t *answers, size_t answers_length);
 uint64_t plain_source(const float *triangles, size_t triangles_length, const uint32_t *order, size_t order_length,
                       const uint32_t *links, size_t links_length, const float *boxes, size_t boxes_length, size_t nodes,
                       const uint8_t *points, size_t points_length, float distance,
@@ -64,12 +68,17 @@ extern uint64_t plain_level[2];
 /* How many nodes were far from a point, and of how many of them the far term was not finite. */
 extern uint64_t plain_far, plain_far_not_finite;
 
-/* Of how many triangles that plain_sure measured the closest point was no number, by the edge whose foot was kept: ab, ac, bc. */
+/* Of how many triangles that plain_sure or plain_few measured the closest point was no number, by the edge whose foot was kept: ab, ac,
+ * bc. */
 extern uint64_t plain_feet[3];
 
 /* How many answers were found, by the part of the triangle: by plain_sure on triangles that have a computed point, by it on those that
  * have none, and by plain_source. And of how many of plain_sure's the point was moved when it was held into the box. */
 enum { PLAIN_COMPUTED, PLAIN_FEET, PLAIN_SOURCE, PLAIN_WAYS, PLAIN_PARTS = GAUGE_EDGE_BC + 1 };
 extern uint64_t plain_parts[PLAIN_WAYS][PLAIN_PARTS], plain_moved;
+
+/* At how many points plain_few found so many answers. Of those that were as many as it was asked for: at how many points more triangles
+ * count, and at how many of these the first that is left over is level with the last that is told. */
+extern uint64_t plain_told[GAUGE_MAX_FEW + 1], plain_left_over, plain_cut_level;
 
 #endif

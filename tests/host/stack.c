@@ -13,22 +13,23 @@
 #include <sys/mman.h>
 #include <unistd.h>
 
-enum { READ, READ_STL, WRITE_STL, BUILD, WRITE, CHECK, SURE, SOURCE, WINDING, NODE_SUMS, FAST, CALLS };
+enum { READ, READ_STL, WRITE_STL, BUILD, WRITE, CHECK, SURE, FEW, SOURCE, WINDING, NODE_SUMS, FAST, CALLS };
 enum { N = GAUGE_MAX_TRIANGLES, POINTS = 8, LEVELS = GAUGE_MAX_DEPTH, BELOW = 64 << 20, PAINT = 0xa5 };
 static const char *const names[CALLS] = {"gauge_read", "gauge_read_stl", "gauge_write_stl", "gauge_build", "gauge_write", "gauge_check",
-                                         "gauge_sure", "gauge_source", "gauge_winding", "gauge_node_sums", "gauge_fast_winding"};
+                                         "gauge_sure", "gauge_few", "gauge_source", "gauge_winding", "gauge_node_sums",
+                                         "gauge_fast_winding"};
 static const size_t stated[CALLS] = {GAUGE_STACK_READ, GAUGE_STACK_READ_STL, GAUGE_STACK_WRITE_STL, GAUGE_STACK_BUILD, GAUGE_STACK_WRITE,
-                                     GAUGE_STACK_CHECK, GAUGE_STACK_SURE, GAUGE_STACK_SOURCE, GAUGE_STACK_WINDING, GAUGE_STACK_NODE_SUMS,
-                                     GAUGE_STACK_FAST_WINDING};
+                                     GAUGE_STACK_CHECK, GAUGE_STACK_SURE, GAUGE_STACK_FEW, GAUGE_STACK_SOURCE, GAUGE_STACK_WINDING,
+                                     GAUGE_STACK_NODE_SUMS, GAUGE_STACK_FAST_WINDING};
 
 /* The drawing that is asked, its image and its STL, and another drawing that these are read into. */
 static float block[GAUGE_DRAWING_BYTES(N) / 4], other_block[GAUGE_DRAWING_BYTES(N) / 4];
 static struct gauge_drawing d, other;
 static uint8_t image[GAUGE_IMAGE_MAX(N)], stl[GAUGE_STL_BYTES(N)];
 static size_t image_length, strategy;
-static uint32_t rule = GAUGE_RULE_BELOW;
+static uint32_t rule = GAUGE_RULE_BELOW, few = GAUGE_MAX_FEW;
 static float points[3 * POINTS], winding, sums[GAUGE_SUMS(N)], scale;
-static struct gauge_answer answers[POINTS];
+static struct gauge_answer answers[POINTS * GAUGE_MAX_FEW];
 static int failed;
 
 typedef struct { int call; uint64_t returned; const uint8_t *top; } Job;
@@ -74,6 +75,9 @@ static void *run(void *given)
         break;
     case SURE:
         job->returned = gauge_drawing_sure(&d, points, POINTS, GAUGE_MAX_DISTANCE, rule, answers);
+        break;
+    case FEW:
+        job->returned = gauge_drawing_few(&d, points, POINTS, GAUGE_MAX_DISTANCE, rule, few, answers);
         break;
     case SOURCE:
         job->returned = gauge_drawing_source(&d, points, POINTS, GAUGE_MAX_DISTANCE, answers);
@@ -145,8 +149,12 @@ static void ask_tree(const char *input)
     expect(WRITE_STL, GAUGE_STL_BYTES(d.count), input);
     expect(READ_STL, d.count, input);
     expect(CHECK, d.count, input);
-    for (rule = GAUGE_RULE_BELOW_OR_EQUAL; rule >= GAUGE_RULE_BELOW; rule--)
+    for (rule = GAUGE_RULE_BELOW_OR_EQUAL; rule >= GAUGE_RULE_BELOW; rule--) {
         expect(SURE, POINTS, input);
+        for (few = GAUGE_MAX_FEW; few > 0; few /= 4) /* 16, 4 and 1 */
+            expect(FEW, POINTS, input);
+    }
+    few = GAUGE_MAX_FEW;
     rule = GAUGE_RULE_BELOW;
     expect(SOURCE, POINTS, input);
     expect(WINDING, 1, input);
@@ -213,7 +221,7 @@ static void ask_chain(int leaves, const char *input)
 /* As many levels as triangles, which every call that looks at the tree refuses at the first node below level 64. */
 static void ask_too_deep(int leaves, uint64_t place, const char *input)
 {
-    static const int calls[] = {WRITE, CHECK, SURE, SOURCE, NODE_SUMS, FAST};
+    static const int calls[] = {WRITE, CHECK, SURE, FEW, SOURCE, NODE_SUMS, FAST};
     d.nodes = plain_chain(d.count, leaves, d.triangles, d.count, d.order, d.links, d.boxes);
     for (size_t k = 0; k < sizeof calls / sizeof *calls; k++)
         expect(calls[k], (uint64_t)GAUGE_TREE_DEPTH << 56 | place, input);
