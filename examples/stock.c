@@ -15,14 +15,16 @@
  *
  * Stock is how far a touched point lies outside the drawing, or, with a minus, inside. It is wanted from
  * LEAST to MOST (1 and 4 where none are given). For each point it is told which part of the triangle is
- * nearest: over a face stock is square to it, over an edge or a corner it need not be. PICTURE is an SVG,
+ * nearest: over a face stock is square to it, over an edge or a corner it need not be. On a thin rib the
+ * other wall is told too, and how thick the rib is: where the casting is sunk to inside the rib, the nearest
+ * wall may be that of the other side, and only both tell. PICTURE is an SVG,
  * which any browser shows: the drawing from two sides, each place in the colour of the touched point nearest
  * to it, with a dot for a point over a face, a diamond over an edge, a square over a corner. Under a name
  * that ends in .stl or .gauge it is not a picture but the drawing, as a binary STL or as an image.
  *
  * The engine's part is read_stl(), read_image(), ask() and write_drawing(): an STL becomes a drawing, a
  * tree is built over it, or both come from an image, and the points are asked for their nearest place on
- * it and for inside or outside. */
+ * it, for the nearest few, of which other_wall() picks one, and for inside or outside. */
 #include "gauge.h"
 
 #include <ctype.h>
@@ -31,19 +33,20 @@
 #include <stdlib.h>
 #include <string.h>
 
-enum { MOST_POINTS = 10000 };
+enum { MOST_POINTS = 10000, FEW = GAUGE_MAX_FEW };
 
 typedef struct { double x, y, z; } Vec;
 
 static struct gauge_drawing drawing;
 static float touched[3 * MOST_POINTS], windings[MOST_POINTS];
-static struct gauge_answer answers[MOST_POINTS];
+static struct gauge_answer answers[MOST_POINTS], few[FEW * MOST_POINTS]; /* FEW in a row for each point */
 static size_t points;
 static int has_tree; /* one that came with the drawing */
 static unsigned strategy, leaf_minimum, maximum_depth;
 static float distance = 50;
 static unsigned rule = GAUGE_RULE_BELOW;
 static double least = 1, most = 4;
+static const double thin_rib = 6; /* walls that are no farther apart are those of a thin rib */
 
 static void fail(const char *what, const char *more)
 {
@@ -323,6 +326,7 @@ static void ask(void)
     if (!has_tree)
         done("gauge_build", gauge_drawing_build(&drawing, strategy, leaf_minimum, maximum_depth));
     done("gauge_sure", gauge_drawing_sure(&drawing, touched, points, distance, rule, answers));
+    done("gauge_few", gauge_drawing_few(&drawing, touched, points, distance, rule, FEW, few));
     float *sums = malloc(GAUGE_SUMS(drawing.count) * sizeof *sums);
     if (sums == NULL)
         fail("no memory", "");
@@ -336,6 +340,84 @@ static double stock_of(size_t i)
 {
     double away = sqrt(answers[i].squared);
     return fabsf(windings[i]) > 0.5f ? -away : away;
+}
+
+/* ---- places and directions */
+
+static Vec minus(Vec a, Vec b)
+{
+    Vec r = {a.x - b.x, a.y - b.y, a.z - b.z};
+    return r;
+}
+
+static Vec cross(Vec a, Vec b)
+{
+    Vec r = {a.y * b.z - a.z * b.y, a.z * b.x - a.x * b.z, a.x * b.y - a.y * b.x};
+    return r;
+}
+
+static double dot(Vec a, Vec b)
+{
+    return a.x * b.x + a.y * b.y + a.z * b.z;
+}
+
+static Vec unit(Vec a)
+{
+    double size = sqrt(dot(a, a));
+    Vec r = {0, 0, 0};
+    if (size > 0) {
+        r.x = a.x / size;
+        r.y = a.y / size;
+        r.z = a.z / size;
+    }
+    return r;
+}
+
+static Vec corner(size_t t, int k)
+{
+    const float *c = drawing.triangles + 9 * t + 3 * k;
+    Vec r = {c[0], c[1], c[2]};
+    return r;
+}
+
+static Vec normal_of(size_t t)
+{
+    return unit(cross(minus(corner(t, 1), corner(t, 0)), minus(corner(t, 2), corner(t, 0))));
+}
+
+static Vec place_of(const struct gauge_answer *a)
+{
+    Vec r = {a->x, a->y, a->z};
+    return r;
+}
+
+static Vec foot(size_t i)
+{
+    return place_of(&answers[i]);
+}
+
+/* ---- thin ribs */
+
+/* How far the two walls are apart. Where they run side by side that is what the two distances from a point add up to inside the rib,
+ * and what they differ by outside. */
+static double thickness(size_t i, const struct gauge_answer *wall)
+{
+    Vec across = minus(place_of(wall), foot(i));
+    return sqrt(dot(across, across));
+}
+
+/* The other wall of a thin rib at a point, NULL where there is none. It need not be the second of the nearest few: that is mostly
+ * another triangle of the same wall, which faces the same way. So it is the first that faces the other way and lies behind the nearest,
+ * with the metal in between: what faces the other way and lies in front is the wall across a gap. Where the triangles are small beside
+ * the rib, all of the few may be of one wall, and the other is not found. */
+static const struct gauge_answer *other_wall(size_t i)
+{
+    for (const struct gauge_answer *a = few + FEW * i + 1; a < few + FEW * (i + 1) && a->found; a++) {
+        Vec normal = normal_of(answers[i].triangle);
+        if (dot(normal, normal_of(a->triangle)) < -0.5 && dot(normal, minus(place_of(a), foot(i))) < 0)
+            return thickness(i, a) <= thin_rib ? a : NULL;
+    }
+    return NULL;
 }
 
 /* ---- what it means for the casting */
@@ -380,15 +462,28 @@ static void print_stock(void)
 {
     static const char *const words[CLASSES] = {"SHORT", "thin", "", "heavy", ""};
     static const char *const parts[] = {"face", "corner a", "corner b", "corner c", "edge ab", "edge ac", "edge bc"}; /* by their numbers */
+    size_t ribs = 0, thinnest = 0;
+    double thin = INFINITY;
     for (size_t i = 0; i < points; i++) {
-        const struct gauge_answer *a = &answers[i];
+        const struct gauge_answer *a = &answers[i], *wall = other_wall(i);
         printf("%4zu  at %9.3f %9.3f %9.3f  ", i, (double)touched[3 * i], (double)touched[3 * i + 1], (double)touched[3 * i + 2]);
         if (a->found)
             printf("stock %+8.3f  over triangle %4u %-8s at %9.3f %9.3f %9.3f  %s\n", stock_of(i), a->triangle, parts[a->part], (double)a->x,
                    (double)a->y, (double)a->z, words[class_of(i)]);
         else
             printf("nothing within %g\n", (double)distance);
+        if (wall == NULL)
+            continue;
+        printf("%40srib   %8.3f  other wall    %4u %-8s at %9.3f %9.3f %9.3f  %.3f away\n", "", thickness(i, wall), wall->triangle,
+               parts[wall->part], (double)wall->x, (double)wall->y, (double)wall->z, sqrt(wall->squared));
+        ribs++;
+        if (thickness(i, wall) < thin) {
+            thin = thickness(i, wall);
+            thinnest = i;
+        }
     }
+    if (ribs != 0)
+        printf("over a thin rib %zu, the thinnest %.3f at point %zu\n", ribs, thin, thinnest);
     printf("over a face %zu, over an edge %zu, over a corner %zu\n", counted_over[OVER_FACE], counted_over[OVER_EDGE], counted_over[OVER_CORNER]);
     printf("short of stock %zu, thin %zu, good %zu, heavy %zu, no answer %zu\n", counted[SHORT], counted[THIN], counted[GOOD],
            counted[HEAVY], counted[UNKNOWN]);
@@ -397,53 +492,6 @@ static void print_stock(void)
 }
 
 /* ---- the picture */
-
-static Vec minus(Vec a, Vec b)
-{
-    Vec r = {a.x - b.x, a.y - b.y, a.z - b.z};
-    return r;
-}
-
-static Vec cross(Vec a, Vec b)
-{
-    Vec r = {a.y * b.z - a.z * b.y, a.z * b.x - a.x * b.z, a.x * b.y - a.y * b.x};
-    return r;
-}
-
-static double dot(Vec a, Vec b)
-{
-    return a.x * b.x + a.y * b.y + a.z * b.z;
-}
-
-static Vec unit(Vec a)
-{
-    double size = sqrt(dot(a, a));
-    Vec r = {0, 0, 0};
-    if (size > 0) {
-        r.x = a.x / size;
-        r.y = a.y / size;
-        r.z = a.z / size;
-    }
-    return r;
-}
-
-static Vec corner(size_t t, int k)
-{
-    const float *c = drawing.triangles + 9 * t + 3 * k;
-    Vec r = {c[0], c[1], c[2]};
-    return r;
-}
-
-static Vec normal_of(size_t t)
-{
-    return unit(cross(minus(corner(t, 1), corner(t, 0)), minus(corner(t, 2), corner(t, 0))));
-}
-
-static Vec foot(size_t i)
-{
-    Vec r = {answers[i].x, answers[i].y, answers[i].z};
-    return r;
-}
 
 /* A view: what is right, up and towards the eye; the middle of what it shows, and where on the sheet
  * that stands. */
