@@ -22,7 +22,7 @@
 enum { MOST = GAUGE_MAX_TRIANGLES, SMALL = GAUGE_MAX_SMALL, POINTS = 1000, TURNS = 15 };
 static float block[GAUGE_DRAWING_BYTES(MOST) / 4], other[GAUGE_DRAWING_BYTES(MOST) / 4], points[3 * POINTS], windings[POINTS], sums[GAUGE_SUMS(MOST)];
 static uint8_t image[GAUGE_IMAGE_MAX(MOST)], stl[GAUGE_STL_BYTES(MOST)];
-static struct gauge_answer answers[POINTS];
+static struct gauge_answer answers[POINTS * GAUGE_MAX_FEW];
 static struct gauge_drawing d, copy;
 static uint64_t size;
 
@@ -42,6 +42,8 @@ static uint64_t stl_read(void) { return gauge_drawing_read_stl(&copy, stl, GAUGE
 static uint64_t check(void) { return gauge_drawing_check(&d); }
 static uint64_t one(void) { return gauge_drawing_sure(&d, points, 1, 100, GAUGE_RULE_BELOW, answers); }
 static uint64_t sure(void) { return gauge_drawing_sure(&d, points, POINTS, 100, GAUGE_RULE_BELOW, answers); }
+static uint64_t two(void) { return gauge_drawing_few(&d, points, POINTS, 100, GAUGE_RULE_BELOW, 2, answers); }
+static uint64_t sixteen(void) { return gauge_drawing_few(&d, points, POINTS, 100, GAUGE_RULE_BELOW, GAUGE_MAX_FEW, answers); }
 static uint64_t winding(void) { return gauge_drawing_winding(&d, points, 100, windings); }
 static uint64_t dipoles(void) { return gauge_drawing_node_sums(&d, sums); }
 static uint64_t fast(void) { return gauge_drawing_fast_winding(&d, sums, points, 100, 2, windings); }
@@ -139,6 +141,8 @@ int main(void)
         least("check", check, THEN(check_then));
         least("sure, one point", one, THEN(one_then));
         least("sure, 1,000 points", sure, THEN(many_then));
+        least("nearest 2, 1,000 points", two, 0);
+        least("nearest 16, 1,000 points", sixteen, 0);
         least("winding, 100 points", winding, THEN(winding_then));
         least("dipoles", dipoles, 0);
         least("by dipoles, 100 points", fast, 0);
