@@ -134,6 +134,8 @@ unsigned_bits x h p = go (dec_lt b (2 ^ 31)) (dec_lt b 0x7f80_0000)
 value_is_number : (x : Float) (a c : ℕ) → HasValue x false a c → T (not (is_nan x))
 unfolding is_nan
 value_is_number (fin s m e) a c h = tt
+value_is_number nan a c h = elim h [ ]
+value_is_number (inf _) a c h = elim h [ ]
 
 -- no pattern below that of infinity is a NaN's
 pub bits_are_number : (b : ℕ) → b < 0x7f80_0000 → T (not (nan_bits binary32 b))
@@ -143,6 +145,8 @@ bits_are_number b h = rw (nan_bits_is binary32 b) (value_is_number (of_bits bina
 pub unsigned_is_number : (x : Float) → T (unsigned x) → T (not (is_nan x))
 unfolding is_nan
 unsigned_is_number (fin s m e) p = tt
+unsigned_is_number nan p = elim p [ ]
+unsigned_is_number (inf _) p = elim p [ ]
 
 -- ---- which floats have a root
 -- a number that has a root and is no zero has the sign clear
@@ -151,6 +155,8 @@ unfolding eq
 unsigned_of (fin false m e) h r n = tt
 unsigned_of (fin true zero e) h r n = absurd (rw (zero_exponent binary32 true e h) at n)
 unsigned_of (fin true (suc m) e) h r n = absurd (omega (arith, eqb→eq (suc m) 0 r))
+unsigned_of nan h r n = elim r [ ]
+unsigned_of (inf _) h r n = elim r [ ]
 
 -- what compares equal to zero, -0 too, has magnitude zero
 pub zero_is_none : (x : Float) → T (eq x (fin false 0 (pos 0))) → num x ≡ 0
@@ -159,3 +165,5 @@ zero_is_none (fin s m e) h =
     let a = m * up e * 1 in
     let b = 0 * down e in
     omega (arith, eqb→eq a b (and_l (eqb a b) (beq s false || eqb a 0) h))
+zero_is_none nan h = elim h [ ]
+zero_is_none (inf _) h = elim h [ ]

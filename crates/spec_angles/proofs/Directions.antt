@@ -8,7 +8,7 @@ use native.Mathlib.Omega.{arith}
 use lib.IntN.{ℤ}
 use lib.Dec.{T, lit≤, eqb-suc-zero}
 use lib.Pow.{pow_pos}
-use lib.Ieee.{Float, fin, Format, emax, low, up, down, round, add, mul, div, le, eq, fits}
+use lib.Ieee.{Float, fin, Format, emax, low, up, down, round, add, mul, div, le, eq, fits, inf, nan}
 use lib.Ieee.Fits.{down_pos, round-fits, add-fits}
 use lib.Ieee.Bits.{is_true}
 use lib.Ieee.Order.{round_mono}
@@ -31,11 +31,16 @@ use Rattle.spec_angles.proofs.Length.{two_to, at_most_twice}
 -- ---- numbers that are not below zero
 unsigned_not_below : (x : Float) → T (unsigned x) → T (le +0 x)
 unsigned_not_below (fin false m e) h = (compared +0 (fin false m e) tt tt).at_most→le (omega arith)
+unsigned_not_below nan h = elim h [ ]
+unsigned_not_below (inf _) h = elim h [ ]
+unsigned_not_below (fin true m e) h = elim h [ ]
 
 square_is : (f : Format) (x : Float) → T (finite x) → mul f x x ≡ round f false (num x * num x) (den x * den x)
 unfolding mul
 square_is f (fin false m e) h = refl
 square_is f (fin true m e) h = refl
+square_is f nan h = elim h [ ]
+square_is f (inf _) h = elim h [ ]
 
 square_unsigned : (f : Format) (x : Float) → T (finite x) → T (finite (mul f x x)) → T (unsigned (mul f x x))
 square_unsigned f x k h = rw (square_is f x k) (round_finite f (num x * num x) (den x * den x) (rw (square_is f x k) at h))
@@ -43,6 +48,12 @@ square_unsigned f x k h = rw (square_is f x k) (round_finite f (num x * num x) (
 add_unsigned : (f : Format) (x y : Float) → T (unsigned x) → T (unsigned y) → T (finite (add f x y)) → T (unsigned (add f x y))
 unfolding add
 add_unsigned f (fin false m e) (fin false n d) p q h = round_finite f (m * up e * down d + n * up d * down e) (down e * down d) h
+add_unsigned f nan y p q h = elim p [ ]
+add_unsigned f (inf _) y p q h = elim p [ ]
+add_unsigned f (fin false m e) nan p q h = elim q [ ]
+add_unsigned f (fin false m e) (inf _) p q h = elim q [ ]
+add_unsigned f (fin false m e) (fin true n d) p q h = elim q [ ]
+add_unsigned f (fin true m e) y p q h = elim p [ ]
 
 -- ---- a sum is not below a value that a term is not below
 zero_plus : (f : Format) (m : ℕ) (e : ℤ) → T (fits f (fin false (suc m) e)) → add f +0 (fin false (suc m) e) ≡ fin false (suc m) e
@@ -55,12 +66,18 @@ module _ (f : Format) where
   first_kept (fin false (suc m) e) p q P F Up Uq h =
       rw (plus_zero_lem f (fin false (suc m) e) F) at
       (sum_keeps_order f (fin false (suc m) e) +0 p q (unsigned_not_below (fin false (suc m) e) tt) (unsigned_not_below +0 tt) h (unsigned_not_below q Uq))
+  first_kept nan p q P F Up Uq h = elim P [ ]
+  first_kept (inf _) p q P F Up Uq h = elim P [ ]
+  first_kept (fin true _ e) p q P F Up Uq h = elim P [ ]
 
   second_kept : (y p q : Float) → T (positive y) → T (fits f y) → T (unsigned p) → T (unsigned q) → T (le y q) → T (le y (add f p q))
   second_kept (fin false zero e) p q P F Up Uq h = absurd P
   second_kept (fin false (suc m) e) p q P F Up Uq h =
       rw (zero_plus f m e F) at
       (sum_keeps_order f +0 (fin false (suc m) e) p q (unsigned_not_below +0 tt) (unsigned_not_below (fin false (suc m) e) tt) (unsigned_not_below p Up) h)
+  second_kept nan p q P F Up Uq h = elim P [ ]
+  second_kept (inf _) p q P F Up Uq h = elim P [ ]
+  second_kept (fin true _ e) p q P F Up Uq h = elim P [ ]
 
 -- ---- a quotient
 twice_whole : (f : Format) → Whole f 2
@@ -72,6 +89,11 @@ quotient_within f (fin t m e) (fin false zero d) k L s h = absurd (omega arith)
 quotient_within f (fin t m e) (fin false (suc n) d) k L s h =
     rw (eqb-suc-zero n) (round_within f _ (m * up e * down d) (suc n * up d * down e) 2 (mul-pos s (down_pos e)) (twice_whole f)
     (le_trans h (le_of_eq (mul_assoc 2 (suc n * up d) (down e)))))
+quotient_within f nan l k L s h = elim k [ ]
+quotient_within f (inf _) l k L s h = elim k [ ]
+quotient_within f (fin t m e) nan k L s h = elim L [ ]
+quotient_within f (fin t m e) (inf _) k L s h = elim L [ ]
+quotient_within f (fin t m e) (fin true _ d) k L s h = elim L [ ]
 
 -- ---- a magnitude in units
 either_sign : (f : Format) (s : Bool) (m : ℕ) (e : ℤ) → T (fits f (fin s m e)) → T (fits f (fin false m e))
@@ -83,9 +105,14 @@ in_whole_units : (f : Format) (x : Float) → T (finite x) → T (fits f x) → 
 in_whole_units f (fin s m e) h F =
     let u = units_of f (fin false m e) (either_sign f s m e F) tt in
     (u.digits * 2 ^ u.places, u.is)
+in_whole_units f nan h F = elim h [ ]
+in_whole_units f (inf _) h F = elim h [ ]
 
 unsigned_rootable : (x : Float) → T (unsigned x) → T (rootable x)
 unsigned_rootable (fin false m e) h = tt
+unsigned_rootable nan h = elim h [ ]
+unsigned_rootable (inf _) h = elim h [ ]
+unsigned_rootable (fin true m e) h = elim h [ ]
 
 -- ---- the squared length
 module _ (f : Format) (a : Point) (A : (i : Axis) → Within (2 ^ 21) (on i a)) where

@@ -8,7 +8,7 @@ use native.Mathlib.Nat.{le_trans, le_of_eq, lt_of_lt_of_le, mul-pos, mul_assoc, 
 use native.Mathlib.Omega.{arith}
 use lib.Dec.{T, lit≤, lit<, eqb-suc-zero}
 use lib.Pow.{pow_pos, pow_mono}
-use lib.Ieee.{Float, fin, Format, binary32, binary64, prec, up, down, round, mul, div, lt, eq, fits, of_bits}
+use lib.Ieee.{Float, fin, Format, binary32, binary64, prec, up, down, round, mul, div, lt, eq, fits, of_bits, inf, nan}
 use lib.Ieee.Fits.{and_i, down_pos, sub-fits}
 use lib.Ieee.Bits.{is_true}
 use lib.Ieee.Positive.{num, den}
@@ -149,6 +149,11 @@ quotient_shrinks f c (fin t m e) (fin false (suc n) d) w F h U s k =
     rw (eqb-suc-zero n)
     (round_within f _ (m * up e * down d) (suc n * up d * down e) c (mul-pos s (down_pos e)) w
     (le_trans (mul-le-mul h k) (le_of_eq (mul_assoc c (down e) (suc n * up d) ∙ ap (λ (z : ℕ). c * z) (mul_comm (down e) (suc n * up d))))))
+quotient_shrinks f c nan l w F h U s k = elim F [ ]
+quotient_shrinks f c (inf _) l w F h U s k = elim F [ ]
+quotient_shrinks f c (fin t m e) nan w F h U s k = elim U [ ]
+quotient_shrinks f c (fin t m e) (inf _) w F h U s k = elim U [ ]
+quotient_shrinks f c (fin t m e) (fin true _ d) w F h U s k = elim U [ ]
 
 shrunk : (f : Format) (c : ℕ) (x l : Float) → Whole f c → Within c x → Turn l → Within c (div f x l)
 shrunk f c x l w W L = quotient_shrinks f c x l w W.is_finite W.most L.is_unsigned L.some L.least

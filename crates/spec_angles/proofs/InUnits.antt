@@ -8,7 +8,7 @@ use native.Mathlib.Omega.{arith}
 use lib.IntN.{ℤ}
 use lib.Dec.{T, lit≤}
 use lib.Pow.{pow-add, pow-lt}
-use lib.Ieee.{Float, fin, Format, binary32, binary64, emax, low, up, down, round, mul, fits, to_unsigned}
+use lib.Ieee.{Float, fin, Format, binary32, binary64, emax, low, up, down, round, mul, fits, to_unsigned, inf, nan}
 use lib.Ieee.Fits.{down_pos}
 use lib.Ieee.Exact.{HasValue, round_exact}
 use lib.Ieee.Nearest.{div_same}
@@ -47,6 +47,9 @@ module _ (f : Format) (m : ℕ) (e : ℤ) (u : Units f (fin false m e)) (few : m
 
 product : (f : Format) (t : Float) → T (fits f t) → T (unsigned t) → num t ≤ den t → HasValue (mul f t (power 30)) false (num t * 2 ^ 30) (den t)
 product f (fin false m e) h p few = rw (mul_is f m e) (exact f m e (units_of f (fin false m e) h p) few)
+product f nan h p few = elim p [ ]
+product f (inf _) h p few = elim p [ ]
+product f (fin true m e) h p few = elim p [ ]
 
 -- ---- the cut
 quotient_few : (a c : ℕ) → 0 < c → a ≤ 2 ^ 30 * c → a / c ≤ 2 ^ 30
@@ -57,6 +60,8 @@ cut_value : (a c : ℕ) → 0 < c → a ≤ 2 ^ 30 * c → (x : Float) → HasVa
 unfolding to_unsigned
 cut_value a c C few (fin true m e) v = absurd (true≢false v.0)
 cut_value a c C few (fin false m e) v = rw (div_same (m * up e) (down e) a c (down_pos e) C v.1) (min-eq_left (le_trans (quotient_few a c C few) (lit≤ tt)))
+cut_value a c C few nan v = elim v [ ]
+cut_value a c C few (inf _) v = elim v [ ]
 
 module _ (f : Format) (t : Float) (o : AtMostOne f t) where
   few : num t * 2 ^ 30 ≤ 2 ^ 30 * den t

@@ -7,7 +7,7 @@ use native.Mathlib.Nat.{mul-pos, le_of_lt, lt_of_le_of_lt, lt_of_lt_of_le}
 use native.Mathlib.Omega.{arith}
 use lib.Dec.{T, eqb-suc-zero}
 use lib.Pow.{pow_pos}
-use lib.Ieee.{Float, fin, Format, binary32, binary64, up, down, round, le, lt, div}
+use lib.Ieee.{Float, fin, Format, binary32, binary64, up, down, round, le, lt, div, inf, nan}
 use lib.Ieee.Fits.{down_pos, round-fits}
 use lib.Ieee.Order.{round_mono}
 use lib.Ieee.Positive.{num, den, den_pos, first_pos}
@@ -35,13 +35,23 @@ unfolding div
 quotient_at_most_one f (fin false m e) (fin false zero d) p q s h = absurd (omega arith)
 quotient_at_most_one f (fin false m e) (fin false (suc n) d) p q s h =
     rw (eqb-suc-zero n) (round_at_most_one f (m * up e * down d) (suc n * up d * down e) (mul-pos s (down_pos e)) h)
+quotient_at_most_one f nan b p q s h = elim p [ ]
+quotient_at_most_one f (inf _) b p q s h = elim p [ ]
+quotient_at_most_one f (fin false m e) nan p q s h = elim q [ ]
+quotient_at_most_one f (fin false m e) (inf _) p q s h = elim q [ ]
+quotient_at_most_one f (fin false m e) (fin true _ d) p q s h = elim q [ ]
+quotient_at_most_one f (fin true m e) b p q s h = elim p [ ]
 
 -- ---- the two ways round
 abs_unsigned : (x : Float) → T (finite x) → T (unsigned (abs x))
 abs_unsigned (fin s m e) k = tt
+abs_unsigned nan k = elim k [ ]
+abs_unsigned (inf _) k = elim k [ ]
 
 abs_num : (x : Float) → T (finite x) → num (abs x) ≡ num x
 abs_num (fin s m e) k = refl
+abs_num nan k = elim k [ ]
+abs_num (inf _) k = elim k [ ]
 
 -- the smaller magnitude over the larger, rounded, lies from 0 to 1, where the table has its entries
 pub ratio_at_most_one : (f : Format) (n d : Float) → Askable n d → AtMostOne f (ratio f n d)

@@ -8,7 +8,7 @@ use native.Mathlib.Omega.{arith}
 use lib.IntN.{pos}
 use lib.Dec.{T, eqb→eq, lit≤}
 use lib.Pow.{pow-add, pow_pos, pow_mono, pow-lt, shl_lt}
-use lib.Ieee.{Float, fin, Format, binary32, binary64, prec, emax, low, size, up, round, fits}
+use lib.Ieee.{Float, fin, Format, binary32, binary64, prec, emax, low, size, up, round, fits, inf, nan}
 use lib.Ieee.Digits.{size-lt, size-le, size_reaches}
 use lib.Ieee.Fits.{round-fits}
 use lib.Ieee.Exact.{HasValue, round_exact}
@@ -171,3 +171,5 @@ plain_root f x h p =
 pub root_is_nearest : (f : Format) (x : Float) → T (fits f x) → T (rootable x) → IsRoot f x (root f x)
 root_is_nearest f (fin false m e) h r = plain_root f (fin false m e) h tt
 root_is_nearest f (fin true m e) h r = root_of_none f (fin true m e) (ap (λ (z : ℕ). z * up e) (eqb→eq m 0 r) ∙ zero-mul (up e))
+root_is_nearest f nan h r = elim r [ ]
+root_is_nearest f (inf _) h r = elim r [ ]

@@ -1,7 +1,7 @@
 -- The law of the root: where a value r of a format is q * 2 ^ k units, within half a step of the root of x, r is that format's root (`root_law`).
 -- No other value is (`root_unique`), and the root of zero is +0 (`root_of_zero`). For every format.
 use mathlib.Core.Path.{◌≡◌, refl, ap}
-use mathlib.Core.Bool.{false, not}
+use mathlib.Core.Bool.{false, not, true}
 use Prim.Native.Nat.{ℕ, zero, suc, ◌+◌, ◌-◌, ◌*◌, ◌^◌, ◌≤◌, ◌<◌}
 use native.Mathlib.Nat.{add_comm, mul_assoc, mul_comm, mul_left_comm, mul-pos, zero-mul, mul-lt-mul_of_pos_right, lt_of_mul-lt-mul_right, lt_of_le_of_lt, le_of_eq, lt_irrefl, lt_trans}
 use native.Mathlib.Decide.{dec_lt}
@@ -9,7 +9,7 @@ use native.Mathlib.Omega.{arith}
 use lib.IntN.{pos}
 use lib.Dec.{T, T_not, ltb→lt, lt→ltb}
 use lib.Pow.{pow-add, pow_pos}
-use lib.Ieee.{Float, fin, Format, binary32, binary64, prec, emax, low, up, down, fits, lt}
+use lib.Ieee.{Float, fin, Format, binary32, binary64, prec, emax, low, up, down, fits, lt, inf, nan}
 use lib.Ieee.Positive.{num, den, den_pos}
 use Rattle.spec_numbers.specs.Values.{unsigned}
 use Rattle.spec_numbers.proofs.Unique.{raised, sunk, up_is, down_is, normal, unique_finite}
@@ -43,6 +43,9 @@ units_of f (fin false (suc m) e) h k =
           rw (pow-add 2 (raised e) spare, ← up_is e, pow-add 2 (low f) (suc (emax f)), ← d) (omega (arith, mul-lt-mul_of_pos_right n.high (pow_pos spare)));
       is = rw (← d, pow-add 2 (raised e) spare, ← up_is e) (regroup (suc m) (up e) (2 ^ spare) (down e));
     }
+units_of f nan h k = elim k [ ]
+units_of f (inf _) h k = elim k [ ]
+units_of f (fin true _ e) h k = elim k [ ]
 
 -- ---- from fractions to units of 1 / L
 -- a / c and b / d are R / L and Y / L, and in the same order
@@ -73,11 +76,23 @@ module _ (x cx M S N U L : ℕ) (p : x * L ≡ N * cx) (q : S * L ≡ U * M) whe
 pub lt_says : (x y : Float) → T (unsigned x) → T (unsigned y) → T (lt x y) → num x * den y < num y * den x
 unfolding lt
 lt_says (fin false m e) (fin false n d) p q h = ltb→lt (m * up e * down d) (n * up d * down e) h
+lt_says nan y p q h = elim p [ ]
+lt_says (inf _) y p q h = elim p [ ]
+lt_says (fin false m e) nan p q h = elim q [ ]
+lt_says (fin false m e) (inf _) p q h = elim q [ ]
+lt_says (fin false m e) (fin true n d) p q h = elim q [ ]
+lt_says (fin true m e) y p q h = elim p [ ]
 
 -- the float with the smaller fraction compares below
 pub lt_holds : (x y : Float) → T (unsigned x) → T (unsigned y) → num x * den y < num y * den x → T (lt x y)
 unfolding lt
 lt_holds (fin false m e) (fin false n d) p q h = lt→ltb (m * up e * down d) (n * up d * down e) h
+lt_holds nan y p q h = elim p [ ]
+lt_holds (inf _) y p q h = elim p [ ]
+lt_holds (fin false m e) nan p q h = elim q [ ]
+lt_holds (fin false m e) (inf _) p q h = elim q [ ]
+lt_holds (fin false m e) (fin true n d) p q h = elim q [ ]
+lt_holds (fin true m e) y p q h = elim p [ ]
 
 -- the float that does not compare below has no smaller fraction
 pub not_lt_says : (x y : Float) → T (unsigned x) → T (unsigned y) → T (not (lt x y)) → num y * den x ≤ num x * den y
@@ -144,6 +159,12 @@ turned x r y h = rw (add_comm (num r * den y) (num y * den r), mul_comm (den r) 
 
 same_value : (f : Format) (x y : Float) → T (fits f x) → T (fits f y) → T (unsigned x) → T (unsigned y) → num x * den y ≡ num y * den x → x ≡ y
 same_value f (fin false m e) (fin false n d) h k p q v = unique_finite f false m e n d h k v
+same_value f nan y h k p q v = elim p [ ]
+same_value f (inf _) y h k p q v = elim p [ ]
+same_value f (fin false m e) nan h k p q v = elim q [ ]
+same_value f (fin false m e) (inf _) h k p q v = elim q [ ]
+same_value f (fin false m e) (fin true n d) h k p q v = elim q [ ]
+same_value f (fin true m e) y h k p q v = elim p [ ]
 
 -- a number has one root in a format, so the definition of the root fixes the program's answer
 pub root_unique : (f : Format) (x r y : Float) → IsRoot f x r → IsRoot f x y → r ≡ y

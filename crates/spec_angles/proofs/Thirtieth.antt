@@ -8,7 +8,7 @@ use native.Mathlib.Omega.{arith}
 use lib.IntN.{negsuc}
 use lib.Dec.{T, lit≤}
 use lib.Pow.{pow_pos}
-use lib.Ieee.{Float, fin, Format, binary32, binary64, prec, low, up, down, round, mul, neg, fits}
+use lib.Ieee.{Float, fin, Format, binary32, binary64, prec, low, up, down, round, mul, neg, fits, inf, nan}
 use lib.Ieee.Fits.{round-fits, down_pos}
 use lib.Ieee.Exact.{HasValue}
 use lib.Ieee.Order.{round_mono}
@@ -31,6 +31,8 @@ again : (f : Format) (y : Float) (a c : ℕ) → 0 < c → 0 < a → T (fits f y
 again f (fin true m e) a c C A h v = absurd (true≢false v.0)
 again f (fin false zero e) a c C A h v = absurd (omega (arith, mul-pos A (down_pos e), v.1))
 again f (fin false (suc m) e) a c C A h v = round_same f false a c (suc m * up e) (down e) C (down_pos e) (sym v.1) ∙ rounds_to_itself f false m e h
+again f nan a c C A h v = elim v [ ]
+again f (inf _) a c C A h v = elim v [ ]
 
 -- ---- closed facts of each format
 record Known (f : Format) : Type 0 where

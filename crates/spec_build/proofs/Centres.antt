@@ -3,7 +3,7 @@ use mathlib.Core.Bool.{Bool, true, false}
 use Prim.Native.Nat.{ℕ, ◌*◌, ◌<◌}
 use native.Mathlib.Nat.{mul-pos, zero-lt-suc}
 use lib.IntN.{pos}
-use lib.Ieee.{Float, inf, fin, Format, is_nan, up, down, unlike, round, div}
+use lib.Ieee.{Float, inf, fin, Format, is_nan, up, down, unlike, round, div, nan}
 use lib.Ieee.Fits.{up_pos, down_pos}
 use Rattle.spec_numbers.specs.Values.{two, Number}
 use Rattle.spec_numbers.specs.Axes.{Axis, X, Y, Z}
@@ -22,6 +22,7 @@ unfolding div is_nan
 half_number f (inf s) h = tt
 half_number f (fin s m e) h =
     round_number f (unlike s false) (m * up e * down (pos 1)) (1 * up (pos 1) * down e) (mul-pos (mul-pos (zero-lt-suc 0) (up_pos (pos 1))) (down_pos e))
+half_number f nan h = elim h [ ]
 
 -- a box with finite corners has a centre that is no NaN, on each axis: the sort has keys to compare
 pub centre_number : (f : Format) (b : Box) → Proper b → (axis : Axis) → Number (on axis (centre f b))

@@ -42,6 +42,8 @@ unfolding is_coordinate le
 coordinate_plus_zero (inf true) h = h
 coordinate_plus_zero (fin s zero e) h = tt
 coordinate_plus_zero (fin s (suc m) e) h = h
+coordinate_plus_zero nan h = elim h [ ]
+coordinate_plus_zero (inf false) h = elim h [ ]
 
 -- ---- the first bad number of a list
 good_before : (xs : List Float) (i : ℕ) → i < first_bad xs → T (is_coordinate (get_or xs i nan))

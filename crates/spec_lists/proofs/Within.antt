@@ -6,7 +6,7 @@ use Prim.Native.Nat.{ℕ, ◌+◌, ◌*◌, ◌^◌, ◌≤◌}
 use native.Mathlib.Omega.{arith}
 use lib.Dec.{T}
 use lib.ListN.{length}
-use lib.Ieee.{Float, fin, Format, neg, le}
+use lib.Ieee.{Float, fin, Format, neg, le, inf, nan}
 use lib.Ieee.Positive.{num, den}
 use lib.Ieee.Scale.{finite}
 use Rattle.spec_numbers.specs.Axes.{X, Y, Z}
@@ -28,6 +28,8 @@ between_ends : (x : Float) → T (finite x) → T (le (neg furthest_coordinate) 
 unfolding neg
 between_ends (fin false m e) F l h = omega (arith, (compared (fin false m e) furthest_coordinate tt tt).le→at_most h)
 between_ends (fin true m e) F l h = omega (arith, (compared (neg furthest_coordinate) (fin true m e) tt tt).le→at_most l)
+between_ends nan F l h = elim F [ ]
+between_ends (inf _) F l h = elim F [ ]
 
 -- a coordinate is at most 2 ^ 20 in magnitude
 pub coordinate_within : (x : Float) → T (is_coordinate x) → Within (2 ^ 20) x

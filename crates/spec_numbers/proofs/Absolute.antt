@@ -16,6 +16,8 @@ unfolding lt neg
 below_zero_turns (inf true) h = refl
 below_zero_turns (fin true m e) h = refl
 below_zero_turns (fin false m e) h = absurd (omega (arith, ltb→lt))
+below_zero_turns nan h = elim h [ ]
+below_zero_turns (inf false) h = elim h [ ]
 
 -- the other branch: adding zero gives the magnitude, as it turns -0 into +0 and keeps a NaN
 pub otherwise_plus_zero : (f : Format) (x : Float) → T (fits f x) → T (not (lt x zero)) → plus_zero x ≡ abs x
@@ -28,3 +30,4 @@ otherwise_plus_zero f (fin false (suc m) e) h k = refl
 otherwise_plus_zero f (fin true (suc m) e) h k =
     let a = suc m * up e * 1 in
     absurd (T_not (ltb 0 (a + 0 * down e)) k (lt→ltb 0 (a + 0 * down e) (omega (arith, mul-pos (zero-lt-suc m) (up_pos e)))))
+otherwise_plus_zero f (inf true) h k = elim k [ ]

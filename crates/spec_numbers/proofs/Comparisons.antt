@@ -4,7 +4,7 @@ use mathlib.Core.Logic.{◌⊎◌, inl, inr}
 use mathlib.Core.Bool.{Bool, true, false, not, ◌&&◌}
 use Prim.Native.Nat.{ℕ, ◌*◌}
 use lib.Dec.{T, not_T, eqb, eqb→eq}
-use lib.Ieee.{Float, inf, fin, up, down, level, lt, le, eq}
+use lib.Ieee.{Float, inf, fin, up, down, level, lt, le, eq, nan}
 use lib.Ieee.Bits.{is_true, is_false}
 use lib.Ieee.Fits.{and_i, and_l, and_r, eq→eqb}
 use Rattle.spec_numbers.specs.Values.{Number}
@@ -42,6 +42,15 @@ unfolding eq
 equal_symmetric (inf true) (inf true) h = tt
 equal_symmetric (inf false) (inf false) h = tt
 equal_symmetric (fin s m e) (fin t n d) h = level_symmetric s (m * up e * down d) t (n * up d * down e) h
+equal_symmetric nan y h = elim h [ ]
+equal_symmetric (inf false) nan h = elim h [ ]
+equal_symmetric (inf false) (inf true) h = elim h [ ]
+equal_symmetric (inf false) (fin t n d) h = elim h [ ]
+equal_symmetric (inf true) nan h = elim h [ ]
+equal_symmetric (inf true) (inf false) h = elim h [ ]
+equal_symmetric (inf true) (fin t n d) h = elim h [ ]
+equal_symmetric (fin s m e) nan h = elim h [ ]
+equal_symmetric (fin s m e) (inf _) h = elim h [ ]
 
 equal_not_less : (x y : Float) → T (eq x y) → T (not (lt x y))
 unfolding le

@@ -7,7 +7,7 @@ use native.Mathlib.Nat.{le_refl, mul-pos, zero-mul, sub_self}
 use lib.Dec.{T, ltb}
 use lib.Pow.{pow_pos}
 use lib.Arith.{le→nltb}
-use lib.Ieee.{Float, fin, Format, up, down, round, sum, neg, sub, le}
+use lib.Ieee.{Float, fin, Format, up, down, round, sum, neg, sub, le, inf, nan}
 use lib.Ieee.Bits.{is_false}
 use lib.Ieee.Fits.{down_pos}
 use lib.Ieee.Scale.{finite, round_same}
@@ -19,6 +19,8 @@ use Rattle.spec_numbers.proofs.Sum.{finite_add_keeps_order, add_number}
 neg_finite : (x : Float) → T (finite x) → T (finite (neg x))
 unfolding neg
 neg_finite (fin s m e) h = tt
+neg_finite nan h = elim h [ ]
+neg_finite (inf _) h = elim h [ ]
 
 -- ---- in its first term, and in both
 -- a difference of finite floats is no NaN
@@ -51,6 +53,8 @@ opposite f true a c C = rw (not_below_itself a, sub_self a) (round_nothing f c C
 pub difference_with_itself : (f : Format) (x : Float) → T (finite x) → sub f x x ≡ zero
 unfolding sub
 difference_with_itself f (fin s m e) h = opposite f s (m * up e * down e) (down e * down e) (mul-pos (down_pos e) (down_pos e))
+difference_with_itself f nan h = elim h [ ]
+difference_with_itself f (inf _) h = elim h [ ]
 
 -- ---- the sign of a difference
 -- a number less one that is not above it is not below zero: rounding does not turn the sign

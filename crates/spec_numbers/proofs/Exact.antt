@@ -42,6 +42,8 @@ kept_whole f s m e n =
 by_value : (f : Format) (y : Float) (s : Bool) (m : ℕ) (e : ℤ) → T (fits f y) → T (fits f (fin s m e)) → HasValue y s (m * up e) (down e) → y ≡ fin s m e
 by_value f (fin t n d) s m e h k v =
     subst (λ (u : Bool). T (fits f (fin u m e)) → fin t n d ≡ fin u m e) v.0 (λ k'. unique_finite f t n d m e h k' v.1) k
+by_value f nan s m e h k v = elim v [ ]
+by_value f (inf _) s m e h k v = elim v [ ]
 
 -- rounding does not change what the format holds exactly
 pub rounds_to_itself : (f : Format) (s : Bool) (m : ℕ) (e : ℤ) → T (fits f (fin s (suc m) e)) → round f s (suc m * up e) (down e) ≡ fin s (suc m) e

@@ -54,6 +54,7 @@ below_says : (s : Bool) (a : ℕ) (t : Bool) (b : ℕ) → T (below s a t b) →
 below_says false a false b h = omega (arith, ltb→lt)
 below_says true a false b h = omega (arith, ltb→lt)
 below_says true a true b h = omega (arith, ltb→lt)
+below_says false a true b h = elim h [ ]
 
 below_holds : (s : Bool) (a : ℕ) (t : Bool) (b : ℕ) → cond s 0 a + cond t b 0 < cond t 0 b + cond s a 0 → T (below s a t b)
 below_holds false a false b h = omega (arith, lt→ltb)
@@ -108,6 +109,10 @@ compared (fin s m e) (fin t n d) h k =
       le→at_most = λ l. omega (arith, joined_says s a t b l);
       at_most→le = λ l. joined_holds s a t b (omega arith);
     }
+compared nan y h k = elim h [ ]
+compared (inf _) y h k = elim h [ ]
+compared (fin s m e) nan h k = elim k [ ]
+compared (fin s m e) (inf _) h k = elim k [ ]
 
 -- no denominator is zero, so the laws of fractions apply to every float
 pub den_above_zero : (x : Float) → 0 < (value x).den

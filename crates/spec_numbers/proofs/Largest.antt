@@ -8,7 +8,7 @@ use native.Mathlib.Omega.{arith}
 use lib.IntN.{ℤ, pos, negsuc}
 use lib.Dec.{T}
 use lib.Pow.{pow-add, pow_pos, pow_mono}
-use lib.Ieee.{Float, fin, Format, prec, emax, up, down, le, fits}
+use lib.Ieee.{Float, fin, Format, prec, emax, up, down, le, fits, inf, nan}
 use lib.Ieee.Fits.{reach}
 use lib.Ieee.Scale.{finite}
 use Rattle.spec_numbers.specs.Values.{largest}
@@ -49,3 +49,5 @@ module _ (f : Format) where
   at_most_largest (fin false (suc m) e) h k =
       let n = normal f false m e h in
       (compared (fin false (suc m) e) (largest f) tt tt).at_most→le (omega (arith, bounded (suc m) e n.digits n.high))
+  at_most_largest nan h k = elim k [ ]
+  at_most_largest (inf _) h k = elim k [ ]

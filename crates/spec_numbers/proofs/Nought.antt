@@ -34,6 +34,7 @@ nought_by_order (fin false (suc m) e) h k =
 nought_by_order (fin true zero e) h k = refl
 nought_by_order (fin true (suc m) e) h k =
     absurd (omega (arith, (compared Values.zero (fin true (suc m) e) tt tt).le→at_most h, mul-pos (zero-lt-suc m) (up_pos e)))
+nought_by_order nan h k = elim h [ ]
 
 -- ---- a number's difference with itself
 -- it is a zero where the number is finite, and else a NaN
@@ -72,6 +73,7 @@ over_nought f (fin s zero e) (fin t (suc n) d) h =
     either (eqb (suc n) 0) nan (round f (unlike s t) (0 * up e * down d) (suc n * up d * down e)) tt
     (rw (zero-mul (up e), zero-mul (down d)) (round_nought f (unlike s t) (suc n * up d * down e) (mul-pos (mul-pos (zero-lt-suc n) (up_pos d)) (down_pos e))))
 over_nought f (fin s (suc m) e) y h = absurd (omega arith)
+over_nought f (inf _) y h = elim h [ ]
 
 -- a nought times a finite number is a nought
 pub times_nought : (f : Format) (s : Bool) (a : ℕ) (b : ℤ) (y : Float) → Nought y → Nought (mul f (fin s a b) y)
@@ -79,6 +81,7 @@ unfolding mul
 times_nought f s a b nan h = tt
 times_nought f s a b (fin t zero d) h = rw (zero-mul (up d), mul-zero (a * up b)) (round_nought f _ _ (mul-pos (down_pos b) (down_pos d)))
 times_nought f s a b (fin t (suc n) d) h = absurd (omega arith)
+times_nought f s a b (inf _) h = elim h [ ]
 
 -- ---- its whole part
 -- so a nought falls into bucket 0
@@ -88,3 +91,4 @@ cut_nought nan h = refl
 cut_nought (fin true m e) h = refl
 cut_nought (fin false zero e) h = rw (zero-mul (up e), zero-div (down e)) (zero-min (2 ^ 64 - 1))
 cut_nought (fin false (suc m) e) h = absurd (omega arith)
+cut_nought (inf _) h = elim h [ ]

@@ -12,6 +12,8 @@ use Rattle.spec_numbers.specs.Values.{Number}
 nan_is : (x : Float) → T (is_nan x) → nan ≡ x
 unfolding is_nan
 nan_is nan h = refl
+nan_is (inf _) h = elim h [ ]
+nan_is (fin _ _ _) h = elim h [ ]
 
 module _ (f : Format) (b : ℕ) where
   -- a pattern that is above infinity's, sign left out, reads as the NaN
@@ -33,3 +35,4 @@ pub same_is_number : (x : Float) → T (not (ne x x)) → Number x
 unfolding ne is_nan
 same_is_number (inf s) h = tt
 same_is_number (fin s m e) h = tt
+same_is_number nan h = elim h [ ]

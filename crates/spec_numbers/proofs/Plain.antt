@@ -113,6 +113,7 @@ unfolding is_nan
 plus_zero_number (inf s) h = tt
 plus_zero_number (fin s none e) h = tt
 plus_zero_number (fin s (suc m) e) h = tt
+plus_zero_number nan h = elim h [ ]
 
 -- so every coordinate that is read is plain
 pub plus_zero_plain : (f : Format) (x : Float) → T (fits f x) → Number x → Plain f (plus_zero x)

@@ -7,7 +7,7 @@ use native.Mathlib.Nat.{le-mul_of_pos_right}
 use native.Mathlib.Omega.{arith}
 use lib.Dec.{T, ltb}
 use lib.Pow.{pow_pos}
-use lib.Ieee.{Float, inf, fin, Format, binary32, binary64, prec, emax, low, odd, units, round, neg, le}
+use lib.Ieee.{Float, inf, fin, Format, binary32, binary64, prec, emax, low, odd, units, round, neg, le, nan}
 use lib.Ieee.Fits.{round_is}
 use lib.Ieee.Order.{round_mono}
 use Rattle.spec_numbers.specs.Values.{zero as +0}
@@ -31,6 +31,13 @@ neg_reverses (fin s m e) (fin t n d) h =
     turned false true k = omega arith
     turned true false k = omega arith
     turned true true k = omega arith
+neg_reverses nan y h = elim h [ ]
+neg_reverses (inf false) nan h = elim h [ ]
+neg_reverses (inf false) (inf true) h = elim h [ ]
+neg_reverses (inf false) (fin t n d) h = elim h [ ]
+neg_reverses (inf true) nan h = elim h [ ]
+neg_reverses (fin s m e) nan h = elim h [ ]
+neg_reverses (fin s m e) (inf true) h = elim h [ ]
 
 -- ---- the sign of what is rounded is only carried along
 odd_negated : (d q k l : ℕ) → odd d true q k l ≡ neg (odd d false q k l)

@@ -30,6 +30,7 @@ pub square_not_below : (f : Format) (x : Float) → Number x → T (le zero (mul
 unfolding is_nan
 square_not_below f (inf s) h = rw (square_of_infinity f s) (unfold le in tt)
 square_not_below f (fin s m e) h = rw (square_is f s m e) (round_not_below f (m * up e * (m * up e)) (down e * down e) (mul-pos (down_pos e) (down_pos e)))
+square_not_below f nan h = elim h [ ]
 
 square_number : (f : Format) (x : Float) → Number x → Number (mul f x x)
 square_number f x h = number_right zero (mul f x x) (square_not_below f x h)
@@ -51,6 +52,10 @@ square_keeps_order f (fin s m e) (fin t n d) h =
     (round_mono f (m * up e * (m * up e)) (down e * down e) (n * up d * (n * up d)) (down d * down d) (mul-pos (down_pos e) (down_pos e))
     (mul-pos (down_pos d) (down_pos d))
     (grows (m * up e) (down e) (n * up d) (down d) ((compared (fin false m e) (fin false n d) tt tt).le→at_most h)))
+square_keeps_order f nan y h = elim h [ ]
+square_keeps_order f (inf s) nan h = elim h [ ]
+square_keeps_order f (inf s) (fin t n d) h = elim h [ ]
+square_keeps_order f (fin s m e) nan h = elim h [ ]
 
 -- ---- magnitudes grow away from zero, up and down
 sizes : (s : Bool) (a c : ℕ) (t : Bool) (b d : ℕ) → AtMost (signed false 0 1) (signed s a c) → AtMost (signed s a c) (signed t b d)
@@ -68,6 +73,11 @@ abs_grows_upward (fin s m e) (inf t) h k = tt
 abs_grows_upward (fin s m e) (fin t n d) h k =
     (compared (fin false m e) (fin false n d) tt tt).at_most→le
     (sizes s (m * up e) (down e) t (n * up d) (down d) ((compared zero (fin s m e) tt tt).le→at_most h) ((compared (fin s m e) (fin t n d) tt tt).le→at_most k))
+abs_grows_upward nan y h k = elim h [ ]
+abs_grows_upward (inf false) nan h k = elim k [ ]
+abs_grows_upward (inf false) (fin t n d) h k = elim k [ ]
+abs_grows_upward (inf true) y h k = elim h [ ]
+abs_grows_upward (fin s m e) nan h k = elim k [ ]
 
 abs_neg : (x : Float) → abs (neg x) ≡ abs x
 unfolding neg

@@ -6,7 +6,7 @@ use Prim.Native.Nat.{ℕ, ◌+◌, ◌-◌, ◌*◌, ◌≤◌, ◌<◌}
 use native.Mathlib.Nat.{mul-pos, mul-le-mul_right, add-mul}
 use native.Mathlib.Omega.{arith}
 use lib.Dec.{T, ltb, ltb→lt, nltb→le}
-use lib.Ieee.{Float, inf, fin, Format, binary32, binary64, is_nan, up, down, round, sum, add, le}
+use lib.Ieee.{Float, inf, fin, Format, binary32, binary64, is_nan, up, down, round, sum, add, le, nan}
 use lib.Ieee.Scale.{finite}
 use Rattle.spec_numbers.specs.Values.{zero, Number}
 use Rattle.spec_numbers.proofs.Fraction.{Fraction, value, AtMost, spread, den_above_zero, compared}
@@ -61,6 +61,10 @@ add_rounds f (fin s m e) (fin t n d) h k =
     (sum f s (m * up e * down d) t (n * up d * down e) (down e * down d)) =
     sum_rounds f s (m * up e * down d) t (n * up d * down e) (down e * down d) in
     record { sign = r.sign; size = r.size; is = r.is; says = omega (arith, spread s (m * up e) (down d), spread t (n * up d) (down e), r.says) }
+add_rounds f nan y h k = elim h [ ]
+add_rounds f (inf _) y h k = elim h [ ]
+add_rounds f (fin s m e) nan h k = elim k [ ]
+add_rounds f (fin s m e) (inf _) h k = elim k [ ]
 
 -- ---- a sum grows with its terms
 -- larger terms make a sum that is no smaller, though it is rounded
@@ -76,11 +80,15 @@ add_lowest : (f : Format) (y : Float) → Number (add f (inf true) y) → add f 
 unfolding add is_nan
 add_lowest f (inf true) h = refl
 add_lowest f (fin t n d) h = refl
+add_lowest f nan h = elim h [ ]
+add_lowest f (inf false) h = elim h [ ]
 
 add_highest : (f : Format) (y : Float) → Number (add f (inf false) y) → add f (inf false) y ≡ inf false
 unfolding add is_nan
 add_highest f (inf false) h = refl
 add_highest f (fin t n d) h = refl
+add_highest f nan h = elim h [ ]
+add_highest f (inf true) h = elim h [ ]
 
 add_keeps_order : (f : Format) (a b c d : Float) → T (le a c) → T (le b d) → Number (add f a b) → Number (add f c d) → T (le (add f a b) (add f c d))
 unfolding add le
@@ -92,6 +100,18 @@ add_keeps_order f (fin s m g) (inf false) (fin t n e) (inf false) h k p q = tt
 add_keeps_order f (fin s m g) (fin r l j) (fin t n e) (inf false) h k p q = greatest (add f (fin s m g) (fin r l j)) p
 add_keeps_order f (fin s m g) (fin r l j) (fin t n e) (fin u o i) h k p q =
     finite_add_keeps_order f (fin s m g) (fin r l j) (fin t n e) (fin u o i) tt tt tt tt h k
+add_keeps_order f nan b c d h k p q = elim h [ ]
+add_keeps_order f (inf false) b nan d h k p q = elim h [ ]
+add_keeps_order f (inf false) b (inf true) d h k p q = elim h [ ]
+add_keeps_order f (inf false) b (fin t n e) d h k p q = elim h [ ]
+add_keeps_order f (fin s m g) b nan d h k p q = elim h [ ]
+add_keeps_order f (fin s m g) b (inf true) d h k p q = elim h [ ]
+add_keeps_order f (fin s m g) nan (fin t n e) d h k p q = elim k [ ]
+add_keeps_order f (fin s m g) (inf false) (fin t n e) nan h k p q = elim k [ ]
+add_keeps_order f (fin s m g) (inf false) (fin t n e) (inf true) h k p q = elim k [ ]
+add_keeps_order f (fin s m g) (inf false) (fin t n e) (fin u o i) h k p q = elim k [ ]
+add_keeps_order f (fin s m g) (fin r l j) (fin t n e) nan h k p q = elim k [ ]
+add_keeps_order f (fin s m g) (fin r l j) (fin t n e) (inf true) h k p q = elim k [ ]
 
 -- a sum of finite floats is no NaN
 pub add_number : (f : Format) (x y : Float) → T (finite x) → T (finite y) → Number (add f x y)
@@ -104,6 +124,11 @@ sum_number f (inf false) (inf false) h k = tt
 sum_number f (inf false) (fin t n d) h k = tt
 sum_number f (fin s m e) (inf t) h k = tt
 sum_number f (fin s m e) (fin t n d) h k = add_number f (fin s m e) (fin t n d) tt tt
+sum_number f nan b h k = elim h [ ]
+sum_number f (inf false) nan h k = elim k [ ]
+sum_number f (inf false) (inf true) h k = elim k [ ]
+sum_number f (inf true) b h k = elim h [ ]
+sum_number f (fin s m e) nan h k = elim k [ ]
 
 -- sums of terms that are not below zero grow with them, to infinity too: distances grow with what they add up
 pub sum_keeps_order : (f : Format) (a b c d : Float) → T (le zero a) → T (le zero b) → T (le a c) → T (le b d) → T (le (add f a b) (add f c d))

@@ -25,6 +25,7 @@ or_elim false b f g t = g t
 -- a disjunction holds where its first test does
 pub or_l : (a b : Bool) → T a → T (a || b)
 or_l true b t = tt
+or_l false b t = elim t [ ]
 
 -- a disjunction holds where its second test does
 pub or_r : (a b : Bool) → T b → T (a || b)

@@ -7,7 +7,7 @@ use native.Mathlib.Omega.{arith}
 use lib.IntN.{ℤ, pos, negsuc}
 use lib.Dec.{T, T_not, leb, ltb, eqb, eqb→eq, ltb→lt, leb→le}
 use lib.Pow.{pow-add, pow_pos}
-use lib.Ieee.{Float, inf, fin, Format, prec, emax, low, up, down, level, eq, fits}
+use lib.Ieee.{Float, inf, fin, Format, prec, emax, low, up, down, level, eq, fits, nan}
 use lib.Ieee.Fits.{and_i, and_l, and_r, eq→eqb, down_pos, up_pos}
 use Rattle.spec_numbers.specs.Values.{zero as +0, negative}
 use Rattle.spec_numbers.proofs.Tests.{or_r}
@@ -103,6 +103,11 @@ unique f (fin s m e) (fin t n d) h k v r =
     subst (λ (u : Bool). T (fits f (fin u n d)) → fin s m e ≡ fin u n d) r
     (λ k'. unique_finite f s m e n d h k'
     (eqb→eq (m * up e * down d) (n * up d * down e) (and_l (eqb (m * up e * down d) (n * up d * down e)) (beq s t || eqb (m * up e * down d) 0) v))) k
+unique f nan y h k e r = elim e [ ]
+unique f (inf s) nan h k e r = elim e [ ]
+unique f (inf s) (fin t n d) h k e r = elim e [ ]
+unique f (fin s m e) nan h k v r = elim v [ ]
+unique f (fin s m e) (inf t) h k v r = elim v [ ]
 
 -- unlike signs are only those of zeros
 agree : (s : Bool) (a : ℕ) (t : Bool) (b : ℕ) → T (level s a t b) → (a ≡ 0 → ⊥) → s ≡ t
@@ -129,3 +134,12 @@ signs_agree (inf true) (inf true) e n = refl
 signs_agree (inf false) (inf false) e n = refl
 signs_agree (fin s m e) (fin t n d) v z =
     agree s (m * up e * down d) t (n * up d * down e) v (λ a. T_not (eq (fin s m e) +0) z (zero_equal s m e (cancel (m * up e) (down d) (down_pos d) a)))
+signs_agree nan y e n = elim e [ ]
+signs_agree (inf false) nan e n = elim e [ ]
+signs_agree (inf false) (inf true) e n = elim e [ ]
+signs_agree (inf false) (fin t _ d) e n = elim e [ ]
+signs_agree (inf true) nan e n = elim e [ ]
+signs_agree (inf true) (inf false) e n = elim e [ ]
+signs_agree (inf true) (fin t _ d) e n = elim e [ ]
+signs_agree (fin s m e) nan v z = elim v [ ]
+signs_agree (fin s m e) (inf _) v z = elim v [ ]

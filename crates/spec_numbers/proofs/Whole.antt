@@ -27,6 +27,8 @@ cut_too_large w (fin true m e) h = absurd (omega (arith, (compared (power w) (fi
 cut_too_large w (fin false m e) h =
     let q : 2 ^ w ≤ m * up e / down e = (le-div_iff_mul-le (down_pos e)).1 (omega (arith, (compared (power w) (fin false m e) tt tt).le→at_most h)) in
     min-eq_right (omega arith)
+cut_too_large w nan h = elim h [ ]
+cut_too_large w (inf true) h = elim h [ ]
 
 -- the second test: what is below zero, and a NaN, is cut to 0
 pub cut_below_zero : (w : ℕ) (x : Float) → T (not (le zero x)) → to_unsigned w x ≡ 0
@@ -35,6 +37,7 @@ cut_below_zero w nan h = refl
 cut_below_zero w (inf true) h = refl
 cut_below_zero w (fin true m e) h = refl
 cut_below_zero w (fin false m e) h = absurd (T_not (le zero (fin false m e)) h ((compared zero (fin false m e) tt tt).at_most→le (omega arith)))
+cut_below_zero w (inf false) h = elim h [ ]
 
 -- what a plain cast needs below: a number that is not below zero is above -1
 pub above_minus_one : (x : Float) → T (le zero x) → T (lt (fin true 1 (pos 0)) x)

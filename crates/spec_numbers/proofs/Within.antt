@@ -49,11 +49,15 @@ some_magnitude (fin s m e) k n = elim (eq-zero-or-pos (m * up e)) [
       (or_r (beq s false) (eqb a 0) (eq→eqb {a = a} {b = 0} (omega arith)))))
   | inr p ↦ p
 ]
+some_magnitude nan k n = elim k [ ]
+some_magnitude (inf _) k n = elim k [ ]
 
 -- a float with a value whose sign is clear is finite, with the sign clear
 pub value_is_unsigned : (x : Float) (a c : ℕ) → HasValue x false a c → T (unsigned x)
 value_is_unsigned (fin false m e) a c h = tt
 value_is_unsigned (fin true m e) a c h = true≢false h.0
+value_is_unsigned nan a c h = elim h [ ]
+value_is_unsigned (inf _) a c h = elim h [ ]
 
 -- ---- rounding with the sign clear
 units_unsigned : (f : Format) (q k m : ℕ) (e : ℤ) → T (le (units f false q k) (fin false m e)) → T (unsigned (units f false q k))
@@ -63,6 +67,7 @@ units_unsigned f q k m e = go (ltb (q * 2 ^ k) (2 ^ (low f + suc (emax f))))
     go : (b : Bool) → T (le (cond b (odd (suc (prec f)) false q k (low f)) (inf false)) (fin false m e))
         → T (unsigned (cond b (odd (suc (prec f)) false q k (low f)) (inf false)))
     go true h = value_is_unsigned (odd (suc (prec f)) false q k (low f)) (q * 2 ^ k) (2 ^ low f) (odd_sign (suc (prec f)) false q k (low f))
+    go false h = elim h [ ]
 
 -- what is rounded with the sign clear, and stays below a finite number, is finite with the sign clear
 pub round_unsigned : (f : Format) (a c m : ℕ) (e : ℤ) → T (le (round f false a c) (fin false m e)) → T (unsigned (round f false a c))
@@ -75,6 +80,7 @@ units_finite f q k = go (ltb (q * 2 ^ k) (2 ^ (low f + suc (emax f))))
     go : (b : Bool) → T (finite (cond b (odd (suc (prec f)) false q k (low f)) (inf false)))
         → T (unsigned (cond b (odd (suc (prec f)) false q k (low f)) (inf false)))
     go true h = value_is_unsigned (odd (suc (prec f)) false q k (low f)) (q * 2 ^ k) (2 ^ low f) (odd_sign (suc (prec f)) false q k (low f))
+    go false h = elim h [ ]
 
 -- what is rounded with the sign clear, and is finite, keeps the sign clear
 pub round_finite : (f : Format) (a c : ℕ) → T (finite (round f false a c)) → T (unsigned (round f false a c))
@@ -83,6 +89,12 @@ round_finite f a c h = rw (round_is f false a c) (units_finite f _ _ (rw (round_
 -- the float that compares as at most the other has no larger fraction
 pub le_says : (x y : Float) → T (unsigned x) → T (unsigned y) → T (le x y) → num x * den y ≤ num y * den x
 le_says (fin false m e) (fin false n d) p q h = omega (arith, (compared (fin false m e) (fin false n d) tt tt).le→at_most h)
+le_says nan y p q h = elim p [ ]
+le_says (inf _) y p q h = elim p [ ]
+le_says (fin false m e) nan p q h = elim q [ ]
+le_says (fin false m e) (inf _) p q h = elim q [ ]
+le_says (fin false m e) (fin true n d) p q h = elim q [ ]
+le_says (fin true m e) y p q h = elim p [ ]
 
 -- ---- whole numbers that the format holds
 pub record Whole (f : Format) (c : ℕ) : Type 0 where
@@ -125,6 +137,9 @@ neg_within (fin s m e) w = record { is_finite = tt; most = w.most }
 -- a number with the sign clear is finite, as the definition has it
 pub unsigned_finite : (x : Float) → T (unsigned x) → T (finite x)
 unsigned_finite (fin false m e) h = tt
+unsigned_finite nan h = elim h [ ]
+unsigned_finite (inf _) h = elim h [ ]
+unsigned_finite (fin true m e) h = elim h [ ]
 
 -- R is c itself
 below_whole : (f : Format) (a d c : ℕ) (R : Float) → HasValue R false c 1 → T (le (round f false a d) R) → Within c (round f false a d)
@@ -138,6 +153,8 @@ below_whole f a d c (fin false n g) v l =
       is_finite = unsigned_finite r p;
       most = le_of_mul-le-mul_right (le_trans k (le_of_eq (ap (λ (z : ℕ). z * den r) e ∙ mul_right_comm c (down g) (den r)))) (down_pos g);
     }
+below_whole f a d c nan v l = elim v [ ]
+below_whole f a d c (inf _) v l = elim v [ ]
 
 round_within_plain : (f : Format) (a d c : ℕ) → 0 < d → Whole f c → a ≤ c * d → Within c (round f false a d)
 round_within_plain f a d c D w h = below_whole f a d c (round f false c 1) w.exact (round_mono f a d c 1 D (pow_pos 0) (omega arith))
@@ -203,6 +220,10 @@ unfolding div
 quotient_number f (fin s m e) (fin t none d) X Y h = absurd (omega arith)
 quotient_number f (fin s m e) (fin t (suc n) d) X Y h =
     rw (eqb-suc-zero n) (rounded_number f _ (m * up e * down d) (suc n * up d * down e) (mul-pos h (down_pos e)))
+quotient_number f nan y X Y h = elim X [ ]
+quotient_number f (inf _) y X Y h = elim X [ ]
+quotient_number f (fin s m e) nan X Y h = elim Y [ ]
+quotient_number f (fin s m e) (inf _) X Y h = elim Y [ ]
 
 zero_at_most_one : T (le zero one)
 unfolding le lt eq
@@ -211,6 +232,8 @@ zero_at_most_one = tt
 from_zero_to_one : (x : Float) → T (finite x) → T (le zero x) → T (le x one) → num x ≤ 1 * den x
 from_zero_to_one (fin false m e) F l h = omega (arith, (compared (fin false m e) one tt tt).le→at_most h)
 from_zero_to_one (fin true m e) F l h = omega (arith, (compared zero (fin true m e) tt tt).le→at_most l)
+from_zero_to_one nan F l h = elim F [ ]
+from_zero_to_one (inf _) F l h = elim F [ ]
 
 -- so held to 0 and 1 it is at most 1, however small the divisor is
 pub share_within : (f : Format) (x y : Float) → T (finite x) → T (finite y) → T (not (eq y zero)) → Within 1 (held zero one (div f x y))

@@ -359,6 +359,7 @@ module _ (most : ℕ) (some : 1 ≤ most) (squared : Float) (bounded : lt square
     where
       level : (x y : Bool) → eq h.squared k.squared ≡ x → T (x && y) → T (le h.squared k.squared)
       level true y p m = eq→le h.squared k.squared (passed p)
+      level false y p m = elim m [ ]
 
   behind_counted : (h : Hit) (b : List Hit) → le h.squared squared ≡ false → Counted second b → Behind h b
   unfolding counts

@@ -108,6 +108,8 @@ from_eleven (inf false) h = refl
 from_eleven (fin true m e) h = absurd (omega (arith, (compared eleven (fin true m e) tt tt).le→at_most h, down_pos e))
 from_eleven (fin false m e) h =
     capped (m * up e / down e) ((le-div_iff_mul-le (down_pos e)).1 (omega (arith, (compared eleven (fin false m e) tt tt).le→at_most h)))
+from_eleven nan h = elim h [ ]
+from_eleven (inf true) h = elim h [ ]
 
 -- the second test: below zero, and for a NaN, the bucket is 0
 pub below_zero : (x : Float) → T (not (le Values.zero x)) → 0 ≡ up_to11 x
@@ -122,6 +124,8 @@ unfolding to_unsigned le
 below_eleven_kept (inf true) h k = absurd k
 below_eleven_kept (fin true m e) h k = refl
 below_eleven_kept (fin false m e) h k = kept (m * up e / down e) (small m e (below_eleven (fin false m e) h k))
+below_eleven_kept nan h k = elim k [ ]
+below_eleven_kept (inf false) h k = elim h [ ]
 
 -- what a plain cast needs: between the two tests the number is below its limit
 pub below_limit : (x : Float) → T (not (le eleven x)) → T (le Values.zero x) → T (lt x (fin false 1 (pos 64)))

@@ -17,8 +17,8 @@ use Rattle.spec_tree.specs.Accepted.{same_point, same_box}
 use Rattle.spec_tree.proofs.Standing.{Stands}
 
 -- ---- the test of boxes
-same_point : (a b : Point) → same_point a b ≡ true → a ≡ b
-same_point a b h =
+same_point_lem : (a b : Point) → same_point a b ≡ true → a ≡ b
+same_point_lem a b h =
     let outer = both_passed (same a.x b.x && same a.y b.y) (same a.z b.z) h in
     let inner = both_passed (same a.x b.x) (same a.y b.y) outer.0 in
     let x : a.x ≡ b.x = same_equal a.x b.x inner.0 in
@@ -31,8 +31,8 @@ pub same_box_lem : (a b : Box) → same_box a b ≡ true → a ≡ b
 unfolding same_box
 same_box_lem a b h =
     let both = both_passed (same_point a.min b.min) (same_point a.max b.max) h in
-    let low = same_point a.min b.min both.0 in
-    let high = same_point a.max b.max both.1 in
+    let low = same_point_lem a.min b.min both.0 in
+    let high = same_point_lem a.max b.max both.1 in
     λ i. record { min = low i; max = high i }
 
 point_same : (a b : Point) → a ≡ b → same_point a b ≡ true

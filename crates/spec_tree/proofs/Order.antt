@@ -40,11 +40,13 @@ without k (x ∷ xs) (Memᴰ.tail m) =
       shorter = ap suc w.shorter;
       others = λ j n d. ⊎_elim (λ q. Memᴰ.head q) (λ n'. Memᴰ.tail (w.others j n' d)) (Memᴰ.cases_cons n);
     }
+without k [] x' = elim x' [ ]
 
 occurs_member : (k : ℕ) (l : List ℕ) → Memᴰ k l → occurs k l ≡ true
 unfolding occurs
 occurs_member k (x ∷ xs) (Memᴰ.head p) = rw (eq-eqb x k (sym p))
 occurs_member k (x ∷ xs) (Memᴰ.tail m) = rw (occurs_member k xs m) (or-true (eqb x k))
+occurs_member k [] x' = elim x' [ ]
 
 distinct_parts : (x : ℕ) (xs : List ℕ) → distinct (x ∷ xs) ≡ true → (occurs x xs ≡ false) × (distinct xs ≡ true)
 unfolding distinct
@@ -80,6 +82,7 @@ below_each : (n : ℕ) (l : List ℕ) → all_below n l ≡ true → (k : ℕ) �
 unfolding all_below
 below_each n (x ∷ xs) h k (Memᴰ.head p) = rw p (ltb-true x n (both_passed (ltb x n) (all_below n xs) h).0)
 below_each n (x ∷ xs) h k (Memᴰ.tail m) = below_each n xs (both_passed (ltb x n) (all_below n xs) h).1 k m
+below_each n [] h k x'' = elim x'' [ ]
 
 -- soundness of the test: an order list that passes is a permutation of 0 to n - 1
 pub test_permutes : (n : ℕ) (order : List ℕ) → permutes n order ≡ true → Permutes n order

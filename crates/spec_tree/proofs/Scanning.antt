@@ -101,8 +101,8 @@ module _ (n : ℕ) (links : List ℕ) where
         ap (scan n links) (add-one node) ∙ ap (scan_node n links node) s.is ∙ kind_tested (eqb (kind_at links node) 1) (eqb (kind_at links node) 2) h
 
     -- a node that passes the test
-    pub goes_on : node < nodes → goes_on n links node entry ≡ true → Scanned n links (node + 1) (entry_after links node entry)
-    goes_on h t =
+    pub goes_on_lem : node < nodes → goes_on n links node entry ≡ true → Scanned n links (node + 1) (entry_after links node entry)
+    goes_on_lem h t =
         record {
           roots = roots_after;
           is = node_tested (omega arith) ∙ ap (λ (b : Bool). cond b (stand roots_after (entry_after links node entry)) (broken node)) t;
