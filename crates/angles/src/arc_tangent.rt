@@ -138,7 +138,7 @@ const ARCS: [u32; 1025] = [
 ];
 
 // Two entries in a row, as u64: their products need it.
-#[derive(Drop)]
+#[derive(Clone, Copy)]
 struct Entries {
     from: u64,
     to: u64,

@@ -60,7 +60,7 @@ fn nearest_root(n: u64) -> u64
 }
 
 // digits * 4 ^ scale, where `digits` has 47 or 48 binary digits: so its root has 24, as an f32 has.
-#[derive(Drop)]
+#[derive(Clone, Copy)]
 struct ByFours {
     digits: u64,
     scale: u32,

@@ -14,7 +14,7 @@ use lists::settings::Settings;
 use lists::tests::triangle_count;
 use lists::verdict::Verdict;
 
-#[derive(Drop)]
+#[derive(Clone, Copy)]
 pub enum Built {
     Tree { nodes: usize, depth: usize },
     Refused { number: usize, place: usize },

@@ -16,7 +16,7 @@ use shapes::vec3::Vec3;
 use tree::nodes::point_from;
 
 // First and second order, about the centre; the radius reaches from there to the farther of the box's two corners.
-#[derive(Drop)]
+#[derive(Clone, Copy)]
 pub struct Dipole {
     pub first: Vec3,
     pub second: Matrix3,

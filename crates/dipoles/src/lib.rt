@@ -1,5 +1,7 @@
 // The winding number by dipoles: sixteen numbers a node beside the tree, and the walk that uses them. Each contract is an equation with a
 // definition of `spec_dipoles`.
+#![tactic(auto)]
+
 pub mod calls;
 pub mod dipole;
 pub mod far;

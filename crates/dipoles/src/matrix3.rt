@@ -7,7 +7,7 @@ ghost use Rattle.dipoles.specs.Values as Values;
 
 use shapes::vec3::Vec3;
 
-#[derive(Drop)]
+#[derive(Clone, Copy)]
 pub struct Matrix3 {
     pub x: Vec3,
     pub y: Vec3,

@@ -15,7 +15,7 @@ use shapes::vec3::Vec3;
 use tree::nodes::wide;
 
 // Normals times areas; centres times areas, each times its normal transposed; areas; centres times areas.
-#[derive(Drop)]
+#[derive(Clone, Copy)]
 pub struct Sums {
     pub normal: Vec3,
     pub moments: Matrix3,

@@ -1,5 +1,7 @@
 // What the engine needs of f32 beyond the operators. Every function answers for every input, NaN, infinities and both zeros included.
 // Its contract is an equation with a definition of `spec_numbers`.
+#![tactic(auto)]
+
 mod bits;
 mod order;
 mod whole;

@@ -1,5 +1,6 @@
 // gauge: reads records from standard input and prints the run.
 // It reads one byte more than it accepts, so that it can tell a longer input from one that fits.
+#![tactic(auto)]
 
 fn main() {
     let mut input = [0u8; 32769];

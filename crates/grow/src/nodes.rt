@@ -11,7 +11,7 @@ use shapes::box3::Box3;
 use splits::table::union_of;
 
 // A subtree that was grown: its root, how many levels it has, and its box.
-#[derive(Drop)]
+#[derive(Clone, Copy)]
 pub struct Grown {
     pub root: usize,
     pub levels: usize,

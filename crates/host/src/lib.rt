@@ -1,4 +1,6 @@
 // What a C host links (include/gauge.h). Each function is the proved one behind it, under its C name. A call that refuses changes nothing that is lent.
+#![tactic(auto)]
+
 ghost use Rattle.std.specs.Prelude.{◌≡◌};
 ghost use Rattle.spec_lists.specs.Reading.{triangle_count};
 ghost use Rattle.spec_tree.specs.Refusals.{check_refusal};

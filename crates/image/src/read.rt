@@ -9,7 +9,7 @@ use records::layout::{ImageLayout, image_layout};
 use records::versions::is_wide;
 
 // How many entries the lent lists have.
-#[derive(Drop)]
+#[derive(Clone, Copy)]
 struct Rooms {
     triangles: usize,
     order: usize,
@@ -18,7 +18,7 @@ struct Rooms {
 }
 
 // A refusal, or what the image holds besides its lists.
-#[derive(Drop)]
+#[derive(Clone, Copy)]
 pub enum ImageRead {
     Refused {
         number: usize,

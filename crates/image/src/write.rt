@@ -14,7 +14,7 @@ use records::versions::is_wide;
 use tree::calls::tree_refusal;
 
 // A refusal, or how many bytes were written.
-#[derive(Drop)]
+#[derive(Clone, Copy)]
 pub enum ImageWritten {
     Refused { number: usize, place: usize },
     Bytes(usize),

@@ -11,7 +11,7 @@ use tree::calls::check;
 use tree::nodes::{kind_at, left_at, node_box, right_at};
 
 // A leaf, nothing where there are fewer leaves, or a refusal. A leaf's triangles are the entries from `first` up to `last`, the end not included.
-#[derive(Drop)]
+#[derive(Clone, Copy)]
 pub enum LeafFound {
     Nothing,
     Leaf {
@@ -26,7 +26,7 @@ pub enum LeafFound {
     },
 }
 
-#[derive(Drop)]
+#[derive(Clone, Copy)]
 pub enum LeavesCounted {
     Leaves(usize),
     Refused { number: usize, place: usize },

@@ -6,13 +6,13 @@ ghost use Rattle.spec_tables.specs.Tables as Tables;
 ghost use Rattle.spec_tree.specs.Leaves as Leaves;
 ghost use Rattle.leaves.specs.Values as Values;
 
-#[derive(Drop)]
+#[derive(Clone, Copy)]
 pub struct Leaf<'a> {
     pub slice: &'a [u32],
 }
 
 // A triangle of a leaf, none where there is none at that place, or a refusal.
-#[derive(Drop)]
+#[derive(Clone, Copy)]
 pub enum EntryFound {
     Nothing,
     Triangle(u32),

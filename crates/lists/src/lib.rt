@@ -1,5 +1,7 @@
 // The lent lists: the limits, the tests of a list, the verdict of a test, and how a list that passed is read.
 // Each contract is an equation with a definition of `spec_lists`.
+#![tactic(auto)]
+
 pub mod coordinates;
 pub mod limits;
 pub mod reading;

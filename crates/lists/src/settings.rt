@@ -6,7 +6,7 @@ ghost use Rattle.lists.specs.Values as Values;
 use crate::limits;
 use crate::verdict::{Verdict, refused_if};
 
-#[derive(Drop)]
+#[derive(Clone, Copy)]
 pub struct Settings {
     pub strategy: usize,
     pub leaf_minimum: usize,

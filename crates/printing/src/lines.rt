@@ -94,7 +94,7 @@ pub fn put_nothing(out: &mut [u8], at: usize, point: usize) -> usize
 }
 
 // What was found for a point: the number of the triangle, the bits of the surface point and its squared distance, and the number of the part.
-#[derive(Drop)]
+#[derive(Clone, Copy)]
 pub struct Found {
     pub triangle: usize,
     pub x: u32,

@@ -9,7 +9,7 @@ use crate::numbers::{u16_at, u32_at};
 use crate::versions::{is_wide, version};
 
 // The size of the body, where the record is right.
-#[derive(Drop)]
+#[derive(Clone, Copy)]
 pub enum Body {
     Right(usize),
     Wrong,

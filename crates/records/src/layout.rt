@@ -10,14 +10,14 @@ use crate::bodies::{Body, has_body, has_settings, triangles_body, whole_body};
 use crate::versions::{is_wide, node_size, order_size};
 
 // How many triangles and nodes there are, or the offset of the first wrong record.
-#[derive(Drop)]
+#[derive(Clone, Copy)]
 pub enum ImageLayout {
     Right { triangles: usize, nodes: usize },
     Wrong(usize),
 }
 
 // How many triangles and points there are and whether there is a rule, or the offset of the first wrong record.
-#[derive(Drop)]
+#[derive(Clone, Copy)]
 pub enum GaugeLayout {
     Right {
         triangles: usize,
@@ -28,7 +28,7 @@ pub enum GaugeLayout {
 }
 
 // The size of the triangles' body, or the offset of the first wrong record.
-#[derive(Drop)]
+#[derive(Clone, Copy)]
 enum Opening {
     Right(usize),
     Wrong(usize),

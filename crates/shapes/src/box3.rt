@@ -6,7 +6,7 @@ ghost use Rattle.shapes.specs.Values as Values;
 
 use crate::vec3::Vec3;
 
-#[derive(Drop)]
+#[derive(Clone, Copy)]
 pub struct Box3 {
     pub min: Vec3,
     pub max: Vec3,

@@ -7,7 +7,7 @@ ghost use Rattle.shapes.specs.Values as Values;
 use crate::box3::Box3;
 use crate::vec3::{Axis, Vec3};
 
-#[derive(Drop)]
+#[derive(Clone, Copy)]
 pub struct Plane3 {
     pub normal: Vec3,
     pub distance: f32,

@@ -9,7 +9,7 @@ ghost use Rattle.shapes.specs.Values as Values;
 use crate::box3::Box3;
 use crate::vec3::Vec3;
 
-#[derive(Drop)]
+#[derive(Clone, Copy)]
 pub struct Triangle3 {
     pub a: Vec3,
     pub b: Vec3,
@@ -17,7 +17,7 @@ pub struct Triangle3 {
 }
 
 // The part of a triangle that holds the closest point.
-#[derive(Drop)]
+#[derive(Clone, Copy)]
 pub enum Part {
     Face,
     CornerA,
@@ -29,7 +29,7 @@ pub enum Part {
 }
 
 // A point of a triangle, and the part that was hit.
-#[derive(Drop)]
+#[derive(Clone, Copy)]
 pub struct Spot {
     pub point: Vec3,
     pub part: Part,
@@ -37,7 +37,7 @@ pub struct Spot {
 
 // What the tests for the closest part compare: the dot products of the edges ab and ac with the point as seen from a (d1, d2),
 // from b (d3, d4) and from c (d5, d6).
-#[derive(Drop)]
+#[derive(Clone, Copy)]
 pub struct Dots {
     pub d1: f32,
     pub d2: f32,

@@ -4,14 +4,14 @@ ghost use Rattle.std.specs.Float.{binary32};
 ghost use Rattle.spec_shapes.specs.Points as Points;
 ghost use Rattle.shapes.specs.Values as Values;
 
-#[derive(Drop)]
+#[derive(Clone, Copy)]
 pub enum Axis {
     X,
     Y,
     Z,
 }
 
-#[derive(Drop)]
+#[derive(Clone, Copy)]
 pub struct Vec3 {
     pub x: f32,
     pub y: f32,

@@ -1,1 +1,2 @@
 // Definitions and laws of square roots, arc tangents, solid angles and winding numbers: no code.
+#![tactic(auto)]

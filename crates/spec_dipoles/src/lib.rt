@@ -1,1 +1,2 @@
 // Theory: the winding number by dipoles (`WindingNumbers` of the Rust). Definitions and laws, no code.
+#![tactic(auto)]

@@ -1,1 +1,2 @@
 // Definitions and laws of the image of a tree: no code.
+#![tactic(auto)]

@@ -1,1 +1,2 @@
 // Definitions and laws of what `gauge` prints: no code.
+#![tactic(auto)]

@@ -1,1 +1,2 @@
 // Definitions and laws of the stable sort by keys: no code.
+#![tactic(auto)]

@@ -26,7 +26,7 @@ fn bucket_for(offset: f32) -> usize
 }
 
 // The lowest and the highest centre on an axis.
-#[derive(Drop)]
+#[derive(Clone, Copy)]
 pub struct Span {
     pub lo: f32,
     pub hi: f32,

@@ -7,13 +7,13 @@ ghost use Rattle.splits.specs.Values as Values;
 
 use shapes::box3::Box3;
 
-#[derive(Drop)]
+#[derive(Clone, Copy)]
 pub struct Bucket {
     pub count: u32,
     pub bounds: Box3,
 }
 
-#[derive(Drop)]
+#[derive(Clone, Copy)]
 pub struct Buckets {
     pub each: [Bucket; Buckets::COUNT],
 }

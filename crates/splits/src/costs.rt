@@ -10,7 +10,7 @@ use crate::buckets::{Bucket, Buckets};
 use shapes::box3::Box3;
 
 // The first smallest of the costs seen so far, and whether each was a number.
-#[derive(Drop)]
+#[derive(Clone, Copy)]
 pub struct Cheapest {
     pub seen: usize,
     pub index: usize,

@@ -1,5 +1,5 @@
 // Where a rule cuts a slice.
-#[derive(Drop)]
+#[derive(Clone, Copy)]
 pub enum Split {
     // Before this entry of the slice.
     At(usize),

@@ -11,7 +11,7 @@ use lists::tests::{triangle_count, triangles_refusal};
 use lists::verdict::{Verdict, room_refusal};
 
 // A refusal, or how many triangles were read or bytes written.
-#[derive(Drop)]
+#[derive(Clone, Copy)]
 pub enum Counted {
     Refused { number: usize, place: usize },
     Count(usize),

@@ -11,7 +11,7 @@ use angles::solid_angle::solid_angle;
 use shapes::triangle3::Triangle3;
 
 // `theirs` is the word that the list has, and `right` says that ours is near enough.
-#[derive(Drop)]
+#[derive(Clone, Copy)]
 pub struct Case {
     pub right: bool,
     pub ours: f32,

@@ -2,6 +2,8 @@
 // (tests/oracle/angles.rs made it, and says how it is laid out). Prints the first ten cases that differ, and for each kind how many cases there are
 // and how many differ. Roots must be equal bit for bit, angles within 2^-20, solid angles, which are twice an angle, within 2^-19,
 // and the winding number of n triangles within n * 2^-20.
+#![tactic(auto)]
+
 ghost use Rattle.std.specs.Prelude.{◌<◌, ◌≤◌};
 
 mod cases;
@@ -12,7 +14,7 @@ use crate::words::{mesh_words, numbers_from, place, size_at, word_at};
 use angles::winding::winding;
 
 // How many cases were seen and how many differed.
-#[derive(Drop)]
+#[derive(Clone, Copy)]
 struct Tally {
     cases: u64,
     differ: u64,

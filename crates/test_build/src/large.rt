@@ -1,7 +1,7 @@
 // Trees of up to 4,097 triangles that a rule of numbers makes, printed as counts and digests.
 use build::calls::Built;
 
-#[derive(Drop)]
+#[derive(Clone, Copy)]
 struct Case {
     triangles: usize,
     strategy: usize,

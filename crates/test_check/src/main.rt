@@ -1,5 +1,7 @@
 // Prints what the tree check says, number and place, of a tree over two triangles, of the same lists with something changed, and of trees of 64
 // and 65 levels. The file `stdout` beside src/ was written by hand, from the rules of 71 to 75.
+#![tactic(auto)]
+
 ghost use Rattle.std.specs.Prelude.{◌<◌, ◌≤◌};
 
 use lists::verdict::Verdict;

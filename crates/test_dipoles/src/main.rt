@@ -1,6 +1,8 @@
 // Replays what the Rust keeps of each node of a tree, bit for bit, and its winding numbers by dipoles within n * 2^-20 for n triangles
 // (tests/oracle/dipoles.rs made the list on standard input, and says how it is laid out). Prints what the two calls refuse, then the first
 // ten words that differ, and how many trees, nodes and winding numbers there are and how many words differ.
+#![tactic(auto)]
+
 mod refusals;
 
 use crate::refusals::put_refusals;
@@ -9,7 +11,7 @@ use lists::verdict::Verdict;
 use test_words::{fill_floats, fill_numbers, more, pattern_at, read_case};
 
 // The first six words of a case.
-#[derive(Drop)]
+#[derive(Clone, Copy)]
 struct Head {
     triangles: usize,
     nodes: usize,
@@ -20,7 +22,7 @@ struct Head {
 }
 
 // Where the lists of a case begin in its bytes.
-#[derive(Drop)]
+#[derive(Clone, Copy)]
 struct Places {
     points: usize,
     order: usize,
@@ -32,7 +34,7 @@ struct Places {
     third: usize,
 }
 
-#[derive(Drop)]
+#[derive(Clone, Copy)]
 struct Tally {
     trees: usize,
     nodes: usize,

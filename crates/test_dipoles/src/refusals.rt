@@ -6,7 +6,7 @@ use dipoles::calls::{fast_winding, node_sums};
 use lists::verdict::Verdict;
 
 // What a call is given, but for the lists that each function below lends.
-#[derive(Drop)]
+#[derive(Clone, Copy)]
 struct Asked {
     links: [u32; 9],
     x: f32,

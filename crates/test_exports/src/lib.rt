@@ -1,4 +1,6 @@
 // Exports for tests/timing, tests/compare and tests/peers; no part of the engine.
+#![tactic(auto)]
+
 ghost use Rattle.std.specs.Prelude.{◌≡◌, length};
 ghost use Rattle.std.specs.Float.{binary32};
 ghost use Rattle.lists.specs.Values as Lists;

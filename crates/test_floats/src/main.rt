@@ -1,5 +1,6 @@
 // Prints what the functions of `floats` give at the values where they could go wrong.
 // The file `stdout` beside src/ is made by tests/floats/generate.rs, in Rust.
+#![tactic(auto)]
 
 const EACH: [u32; 24] = [
     0x0000_0000,

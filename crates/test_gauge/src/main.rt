@@ -1,5 +1,6 @@
 // Prints what gauge prints for each of many inputs. They stand one behind the other on standard input, each behind its length
 // (tests/gauge made the list, and what must be printed).
+#![tactic(auto)]
 
 fn print_one(input: &[u8]) {
     let mut out = [0u8; gauge_run::run::MAX_PRINTED];

@@ -3,6 +3,8 @@
 // A case is the strategy, the leaf minimum, the maximum depth and the number of lent bytes, two bytes each, then the length of the triangles' bytes,
 // in four bytes, and the triangles' bytes. The lists have room for two triangles.
 // tests/records/generate.rs made the cases and, by a reading of its own, `stdout`.
+#![tactic(auto)]
+
 use host_build::calls::build_lists;
 use host_image::calls::{image_max, image_triangles, read_lists, write_lists};
 

@@ -6,7 +6,7 @@ use image::read::ImageRead;
 use image::write::ImageWritten;
 use lists::settings::Settings;
 
-#[derive(Drop)]
+#[derive(Clone, Copy)]
 struct Case {
     triangles: usize,
     leaf_minimum: usize,

@@ -1,6 +1,8 @@
 // Prints what each case on standard input is, as an image and as an input of `gauge`. Where the image reader takes it, prints whether writing
 // what was read gives the same bytes, and what the writer says. A case is its length, in four bytes, and its bytes. Then come images that are
 // too large to be stored. tests/records/generate.rs made the cases and, by a reading of its own, `stdout`.
+#![tactic(auto)]
+
 ghost use Rattle.std.specs.Prelude.{◌≡◌, ◌*◌, ◌≤◌, length};
 
 use image::read::ImageRead;

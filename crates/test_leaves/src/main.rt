@@ -1,5 +1,7 @@
 // Prints every leaf of stored trees. The trees are the Rust's, and so are the leaves in the file `stdout` beside src/:
 // tests/oracle/leaves.rs made both, with the Rust's own `traverse`.
+#![tactic(auto)]
+
 ghost use Rattle.spec_tree.specs.Leaves as Leaves;
 
 use leaves::calls::{LeafFound, LeavesCounted, leaf_entry, leaf_from, leaves};
@@ -9,7 +11,7 @@ use shapes::vec3::Vec3;
 use test_words::{fill_floats, fill_numbers, more, pattern_at};
 
 // The first two words of a case.
-#[derive(Drop)]
+#[derive(Clone, Copy)]
 struct Head {
     triangles: usize,
     nodes: usize,

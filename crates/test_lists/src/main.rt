@@ -1,5 +1,7 @@
 // Prints what the tests of lists, settings and rooms say of inputs at the edges of what passes.
 // The file `stdout` beside src/ was written by hand from the table of refusals.
+#![tactic(auto)]
+
 ghost use Rattle.std.specs.Prelude.{◌≤◌, ◌<◌};
 
 use lists::settings::{Settings, settings_refusal};

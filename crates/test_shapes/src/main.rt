@@ -2,13 +2,15 @@
 // (tests/oracle/shapes.rs made the list on standard input). Prints the first ten words that differ, how many cases there are and how many
 // words differ.
 // A case is 68 words: two triangles, a point, then the answers.
+#![tactic(auto)]
+
 use shapes::box3::Box3;
 use shapes::plane3::Plane3;
 use shapes::triangle3::Triangle3;
 use shapes::vec3::{Axis, Vec3};
 
 // How many cases were seen and how many words differed.
-#[derive(Drop)]
+#[derive(Clone, Copy)]
 struct Tally {
     cases: u64,
     differ: u64,

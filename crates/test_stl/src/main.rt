@@ -1,6 +1,8 @@
 // Reads each STL on standard input into a list, then writes all that the list holds as an STL, and prints what the two calls answer and every
 // entry that was lent to them. A case is its length, in four bytes, and its bytes: how many floats the list has, how many bytes the writer is
 // lent, the bits that fill the list, and the STL. tests/stl/generate.rs made the cases and, by a reading of its own, `stdout`.
+#![tactic(auto)]
+
 use stl::calls::{Counted, read_stl, write_stl};
 use test_words::{pattern_at, read_case};
 

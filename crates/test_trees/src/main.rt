@@ -1,6 +1,8 @@
 // Replays trees and source answers of the Rust, and sure answers, the nearest few and all parts of a plain scan (tests/oracle/trees.rs
 // made the list on standard input).
 // Prints the first ten words that differ, how many cases, trees and points there are and how many words differ.
+#![tactic(auto)]
+
 use build::calls::Built;
 use lists::verdict::Verdict;
 use test_words::{fill_floats, fill_numbers, more, pattern_at};
@@ -8,7 +10,7 @@ use walks::words::ANSWER_WIDTH;
 
 // The first ten words of a case: how many answers a point has as its nearest few, and how many words these are, come last. Both are 0
 // where the few are not asked for.
-#[derive(Drop)]
+#[derive(Clone, Copy)]
 struct Head {
     triangles: usize,
     strategy: usize,
@@ -23,7 +25,7 @@ struct Head {
 }
 
 // Where the lists of a case begin in its bytes.
-#[derive(Drop)]
+#[derive(Clone, Copy)]
 struct Places {
     points: usize,
     order: usize,
@@ -35,7 +37,7 @@ struct Places {
     few_or_equal: usize,
 }
 
-#[derive(Drop)]
+#[derive(Clone, Copy)]
 struct Tally {
     cases: usize,
     points: usize,

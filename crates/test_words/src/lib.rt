@@ -1,5 +1,7 @@
 // The words of a stored case, for the programs that replay cases: numbers and floats of four bytes each, the lowest byte first.
 // The functions need nothing of the case or the place, so that a case that is cut short stops no replay.
+#![tactic(auto)]
+
 ghost use Rattle.std.specs.Prelude.{◌≡◌, length};
 ghost use Rattle.test_words.specs.Words as Words;
 

@@ -57,7 +57,7 @@ pub fn check(
     tree_refusal(triangles, order, links, boxes, nodes)
 }
 
-#[derive(Drop)]
+#[derive(Clone, Copy)]
 pub enum DepthFound {
     Depth(usize),
     Refused { number: usize, place: usize },

@@ -1,4 +1,6 @@
 // A tree in lent lists: its nodes, the tree check, its depth. Each contract is an equation with a definition of `spec_tree`.
+#![tactic(auto)]
+
 pub mod boxes;
 pub mod calls;
 pub mod count;

@@ -3,7 +3,7 @@ use shapes::vec3::Vec3;
 
 // The query that was added, with the number of its measuring rule; the same for so many answers a point; or the one that is carried over, which has no
 // rule.
-#[derive(Drop)]
+#[derive(Clone, Copy)]
 pub enum Query {
     Sure { rule: u32 },
     Few { rule: u32, most: u32 },
@@ -11,21 +11,21 @@ pub enum Query {
 }
 
 // Which point of a triangle is measured: the sure walk's, or the source's.
-#[derive(Drop)]
+#[derive(Clone, Copy)]
 pub enum Measures {
     Held,
     Computed,
 }
 
 // The probe: a point, and the square of the search distance as its limit.
-#[derive(Drop)]
+#[derive(Clone, Copy)]
 pub struct Probe {
     pub point: Vec3,
     pub limit: f32,
 }
 
 // Nothing, or the surface point that was found, with its squared distance, the number of its triangle and that of the part that was hit.
-#[derive(Drop)]
+#[derive(Clone, Copy)]
 pub enum Answer {
     Nothing,
     Found {
@@ -39,7 +39,7 @@ pub enum Answer {
 }
 
 // The measure of one triangle.
-#[derive(Drop)]
+#[derive(Clone, Copy)]
 pub struct Hit {
     pub point: Vec3,
     pub squared: f32,
@@ -48,7 +48,7 @@ pub struct Hit {
 }
 
 // The best answer so far, and how many triangles were measured.
-#[derive(Drop)]
+#[derive(Clone, Copy)]
 pub struct Sought {
     pub best: Answer,
     pub measured: usize,

@@ -5,7 +5,7 @@ ghost use Rattle.spec_search.specs.Safe as Safe;
 use tree::nodes::{kind_at, left_at, right_at};
 
 // The kind of a node and its two numbers.
-#[derive(Drop)]
+#[derive(Clone, Copy)]
 pub struct Links {
     pub kind: u32,
     pub left: usize,

@@ -1,0 +1,33 @@
+-- `angles::root::by_fours` meets its contract.
+-- Shifted up by its spare places the significand has 24 digits; 23 or 24 places more leave an even power.
+use Rattle.std.proofs.Common.{arith}
+use lib.Count.{count_leading_zeros}
+use Rattle.spec_angles.proofs.RootByBits.{Spare, spare_of, split_of}
+use Rattle.angles.proofs.root.by_fours.Goals as goal
+
+spare : (c : tie.Start) → Spare c.args.significand (count_leading_zeros 32 c.args.significand)
+spare c = spare_of c.args.significand c.requires.0 c.requires.1
+
+pub overflow_sub-spare : goal.overflow_sub-spare
+overflow_sub-spare c = omega (arith, spare c)
+
+pub overflow_sub-rest : goal.overflow_sub-rest
+overflow_sub-rest c = omega (arith, spare c)
+
+pub overflow_sub-rest-2 : goal.overflow_sub-rest-2
+overflow_sub-rest-2 c = omega (arith, spare c)
+
+pub overflow_add-shift : goal.overflow_add-shift
+overflow_add-shift c = omega (arith, spare c)
+
+pub overflow_add-shift-2 : goal.overflow_add-shift-2
+overflow_add-shift-2 c = omega (arith, spare c)
+
+pub overflow_cast-result-2 : goal.overflow_cast-result-2
+overflow_cast-result-2 c = omega (arith, spare c)
+
+pub overflow_shl-result : goal.overflow_shl-result
+overflow_shl-result c = omega (arith, spare c)
+
+pub returns : goal.returns
+returns c = split_of c.args.significand c.args.power (count_leading_zeros 32 c.args.significand) (spare c) c.requires.2 c.requires.3

@@ -1,0 +1,11 @@
+-- `angles::root::whole_root` meets its contract. The invariant: the root lies from r on and below r + step. The measure is the step.
+use Rattle.std.proofs.Common.{ℕ, ◌+◌, ◌*◌, ◌/◌, ◌^◌, ◌<◌, ◌≤◌, lt_of_lt_of_le, lt_of_le_of_lt, arith}
+use Rattle.spec_angles.proofs.Powers.{square_mono, square_reflects}
+use Rattle.spec_angles.proofs.WholeRoot.{whole_root_lem, whole_root_unique}
+use Rattle.angles.proofs.root.whole_root.Given as goal
+
+abbrev pub invariant-loop-step : goal.invariant-loop-step
+invariant-loop-step l = Between l.n l.r l.step
+
+abbrev pub decreases-loop-step : goal.decreases-loop-step
+decreases-loop-step l = l.step

@@ -1,0 +1,13 @@
+-- `dipoles::calls::fast_winding_by` meets its contract: the walk from the root.
+use Rattle.spec_dipoles.specs.Calls.{fast_about}
+use Rattle.spec_dipoles.proofs.Fast.{root_in}
+use borrow.Author.Rules.{rules}
+use Rattle.dipoles.proofs.calls.fast_winding_by.Goals as goal
+
+pub walk-requires : goal.walk-requires
+walk-requires c =
+    (c.requires.0, root_in _ _ _ _ _ c.requires.1)
+
+pub returns : goal.returns
+unfolding fast_about
+returns c = c.walk.ensures

@@ -1,0 +1,13 @@
+-- `dipoles::stored::store_sums` meets its contract: before each turn the sums of the nodes before it stand in the list.
+use Prim.Native.Nat.{◌-◌}
+use native.Mathlib.Omega.{arith}
+use lib.Ieee.{binary32}
+use Rattle.spec_dipoles.proofs.Storing.{SumsStored, store_start, store_more, store_end}
+use borrow.Author.Rules.{rules}
+use Rattle.dipoles.proofs.stored.store_sums.Given as goal
+
+abbrev pub invariant-loop-node : goal.invariant-loop-node
+invariant-loop-node l = SumsStored binary32 l.triangles l.order l.links l.nodes l.initial.out l.out l.node
+
+abbrev pub decreases-loop-node : goal.decreases-loop-node
+decreases-loop-node l = l.nodes - l.node

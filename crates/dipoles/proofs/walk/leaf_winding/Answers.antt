@@ -1,0 +1,13 @@
+-- `dipoles::walk::leaf_winding` meets its contract: what each call ensures, put in.
+use Prim.Native.Nat.{◌-◌}
+use Rattle.spec_tree.proofs.Order.{slice_entries}
+use borrow.Author.Rules.{rules}
+use Rattle.dipoles.proofs.walk.leaf_winding.Goals as goal
+
+pub slice_winding-requires : goal.slice_winding-requires
+slice_winding-requires c =
+    let args = c.args in
+    (c.requires.0, slice_entries _ args.order.now args.first (args.last - args.first) c.requires.1.0)
+
+pub returns : goal.returns
+returns c = rw c.point_of.ensures at c.slice_winding.ensures

@@ -1,0 +1,19 @@
+-- `dipoles::walk::slice_winding` meets its contract. The invariant: `sum` is that of the first i solid angles.
+-- The measure is the number of triangles that remain.
+use mathlib.Core.Path.{ap, ◌∙◌}
+use Prim.Native.Nat.{◌-◌}
+use native.Mathlib.Omega.{arith}
+use lib.ListN.{length, get_or}
+use lib.Ieee.{binary32, of_bits}
+use borrow.Author.Rules.{rules}
+use Rattle.shapes.specs.Values.{as_point}
+use Rattle.spec_lists.specs.Reading.{triangle_at, triangle_count}
+use Rattle.spec_angles.proofs.Windings.{Summed, sum_start, sum_more}
+use Rattle.spec_dipoles.proofs.Windings.{slice_end}
+use Rattle.dipoles.proofs.walk.slice_winding.Given as goal
+
+abbrev pub invariant-loop-i : goal.invariant-loop-i
+invariant-loop-i l = Summed binary32 (λ j. triangle_at l.triangles (get_or l.slice j 0)) (as_point l.q) (length l.slice) l.sum l.i
+
+abbrev pub decreases-loop-i : goal.decreases-loop-i
+decreases-loop-i l = length l.slice - l.i

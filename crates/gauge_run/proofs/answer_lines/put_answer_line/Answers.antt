@@ -1,0 +1,21 @@
+-- `gauge_run::answer_lines::put_answer_line` meets its contract: the first of the words says which line it is.
+use native.Mathlib.Omega.{arith}
+use Rattle.spec_tables.proofs.Tables.{put_same}
+use Rattle.spec_gauge.proofs.Lines.{nothing_words, found_words}
+use borrow.Author.Rules.{rules}
+use Rattle.gauge_run.proofs.answer_lines.put_answer_line.Goals as goal
+
+pub returns-then-answers-first-eq0 : goal.returns-then-answers-first-eq0
+returns-then-answers-first-eq0 c =
+    (
+      put_same (nothing_words c.args.answers.now c.args.k c.if-answers-first-eq0.true) c.put_nothing.ensures.0,
+      omega (arith, c.put_nothing.ensures.1),
+    )
+
+pub returns : goal.returns
+returns c =
+    (
+      put_same (found_words c.args.answers.now c.args.k _ _ c.if-answers-first-eq0.false c.whole.ensures c.whole-2.ensures)
+          c.put_found.ensures.0,
+      c.put_found.ensures.1,
+    )

@@ -1,0 +1,25 @@
+-- `gauge_run::run::put_answers` meets its contract: no query is refused, and the lines are those of its answers.
+use Prim.Native.Nat.{◌*◌}
+use native.Mathlib.Omega.{arith}
+use Rattle.spec_tables.proofs.Tables.{put_same}
+use Rattle.spec_search.specs.Answers.{sure, answer_width}
+use Rattle.spec_search.proofs.Calls.{query_passed}
+use Rattle.spec_gauge.specs.Printed.{max_points}
+use Rattle.spec_gauge.proofs.Lines.{sure_lines}
+use Rattle.spec_gauge.proofs.Runs.{is_answered}
+use borrow.Author.Rules.{rules}
+use Rattle.gauge_run.proofs.run.put_answers.Goals as goal
+
+pub put_answer_lines-requires : goal.put_answer_lines-requires
+put_answer_lines-requires c =
+    let a = c.args in
+    let p = query_passed (sure a.rule) a.triangles.now a.order.now a.links.now a.boxes.now a.nodes a.points.now
+    a.distance (answer_width * max_points) c.requires.0 in
+    (omega (arith, p.1, c.point_count.ensures, c.answers-2-1.given), omega (arith, c.requires.1, c.point_count.ensures))
+
+pub returns : goal.returns
+returns c =
+    let asked = c.sure_query.ensures in
+    put_same
+    (sure_lines _ _ _ _ _ _ (is_answered c.args.rule _ _ _ _ _ _ _ asked.0 c.requires.0 asked.1))
+    (rw c.point_count.ensures at c.put_answer_lines.ensures)

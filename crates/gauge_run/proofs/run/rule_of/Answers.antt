@@ -1,0 +1,19 @@
+-- `gauge_run::run::rule_of` meets its contract: where a rule is told, its two bytes end the input.
+use mathlib.Core.Path.{◌≡◌}
+use Prim.Native.Nat.{◌+◌, ◌*◌}
+use native.Mathlib.Omega.{arith}
+use lib.ListN.{length}
+use borrow.Author.Rules.{rules}
+use Rattle.gauge_run.proofs.run.rule_of.Goals as goal
+
+pub u16_at-requires : goal.u16_at-requires
+u16_at-requires c =
+    let a = c.args in
+    let long : 36 + 36 * a.count + 12 * a.touched + 8 ≡ length a.input.now = rw c.if-ruled.true at c.requires in
+    omega arith
+
+pub returns-then-ruled : goal.returns-then-ruled
+returns-then-ruled c = rw c.if-ruled.true c.u16_at.ensures.0
+
+pub returns : goal.returns
+returns c = rw c.if-ruled.false

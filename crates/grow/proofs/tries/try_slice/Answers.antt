@@ -1,0 +1,14 @@
+-- `grow::tries::try_slice` meets its contract: what `union_of` and `try_axes` ensure.
+use native.Mathlib.Omega.{arith}
+use lib.Ieee.{binary32}
+use Rattle.spec_build.proofs.Trying.{try_rule_needs, tried_is}
+use borrow.Author.Rules.{rules}
+use Rattle.grow.proofs.tries.try_slice.Goals as goal
+
+pub union_of-parent-requires : goal.union_of-parent-requires
+union_of-parent-requires c =
+    (omega (arith, c.requires.some), (try_rule_needs binary32 _ _ c.requires).boxed.in_table)
+
+pub returns : goal.returns
+returns c =
+    tried_is binary32 _ _ _ _ _ (omega (arith, c.requires.some)) c.union_of-parent.ensures c.try_axes.ensures

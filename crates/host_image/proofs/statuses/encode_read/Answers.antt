@@ -1,0 +1,19 @@
+-- `host_image::statuses::encode_read` meets its contract, case by case.
+use borrow.Author.Rules.{rules}
+use Rattle.host_image.proofs.statuses.encode_read.Goals as goal
+
+pub encode_refusal-requires : goal.encode_refusal-requires
+encode_refusal-requires c =
+    rw c.in-Refused.is at c.requires.1
+
+pub put_settings-requires : goal.put_settings-requires
+put_settings-requires c =
+    (c.requires.0, rw c.in-Read.is at c.requires.1)
+
+pub returns-in-Refused : goal.returns-in-Refused
+returns-in-Refused c =
+    (rw c.in-Refused.is c.encode_refusal.ensures, rw c.in-Refused.is)
+
+pub returns-in-Read : goal.returns-in-Read
+returns-in-Read c =
+    (rw c.in-Read.is, rw c.in-Read.is c.put_settings.ensures)

@@ -1,0 +1,11 @@
+-- `image::put::put_header` meets its contract: the length, and the kind behind it.
+use native.Mathlib.Omega.{arith}
+use Rattle.spec_tables.proofs.Tables.{put_then}
+use Rattle.spec_records.specs.Records.{header}
+use borrow.Author.Rules.{rules}
+use Rattle.image.proofs.put.put_header.Goals as goal
+
+pub returns : goal.returns
+unfolding header
+returns c =
+    (put_then c.put_u32-next.ensures.0 c.put_u16.ensures.0, omega arith)

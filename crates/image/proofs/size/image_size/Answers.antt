@@ -1,0 +1,16 @@
+-- `image::size::image_size` meets its contract: the sizes of the four records, by the version.
+use mathlib.Core.Path.{sym, ◌∙◌}
+use native.Mathlib.Omega.{arith}
+use Rattle.spec_records.proofs.Layouts.{version_by}
+use borrow.Author.Rules.{rules}
+use Rattle.image.proofs.size.image_size.Goals as goal
+
+pub returns-then-is_wide : goal.returns-then-is_wide
+returns-then-is_wide c =
+    let t = c.args.triangles in
+    rw (version_by t, sym c.is_wide.ensures ∙ c.if-is_wide.true) (omega arith)
+
+pub returns : goal.returns
+returns c =
+    let t = c.args.triangles in
+    rw (version_by t, sym c.is_wide.ensures ∙ c.if-is_wide.false) (omega arith)

@@ -1,0 +1,15 @@
+-- `printing::lines::put_counts` meets its contract: its parts, one behind the other.
+use native.Mathlib.Omega.{arith}
+use Rattle.spec_tables.proofs.Tables.{put_then}
+use Rattle.spec_printing.specs.Printed.{triangles_word, nodes_word, depth_word, counts_line}
+use borrow.Author.Rules.{rules}
+use Rattle.printing.proofs.lines.put_counts.Goals as goal
+
+pub returns : goal.returns
+unfolding triangles_word nodes_word depth_word counts_line
+returns c =
+    (
+      put_then (put_then (put_then c.put_named-a.ensures.0 c.put_named-b.ensures.0)
+          c.put_named-c.ensures.0) c.put_byte.ensures.0,
+      omega arith,
+    )

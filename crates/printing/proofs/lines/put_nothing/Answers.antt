@@ -1,0 +1,14 @@
+-- `printing::lines::put_nothing` meets its contract: its parts, one behind the other.
+use native.Mathlib.Omega.{arith}
+use Rattle.spec_tables.proofs.Tables.{put_then}
+use Rattle.spec_printing.specs.Printed.{nothing_word, nothing_line}
+use borrow.Author.Rules.{rules}
+use Rattle.printing.proofs.lines.put_nothing.Goals as goal
+
+pub returns : goal.returns
+unfolding nothing_word nothing_line
+returns c =
+    (
+      put_then (put_then c.put_decimal-a.ensures.0 c.put_word-b.ensures) c.put_byte.ensures.0,
+      omega arith,
+    )

@@ -1,0 +1,11 @@
+-- `printing::lines::put_spaced_decimal` meets its contract: a space, and the number behind it.
+use native.Mathlib.Omega.{arith}
+use Rattle.spec_tables.proofs.Tables.{put_then}
+use Rattle.spec_printing.specs.Printed.{spaced_decimal}
+use borrow.Author.Rules.{rules}
+use Rattle.printing.proofs.lines.put_spaced_decimal.Goals as goal
+
+pub returns : goal.returns
+unfolding spaced_decimal
+returns c =
+    (put_then c.put_byte-next.ensures.0 c.put_decimal.ensures.0, omega arith)

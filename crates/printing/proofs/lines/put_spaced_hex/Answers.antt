@@ -1,0 +1,11 @@
+-- `printing::lines::put_spaced_hex` meets its contract: a space, and the number behind it.
+use native.Mathlib.Omega.{arith}
+use Rattle.spec_tables.proofs.Tables.{put_then}
+use Rattle.spec_printing.specs.Printed.{spaced_hex}
+use borrow.Author.Rules.{rules}
+use Rattle.printing.proofs.lines.put_spaced_hex.Goals as goal
+
+pub returns : goal.returns
+unfolding spaced_hex
+returns c =
+    (put_then c.put_byte-next.ensures.0 c.put_hex.ensures.0, omega arith)

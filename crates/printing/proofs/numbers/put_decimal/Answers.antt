@@ -1,0 +1,13 @@
+-- `printing::numbers::put_decimal` meets its contract: as many digits as the number has.
+use mathlib.Core.Path.{ap}
+use Prim.Native.Nat.{ℕ}
+use native.Mathlib.Omega.{arith}
+use Rattle.spec_tables.proofs.Tables.{put_same}
+use Rattle.spec_printing.specs.Printed.{digits, decimal}
+use borrow.Author.Rules.{rules}
+use Rattle.printing.proofs.numbers.put_decimal.Goals as goal
+
+pub returns : goal.returns
+unfolding decimal
+returns c =
+    (put_same (ap (λ (k : ℕ). digits 10 k c.args.n) c.width_of.ensures.0) c.put_digits.ensures.0, omega arith)

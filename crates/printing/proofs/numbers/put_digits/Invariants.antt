@@ -1,0 +1,14 @@
+-- `printing::numbers::put_digits` meets its contract: a turn stores one digit more, right in front of the others (`Backwards`).
+use mathlib.Core.Path.{refl}
+use native.Mathlib.Omega.{arith}
+use Prim.Native.Nat.{◌-◌}
+use native.Mathlib.Nat.{mod-lt}
+use Rattle.spec_printing.proofs.Backwards.{Backwards, back_start, back_more, back_end}
+use borrow.Author.Rules.{rules}
+use Rattle.printing.proofs.numbers.put_digits.Given as goal
+
+abbrev pub invariant-loop-remaining : goal.invariant-loop-remaining
+invariant-loop-remaining l = Backwards l.base l.at l.count l.n l.initial.out l.out l.remaining l.rest
+
+abbrev pub decreases-loop-remaining : goal.decreases-loop-remaining
+decreases-loop-remaining l = l.remaining

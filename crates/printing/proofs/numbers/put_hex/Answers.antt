@@ -1,0 +1,9 @@
+-- `printing::numbers::put_hex` meets its contract: eight digits.
+use native.Mathlib.Omega.{arith}
+use Rattle.spec_printing.specs.Printed.{hex}
+use borrow.Author.Rules.{rules}
+use Rattle.printing.proofs.numbers.put_hex.Goals as goal
+
+pub returns : goal.returns
+unfolding hex
+returns c = (c.put_digits.ensures.0, omega arith)

@@ -1,0 +1,39 @@
+-- `queries::calls::put_answers` meets its contract: the sure query's answer is the first of one, and the source's is its only one.
+use mathlib.Core.Path.{ap, ◌∙◌}
+use mathlib.Core.List.{List}
+use Prim.Native.Nat.{ℕ}
+use native.Mathlib.Omega.{arith}
+use lib.Ieee.{binary32}
+use Rattle.spec_tables.specs.Tables.{overwrite}
+use Rattle.spec_search.specs.Rules.{rule_of}
+use Rattle.spec_search.proofs.Calls.{few_words_same, one_is_sure}
+use borrow.Author.Rules.{rules}
+use Rattle.queries.proofs.calls.put_answers.Goals as goal
+
+pub put_few-requires : goal.put_few-requires
+put_few-requires c =
+    (c.requires.0, ((omega arith, omega arith), rw c.in-Sure.is at c.requires.1.0))
+
+pub put_few-requires-in-Few : goal.put_few-requires-in-Few
+put_few-requires-in-Few c =
+    (c.requires.0, rw c.wide.ensures (rw c.in-Few.is at c.requires.1.1, rw c.in-Few.is at c.requires.1.0))
+
+pub put_source-requires : goal.put_source-requires
+put_source-requires c =
+    (c.requires.0, rw c.in-Source.is at c.requires.1.0)
+
+pub returns-in-Sure : goal.returns-in-Sure
+returns-in-Sure c =
+    let a = c.args in
+    rw c.in-Sure.is
+    (c.put_few.ensures
+    ∙ ap (λ (new : List ℕ). overwrite 0 new a.answers.now)
+    (few_words_same binary32 1 _ _ a.points.now (one_is_sure binary32 (rule_of _) a.triangles.now a.distance)))
+
+pub returns-in-Few : goal.returns-in-Few
+returns-in-Few c =
+    rw c.in-Few.is (rw c.wide.ensures at c.put_few-in-Few.ensures)
+
+pub returns-in-Source : goal.returns-in-Source
+returns-in-Source c =
+    rw c.in-Source.is c.put_source.ensures

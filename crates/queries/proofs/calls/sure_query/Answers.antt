@@ -1,0 +1,16 @@
+-- `queries::calls::sure_query` meets its contract: one answer a point.
+use mathlib.Core.Path.{◌∙◌}
+use lib.Ieee.{binary32}
+use Rattle.spec_search.specs.Rules.{rule_of}
+use Rattle.spec_search.specs.Calls.{sure_answer}
+use Rattle.spec_search.proofs.Calls.{after_one}
+use borrow.Author.Rules.{rules}
+use Rattle.queries.proofs.calls.sure_query.Goals as goal
+
+pub returns : goal.returns
+returns c =
+    let a = c.args in (
+      c.ask.ensures.0,
+      c.ask.ensures.1 ∙ after_one binary32 (sure_answer binary32 (rule_of a.rule) a.triangles.now a.distance)
+          a.points.now _ a.answers.now,
+    )

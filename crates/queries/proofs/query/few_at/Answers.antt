@@ -1,0 +1,43 @@
+-- `queries::query::few_at` meets its contract: the places hold what the walk keeps, which is what the scan keeps.
+use mathlib.Core.Path.{ap, ◌∙◌}
+use mathlib.Core.List.{List}
+use lib.Ieee.{binary32}
+use Rattle.shapes.specs.Values.{as_point}
+use Rattle.spec_search.specs.Answers.{Hit}
+use Rattle.spec_search.specs.Rules.{rule_of, limit_squared, limit_of}
+use Rattle.spec_search.specs.Few.{answer_in, few_walk}
+use Rattle.spec_search.specs.Marked.{marker}
+use Rattle.spec_search.specs.Calls.{few_answer}
+use Rattle.spec_search.proofs.Rules.{limit_bounded}
+use Rattle.spec_search.proofs.Few.{walk_is_scan}
+use Rattle.spec_search.proofs.Calls.{entries_below, numbers_low}
+use Rattle.spec_search.proofs.Marked.{marked_answers}
+use Rattle.walks.proofs.Reached.{reached_answers}
+use borrow.Author.Rules.{rules}
+use Rattle.queries.proofs.query.few_at.Goals as goal
+
+pub search-requires : goal.search-requires
+unfolding limit_squared
+search-requires c =
+    let pre = c.requires in
+    (pre.0, (limit_bounded binary32 c.args.distance pre.1.1.0, (pre.1.1.1.0, pre.1.1.1.1)))
+
+pub returns : goal.returns
+unfolding few_answer limit_squared
+returns c =
+    let a = c.args in
+    let pre = c.requires in
+    let p = as_point a.p in
+    let limit = limit_of binary32 (rule_of a.rule) a.distance in
+    let walk = few_walk binary32 a.triangles.now a.order.now a.links.now a.boxes.now a.nodes p a.most limit in
+    let held = reached_answers limit.squared walk (marker limit.squared) c.search.ensures
+    (λ j l. marked_answers binary32 a.triangles.now a.order.now a.links.now a.boxes.now _ a.nodes (entries_below _ _ _ _ _ pre.0)
+    (numbers_low _ _ _ _ _ pre.0) p a.most pre.1.1.1.0.0 (rule_of a.rule) limit.squared
+    (limit_bounded binary32 a.distance pre.1.1.0) j (marker limit.squared) l) in
+    let scanned = walk_is_scan binary32 a.triangles.now p a.most limit pre.0.triangles_good pre.1.0 a.order.now a.links.now
+    a.boxes.now a.nodes pre.0.tree_accepted in
+    record {
+      c = held.lent;
+      most_is = held.most_is;
+      answers_are = λ j l. held.answers_are j l ∙ ap (λ (ks : List Hit). answer_in ks j) scanned;
+    }

@@ -1,0 +1,23 @@
+-- `records::entries::put_u16s` meets its contract: a turn puts one entry more (`Puts`).
+use mathlib.Core.Path.{ap}
+use Prim.Native.Nat.{◌+◌, ◌-◌}
+use lib.ListN.{get_or}
+use Rattle.spec_tables.proofs.Tables.{put_same}
+use Rattle.spec_tables.proofs.Runs.{Puts, puts_start, puts_more, puts_end}
+use Rattle.spec_records.specs.Little.{little}
+use borrow.Author.Rules.{rules}
+use Rattle.records.proofs.entries.put_u16s.Goals as goal
+
+pub loop-i-init : goal.loop-i-init
+loop-i-init c = puts_start _ _ _ _ _ c.requires.1
+
+pub loop-i-preserved : goal.loop-i-preserved
+loop-i-preserved c =
+    puts_more _ _ _ _ c.loop-i-test.true c.loop-i.invariant
+    (put_same (ap (little 2) c.whole.ensures) c.put_u16-next.ensures.0) c.put_u16-next.ensures.1
+
+pub shape_of-out : goal.shape_of-out
+shape_of-out c = c.loop-i.invariant.long
+
+pub returns : goal.returns
+returns c = puts_end _ _ _ _ c.loop-i-test.false c.loop-i.invariant

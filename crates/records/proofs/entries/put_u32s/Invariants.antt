@@ -1,0 +1,15 @@
+-- `records::entries::put_u32s` meets its contract: a turn puts one entry more (`Puts`).
+use mathlib.Core.Path.{ap}
+use Prim.Native.Nat.{◌+◌, ◌-◌}
+use lib.ListN.{get_or}
+use Rattle.spec_tables.proofs.Tables.{put_same}
+use Rattle.spec_tables.proofs.Runs.{Puts, puts_start, puts_more, puts_end}
+use Rattle.spec_records.specs.Little.{little}
+use borrow.Author.Rules.{rules}
+use Rattle.records.proofs.entries.put_u32s.Given as goal
+
+abbrev pub invariant-loop-i : goal.invariant-loop-i
+invariant-loop-i l = Puts (λ j. little 4 (get_or l.entries (l.from + j) 0)) 4 l.at l.count l.initial.out l.out l.next l.i
+
+abbrev pub decreases-loop-i : goal.decreases-loop-i
+decreases-loop-i l = l.count - l.i

@@ -1,0 +1,25 @@
+-- `splits::median::median_split` meets its contract: at each return the tests before have failed and this one has passed.
+use Rattle.std.proofs.Common.{arith}
+use lib.ListN.{length-map}
+use Rattle.spec_splits.specs.Median.{median_split}
+use Rattle.splits.proofs.median.median_split.Goals as goal
+
+pub all_meet_at-requires : goal.all_meet_at-requires
+all_meet_at-requires c = (omega arith, (omega arith, c.requires.1.in_table))
+
+pub returns-then-all_meet_at : goal.returns-then-all_meet_at
+unfolding median_split
+returns-then-all_meet_at c = rw (length-map, ← c.all_meet_at.ensures, c.if-all_meet_at.true)
+
+pub are_both_large-requires : goal.are_both_large-requires
+are_both_large-requires c = (omega arith, (omega arith, c.requires.1.in_table))
+
+pub returns-then-are_both_large : goal.returns-then-are_both_large
+unfolding median_split
+returns-then-are_both_large c =
+    rw (length-map, ← c.all_meet_at.ensures, c.if-all_meet_at.false, ← c.are_both_large.ensures, c.if-are_both_large.true)
+
+pub returns : goal.returns
+unfolding median_split
+returns c =
+    rw (length-map, ← c.all_meet_at.ensures, c.if-all_meet_at.false, ← c.are_both_large.ensures, c.if-are_both_large.false)

@@ -1,0 +1,8 @@
+-- `stl::get::count_of` meets its contract: what `u32_at` ensures.
+use Rattle.spec_stl.specs.Stl.{stl_count}
+use borrow.Author.Rules.{rules}
+use Rattle.stl.proofs.get.count_of.Goals as goal
+
+pub returns : goal.returns
+unfolding stl_count
+returns c = (c.u32_at.ensures, search rules)

@@ -1,0 +1,16 @@
+-- `stl::get::first_bad_corner` meets its contract. The invariant: the corners of the facets so far are coordinates.
+use mathlib.Core.Path.{◌≡◌, refl, sym}
+use Prim.Native.Nat.{◌-◌, ◌*◌, ◌≤◌}
+use native.Mathlib.Omega.{arith}
+use Rattle.spec_tables.specs.Tables.{concat_map}
+use Rattle.spec_lists.specs.Refusals.{first_bad}
+use Rattle.spec_stl.specs.Stl.{corners_in}
+use Rattle.spec_stl.proofs.Refused.{corners_good, corners_bad}
+use borrow.Author.Rules.{rules}
+use Rattle.stl.proofs.get.first_bad_corner.Given as goal
+
+abbrev pub invariant-loop-i : goal.invariant-loop-i
+invariant-loop-i l = (l.i ≤ l.count) × (first_bad (concat_map (corners_in l.bytes) l.i) ≡ 9 * l.i)
+
+abbrev pub decreases-loop-i : goal.decreases-loop-i
+decreases-loop-i l = l.count - l.i

@@ -1,0 +1,12 @@
+-- `stl::put::put_facet` meets its contract: zeros, the corners, zeros.
+use native.Mathlib.Omega.{arith}
+use Rattle.spec_tables.proofs.Tables.{put_then}
+use Rattle.spec_stl.specs.Stl.{facet_bytes}
+use borrow.Author.Rules.{rules}
+use Rattle.stl.proofs.put.put_facet.Goals as goal
+
+pub returns : goal.returns
+unfolding facet_bytes
+returns c =
+    let behind = put_then c.put_f32s-attribute.ensures.0 c.put_zeros.ensures.0 in
+    (put_then c.put_zeros-corners.ensures.0 behind, omega arith)

@@ -1,0 +1,18 @@
+-- `stl::put::put_stl` meets its contract: the header, the count, the facets.
+use native.Mathlib.Omega.{arith}
+use Rattle.spec_tables.proofs.Tables.{put_then}
+use Rattle.spec_lists.specs.Reading.{triangle_count}
+use Rattle.spec_stl.specs.Stl.{stl_bytes}
+use borrow.Author.Rules.{rules}
+use Rattle.stl.proofs.put.put_stl.Goals as goal
+
+pub put_facets-requires : goal.put_facets-requires
+unfolding triangle_count
+put_facets-requires c = (omega arith, omega arith)
+
+pub returns : goal.returns
+unfolding stl_bytes
+returns c =
+    let count = c.triangle_count-count.ensures in
+    let behind = put_then c.put_u32-facets.ensures.0 c.put_facets.ensures.0 in
+    (put_then c.put_zeros-number.ensures.0 (rw count at behind), omega arith)

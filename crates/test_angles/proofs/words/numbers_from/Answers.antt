@@ -1,0 +1,22 @@
+-- `test_angles::words::numbers_from` meets its contract. The invariant: the first i numbers stand in the array.
+-- The measure is the number of those that remain.
+use Rattle.std.proofs.Common.{◌-◌, [], ◌∷◌, arith, rules}
+use Rattle.spec_tables.proofs.Runs.{Run, run_start}
+use Rattle.spec_tables.proofs.Stores.{run_store_front, run_whole}
+use Rattle.test_angles.specs.Words.{number_at, place, numbers_from}
+use Rattle.test_angles.proofs.words.numbers_from.Goals as goal
+
+pub loop-i-init : goal.loop-i-init
+loop-i-init c = run_start _ 1 0 720 _
+
+pub loop-i-preserved : goal.loop-i-preserved
+loop-i-preserved c =
+    run_store_front _ 720 _ _ _ _ (omega arith) c.loop-i-test.true c.loop-i.invariant
+    (rw c.place.ensures at c.number_at.ensures)
+
+pub returns : goal.returns
+unfolding numbers_from
+returns c = (run_whole _ _ _ _ c.loop-i-test.false c.loop-i.invariant, c.loop-i.invariant.long)
+
+pub bounds-numbers-i : goal.bounds-numbers-i
+bounds-numbers-i c = omega arith

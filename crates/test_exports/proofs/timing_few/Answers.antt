@@ -1,0 +1,12 @@
+-- `test_exports::timing_few` meets its contract: the query's answers are written, and the number says whether there are any.
+use mathlib.Core.Path.{ap, ◌∙◌}
+use Rattle.test_exports.specs.Answered.{one_passed}
+use borrow.Author.Rules.{rules}
+use Rattle.test_exports.proofs.timing_few.Goals as goal
+
+pub returns : goal.returns
+returns c =
+    (
+      c.one_passed.ensures ∙ ap one_passed c.few_query-verdict.ensures.0,
+      rw c.few_query-verdict.ensures.0 at c.few_query-verdict.ensures.1,
+    )

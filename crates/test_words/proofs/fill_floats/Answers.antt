@@ -1,0 +1,29 @@
+-- `test_words::fill_floats` meets its contract. The invariant: the first i stand in the list.
+use mathlib.Core.List.{[], ◌∷◌}
+use Prim.Native.Nat.{◌*◌, ◌-◌}
+use native.Mathlib.Omega.{arith}
+use borrow.Author.Rules.{rules}
+use lib.Ieee.{binary32, of_bits}
+use lib.ListN.{length, length-set}
+use Rattle.spec_tables.proofs.Runs.{Run, run_start}
+use Rattle.spec_tables.proofs.Stores.{run_store_front, run_whole}
+use Rattle.test_words.specs.Words.{word_at, more, floats_from}
+use Rattle.test_words.proofs.fill_floats.Goals as goal
+
+pub loop-i-init : goal.loop-i-init
+loop-i-init c = run_start _ 1 0 _ _
+
+pub loop-i-preserved : goal.loop-i-preserved
+loop-i-preserved c =
+    run_store_front _ _ _ _ _ _ (omega arith) (omega (arith, c.loop-i-test.true, c.loop-i.invariant.long)) c.loop-i.invariant
+    (rw (c.pattern_at.ensures, c.more.ensures) at c.from_bits.ensures)
+
+pub shape_of-out : goal.shape_of-out
+shape_of-out c = c.loop-i.invariant.long
+
+pub returns : goal.returns
+unfolding floats_from
+returns c = run_whole _ _ _ _ (omega (arith, c.loop-i-test.false, c.loop-i.invariant.long)) c.loop-i.invariant
+
+pub loop-i-smaller : goal.loop-i-smaller
+loop-i-smaller c = simp length-set (omega arith)

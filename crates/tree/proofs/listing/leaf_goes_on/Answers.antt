@@ -1,0 +1,6 @@
+-- `tree::listing::leaf_goes_on` meets its contract: what the two calls ensure.
+use borrow.Author.Rules.{rules}
+use Rattle.tree.proofs.listing.leaf_goes_on.Goals as goal
+
+pub returns : goal.returns
+returns c = rw (c.left_at.ensures, c.right_at-last.ensures)

@@ -1,0 +1,16 @@
+-- `walks::leaf::measure_leaf` meets its contract: a slice of a list of triangle numbers is one too.
+use Prim.Native.Nat.{◌-◌}
+use Rattle.spec_search.proofs.Steps.{slice_below}
+use Rattle.walks.proofs.Counting.{slice_room}
+use borrow.Author.Rules.{rules}
+use Rattle.walks.proofs.leaf.measure_leaf.Goals as goal
+
+pub measure_slice-requires : goal.measure_slice-requires
+measure_slice-requires c =
+    let args = c.args in (
+      slice_below _ args.order.now args.first (args.last - args.first) c.requires.0,
+      (
+        slice_room args.order.now args.first args.last args.decreases c.requires.1.0 c.requires.1.1.0,
+        c.requires.1.1.1,
+      ),
+    )

@@ -1,0 +1,32 @@
+-- `walks::leaf::measure_slice` meets its contract, for either walk.
+-- The invariant: the lists are ready, with as many places as there were, and measuring those that remain, from what is kept now, gives what the whole
+-- slice gives.
+use mathlib.Core.Path.{◌≡◌, refl, ap, subst}
+use mathlib.Core.List.{List}
+use Prim.Native.Nat.{ℕ, ◌+◌, ◌-◌, ◌≤◌}
+use native.Mathlib.Omega.{arith}
+use lib.ListN.{length, drop, get_or}
+use lib.Ieee.{Float, binary32}
+use Rattle.spec_lists.proofs.Reading.{triangle_inside}
+use Rattle.spec_search.specs.Marked.{below}
+use Rattle.spec_search.specs.Walk.{Sought, took_all}
+use Rattle.spec_search.proofs.Steps.{few_sorted}
+use Rattle.spec_search.proofs.Turns.{one_more, none_remaining}
+use Rattle.walks.specs.Values.{point_of, fourth_of}
+use Rattle.walks.specs.declared.answer.Measures.{Measures}
+use Rattle.walks.specs.declared.answer.Measures.TheVariants.{Held, Computed}
+use Rattle.walks.specs.Places.{most_of, Lent, Keeps, kept_in, took_by, Ready, sought_of, Holds}
+use Rattle.walks.proofs.Counting.{none_counted, one_more_counted}
+use Rattle.walks.proofs.Slots.{sound_after}
+use borrow.Author.Rules.{rules}
+use Rattle.walks.proofs.leaf.measure_slice.Given as goal
+
+abbrev pub invariant-loop-i : goal.invariant-loop-i
+invariant-loop-i l =
+    ((l.i ≤ length l.slice) × Ready l.measures l.best l.which)
+    × ((most_of l.which ≡ most_of l.initial.which)
+    × (took_all (took l.measures l.triangles l.probe (most_of l.initial.which)) (drop l.i l.slice) (sought_of l.measures l.best l.which (l.measured + l.i))
+    ≡ took_all (took l.measures l.triangles l.probe (most_of l.initial.which)) l.slice (sought_of l.measures l.initial.best l.initial.which l.measured)))
+
+abbrev pub decreases-loop-i : goal.decreases-loop-i
+decreases-loop-i l = length l.slice - l.i

@@ -1,0 +1,13 @@
+-- `walks::places::is_skipped` meets its contract: the last place, which decides, is slot 0.
+use Rattle.spec_search.specs.Marked.{below}
+use Rattle.spec_search.specs.Rules.{counts}
+use Rattle.walks.specs.Places.{slot_at}
+use Rattle.walks.proofs.Slots.{skipped_by_last}
+use borrow.Author.Rules.{rules}
+use Rattle.walks.proofs.places.is_skipped.Goals as goal
+
+pub returns : goal.returns
+unfolding slot_at counts
+returns c =
+    let a = c.args in
+    skipped_by_last a.best.now a.which.now c.requires (below a.limit) a.squared

@@ -1,0 +1,43 @@
+-- `walks::sure::search` meets its contract: an accepted tree is safe to walk from its root, and the walk from markers is that by the rule.
+use mathlib.Core.Path.{refl, ◌∙◌}
+use lib.Ieee.{binary32, inf}
+use mathlib.Core.Bool.{false}
+use Rattle.spec_numbers.proofs.Comparisons.{less_number}
+use Rattle.shapes.specs.Values.{as_point}
+use Rattle.spec_search.specs.Rules.{rule_of}
+use Rattle.spec_search.specs.Marked.{marked_walk}
+use Rattle.spec_search.proofs.Calls.{root_there, root_safe, entries_below, numbers_low}
+use Rattle.spec_search.proofs.Steps.{hangs_there}
+use Rattle.spec_search.proofs.Marked.{marked_is_few}
+use Rattle.walks.proofs.Slots.{start_sound}
+use Rattle.walks.proofs.Reached.{reached_on, few_then}
+use borrow.Author.Rules.{rules}
+use Rattle.walks.proofs.sure.search.Goals as goal
+
+pub overflow_sub-root : goal.overflow_sub-root
+overflow_sub-root c = root_there _ _ _ _ _ c.requires.0
+
+pub node_squared-squared-requires : goal.node_squared-squared-requires
+node_squared-squared-requires c =
+    let safe = root_safe _ _ _ _ _ c.requires.0 in
+    (hangs_there _ _ _ _ safe.tree _ safe.hangs).boxes_there
+
+pub node_walk-requires : goal.node_walk-requires
+node_walk-requires c =
+    let most = c.requires.1.1.0 in (
+      root_safe _ _ _ _ _ c.requires.0,
+      (
+        c.node_squared-squared.ensures,
+        start_sound _ _ _ _ (less_number _ (inf false) c.requires.1.0) most.0 most.1 c.start.ensures,
+      ),
+    )
+
+pub returns : goal.returns
+unfolding marked_walk
+returns c =
+    let a = c.args in
+    let walk = few_then binary32 _ _ _ _ _ _ _ _ (record { holds = c.start.ensures; measured_is = refl }) c.node_walk.ensures in
+    reached_on (rw c.walk_limit.ensures at walk)
+    (marked_is_few binary32 a.t1.now a.t2.now a.t3.now a.t4.now _ a.nodes (entries_below _ _ _ _ _ c.requires.0)
+    (numbers_low _ _ _ _ _ c.requires.0) (as_point a.probe.point) a.most c.requires.1.1.0.0 (rule_of a.rule) a.probe.limit
+    c.requires.1.0)

@@ -1,0 +1,27 @@
+-- `walks::words::put_seven` meets its contract: the seven stores are one write.
+use native.Mathlib.Omega.{arith}
+use lib.ListN.{length-set}
+use Rattle.spec_tables.proofs.Tables.{seven_overwrite}
+use borrow.Author.Rules.{rules}
+use Rattle.walks.proofs.words.put_seven.Goals as goal
+
+pub returns : goal.returns
+returns c = seven_overwrite _ _ _ _ _ _ _ _ _ c.requires
+
+pub bounds-out-at-2 : goal.bounds-out-at-2
+bounds-out-at-2 c = simp length-set (omega arith)
+
+pub bounds-out-at-3 : goal.bounds-out-at-3
+bounds-out-at-3 c = simp length-set (omega arith)
+
+pub bounds-out-at-4 : goal.bounds-out-at-4
+bounds-out-at-4 c = simp length-set (omega arith)
+
+pub bounds-out-at-5 : goal.bounds-out-at-5
+bounds-out-at-5 c = simp length-set (omega arith)
+
+pub bounds-out-at-6 : goal.bounds-out-at-6
+bounds-out-at-6 c = simp length-set (omega arith)
+
+pub bounds-out-at-7 : goal.bounds-out-at-7
+bounds-out-at-7 c = simp length-set (omega arith)
