@@ -26,14 +26,8 @@ returns-then-refuses-2 c =
 pub search-requires : goal.search-requires
 unfolding limit_squared
 search-requires c =
-    let few = most_passed _ (did_pass _ _ _ c.most_refusal-bad_most.ensures c.refuses-2.ensures c.if-refuses-2.false) in (
-      c.requires,
-      (
-        limit_bounded binary32 _
-            (distance_passed _ (did_pass _ _ _ c.distance_refusal-bad_distance.ensures c.refuses.ensures c.if-refuses.false)),
-        (rw c.wide.ensures few, record { floats = refl; numbers = refl }),
-      ),
-    )
+    let few = most_passed _ (did_pass _ _ _ c.most_refusal-bad_most.ensures c.refuses-2.ensures c.if-refuses-2.false) in record { searchable = c.requires; false_value = limit_bounded binary32 _
+            (distance_passed _ (did_pass _ _ _ c.distance_refusal-bad_distance.ensures c.refuses.ensures c.if-refuses.false)); le_most = rw c.wide.ensures few; lent = record { floats = refl; numbers = refl } }
 
 pub returns : goal.returns
 unfolding limit_squared measured_at

@@ -5,4 +5,4 @@ use borrow.Author.Rules.{rules}
 use Rattle.test_exports.proofs.timing_fast.Goals as goal
 
 pub returns : goal.returns
-returns c = (c.one_passed.ensures ∙ ap one_passed c.fast_winding-verdict.ensures.0, search rules)
+returns c = record { passed = c.one_passed.ensures ∙ ap one_passed c.fast_winding-verdict.ensures.verdict; windings = search rules }

@@ -6,7 +6,4 @@ use Rattle.test_exports.proofs.timing_few.Goals as goal
 
 pub returns : goal.returns
 returns c =
-    (
-      c.one_passed.ensures ∙ ap one_passed c.few_query-verdict.ensures.0,
-      rw c.few_query-verdict.ensures.0 at c.few_query-verdict.ensures.1,
-    )
+    record { passed = c.one_passed.ensures ∙ ap one_passed c.few_query-verdict.ensures.verdict; answers = rw c.few_query-verdict.ensures.verdict at c.few_query-verdict.ensures.answers }

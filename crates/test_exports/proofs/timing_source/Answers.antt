@@ -6,7 +6,4 @@ use Rattle.test_exports.proofs.timing_source.Goals as goal
 
 pub returns : goal.returns
 returns c =
-    (
-      c.one_passed.ensures ∙ ap one_passed c.source_query-verdict.ensures.0,
-      rw c.source_query-verdict.ensures.0 at c.source_query-verdict.ensures.1,
-    )
+    record { passed = c.one_passed.ensures ∙ ap one_passed c.source_query-verdict.ensures.verdict; answers = rw c.source_query-verdict.ensures.verdict at c.source_query-verdict.ensures.answers }

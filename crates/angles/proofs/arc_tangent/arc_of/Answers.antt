@@ -8,19 +8,19 @@ returns-then-k-eq1024 c = c.entries_at.ensures.1 ∙ at_the_end c.args.u c.if-k-
 
 pub overflow_sub-result : goal.overflow_sub-result
 overflow_sub-result c =
-    le_of_lt (rises _ _ _ c.requires.1 c.if-k-eq1024.false c.entries_at-e.ensures.0 c.entries_at-e.ensures.1)
+    le_of_lt (rises _ _ _ c.requires.u_bound c.if-k-eq1024.false c.entries_at-e.ensures.0 c.entries_at-e.ensures.1)
 
 pub overflow_mul-result : goal.overflow_mul-result
 overflow_mul-result c =
     record {
-      fits = product_fits _ _ _ c.requires.1 c.if-k-eq1024.false c.entries_at-e.ensures.0 c.entries_at-e.ensures.1;
+      fits = product_fits _ _ _ c.requires.u_bound c.if-k-eq1024.false c.entries_at-e.ensures.0 c.entries_at-e.ensures.1;
     }
 
 pub overflow_add-result : goal.overflow_add-result
 overflow_add-result c =
-    let most = line_most _ _ _ c.requires.1 c.if-k-eq1024.false c.entries_at-e.ensures.0 c.entries_at-e.ensures.1 in
+    let most = line_most _ _ _ c.requires.u_bound c.if-k-eq1024.false c.entries_at-e.ensures.0 c.entries_at-e.ensures.1 in
     record { fits = lt_of_le_of_lt most (lit< tt) }
 
 pub returns : goal.returns
 returns c =
-    on_the_line _ _ _ c.requires.1 c.if-k-eq1024.false c.entries_at-e.ensures.0 c.entries_at-e.ensures.1
+    on_the_line _ _ _ c.requires.u_bound c.if-k-eq1024.false c.entries_at-e.ensures.0 c.entries_at-e.ensures.1

@@ -7,6 +7,6 @@ pub returns : goal.returns
 unfolding entry
 returns c =
     let k = c.args.k in (
-      c.wide.ensures ∙ ap (λ (l : List ℕ). get_or l k 0) c.requires.0,
-      c.wide-2.ensures ∙ ap (λ (l : List ℕ). get_or l (k + 1) 0) c.requires.0,
+      c.wide.ensures ∙ ap (λ (l : List ℕ). get_or l k 0) c.requires.table_value,
+      c.wide-2.ensures ∙ ap (λ (l : List ℕ). get_or l (k + 1) 0) c.requires.table_value,
     )

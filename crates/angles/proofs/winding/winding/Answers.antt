@@ -19,8 +19,5 @@ write_windings-requires c =
 
 pub returns : goal.returns
 returns c =
-    (
-      c.winding_refusal-verdict.ensures,
-      is_written _ _ _ binary32 _ (did_pass _ _ _ c.winding_refusal-verdict.ensures c.refuses.ensures c.if-refuses.false)
-          c.write_windings.ensures,
-    )
+    record { verdict = c.winding_refusal-verdict.ensures; windings = is_written _ _ _ binary32 _ (did_pass _ _ _ c.winding_refusal-verdict.ensures c.refuses.ensures c.if-refuses.false)
+          c.write_windings.ensures }

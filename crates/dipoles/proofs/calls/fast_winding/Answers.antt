@@ -16,12 +16,9 @@ returns-then-refuses c =
 pub write_windings-requires : goal.write_windings-requires
 write_windings-requires c =
     let pass = did_pass _ _ _ c.fast_refusal-verdict.ensures c.refuses.ensures c.if-refuses.false in
-    (fast_root _ _ _ _ _ _ _ _ c.args.out.now pass, fast_room _ _ _ _ _ _ _ _ c.args.out.now pass)
+    record { there = fast_root _ _ _ _ _ _ _ _ c.args.out.now pass; room = fast_room _ _ _ _ _ _ _ _ c.args.out.now pass }
 
 pub returns : goal.returns
 returns c =
-    (
-      c.fast_refusal-verdict.ensures,
-      fast_written _ _ _ _ _ _ _ _ _ (did_pass _ _ _ c.fast_refusal-verdict.ensures c.refuses.ensures c.if-refuses.false) binary32 _
-          c.write_windings.ensures,
-    )
+    record { verdict = c.fast_refusal-verdict.ensures; windings = fast_written _ _ _ _ _ _ _ _ _ (did_pass _ _ _ c.fast_refusal-verdict.ensures c.refuses.ensures c.if-refuses.false) binary32 _
+          c.write_windings.ensures }

@@ -6,7 +6,7 @@ use Rattle.dipoles.proofs.calls.fast_winding_by.Goals as goal
 
 pub walk-requires : goal.walk-requires
 walk-requires c =
-    (c.requires.0, root_in _ _ _ _ _ c.requires.1)
+    record { table = c.requires.table; there = root_in _ _ _ _ _ c.requires.there }
 
 pub returns : goal.returns
 unfolding fast_about

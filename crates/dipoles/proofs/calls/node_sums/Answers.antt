@@ -17,20 +17,14 @@ returns-then-refuses c =
 pub store_sums-requires : goal.store_sums-requires
 store_sums-requires c =
     let pass = did_pass _ _ _ c.sums_refusal-verdict.ensures c.refuses.ensures c.if-refuses.false in
-    (sums_readable _ _ _ _ _ c.args.sums.now pass, sums_room _ _ _ _ _ c.args.sums.now pass)
+    record { readable = sums_readable _ _ _ _ _ c.args.sums.now pass; room = sums_room _ _ _ _ _ c.args.sums.now pass }
 
 pub make_dipoles-requires : goal.make_dipoles-requires
 make_dipoles-requires c =
     let lent = c.args.sums.now in
-    let pass = did_pass _ _ _ c.sums_refusal-verdict.ensures c.refuses.ensures c.if-refuses.false in (
-      sums_boxed _ _ _ _ _ lent pass,
-      omega (arith, sums_room _ _ _ _ _ lent pass, sums_between _ _ _ _ _ lent pass binary32 _ c.store_sums.ensures),
-    )
+    let pass = did_pass _ _ _ c.sums_refusal-verdict.ensures c.refuses.ensures c.if-refuses.false in record { boxed = sums_boxed _ _ _ _ _ lent pass; room = omega (arith, sums_room _ _ _ _ _ lent pass, sums_between _ _ _ _ _ lent pass binary32 _ c.store_sums.ensures) }
 
 pub returns : goal.returns
 returns c =
-    (
-      c.sums_refusal-verdict.ensures,
-      sums_written _ _ _ _ _ _ (did_pass _ _ _ c.sums_refusal-verdict.ensures c.refuses.ensures c.if-refuses.false) binary32 _ _
-          c.store_sums.ensures c.make_dipoles.ensures,
-    )
+    record { verdict = c.sums_refusal-verdict.ensures; sums = sums_written _ _ _ _ _ _ (did_pass _ _ _ c.sums_refusal-verdict.ensures c.refuses.ensures c.if-refuses.false) binary32 _ _
+          c.store_sums.ensures c.make_dipoles.ensures }

@@ -23,15 +23,15 @@ point_at-requires c =
 
 pub fast_winding_by-requires : goal.fast_winding_by-requires
 fast_winding_by-requires c =
-    (c.arc_table-table.ensures, c.requires.0)
+    record { table = c.arc_table-table.ensures; there = c.requires.there }
 
 pub bounds-out-k : goal.bounds-out-k
 bounds-out-k c =
-    omega (arith, c.requires.1, c.point_count-count.ensures, c.loop-k.invariant.run.long, c.loop-k-test.true)
+    omega (arith, c.requires.room, c.point_count-count.ensures, c.loop-k.invariant.run.long, c.loop-k-test.true)
 
 pub loop-k-preserved : goal.loop-k-preserved
 loop-k-preserved c =
-    about_more _ _ _ _ _ _ _ _ (omega (arith, c.requires.1, c.point_count-count.ensures)) c.loop-k-test.true c.loop-k.invariant
+    about_more _ _ _ _ _ _ _ _ (omega (arith, c.requires.room, c.point_count-count.ensures)) c.loop-k-test.true c.loop-k.invariant
     c.point_at.ensures c.fast_winding_by.ensures
 
 pub shape_of-out : goal.shape_of-out

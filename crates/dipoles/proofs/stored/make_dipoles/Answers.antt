@@ -10,15 +10,15 @@ pub loop-k-init : goal.loop-k-init
 loop-k-init c = make_start _ _ _ _
 
 pub node_box-requires : goal.node_box-requires
-node_box-requires c = omega (arith, c.requires.0, c.loop-k-test.true)
+node_box-requires c = omega (arith, c.requires.boxed, c.loop-k-test.true)
 
 pub restored_at-requires : goal.restored_at-requires
 restored_at-requires c =
-    omega (arith, c.requires.1, c.loop-k.invariant.run.long, c.loop-k-test.true)
+    omega (arith, c.requires.room, c.loop-k.invariant.run.long, c.loop-k-test.true)
 
 pub put_dipole-requires : goal.put_dipole-requires
 put_dipole-requires c =
-    omega (arith, c.requires.1, c.loop-k.invariant.run.long, c.loop-k-test.true)
+    omega (arith, c.requires.room, c.loop-k.invariant.run.long, c.loop-k-test.true)
 
 pub overflow_add-k : goal.overflow_add-k
 overflow_add-k c =
@@ -30,7 +30,7 @@ loop-k-smaller c =
 
 pub loop-k-preserved : goal.loop-k-preserved
 loop-k-preserved c =
-    make_more _ _ _ _ _ _ _ _ _ _ c.requires.1 c.loop-k-test.true c.loop-k.invariant c.node_box.ensures c.restored_at.ensures
+    make_more _ _ _ _ _ _ _ _ _ _ c.requires.room c.loop-k-test.true c.loop-k.invariant c.node_box.ensures c.restored_at.ensures
     c.dipole_of-dipole.ensures c.put_dipole.ensures
 
 pub shape_of-out : goal.shape_of-out

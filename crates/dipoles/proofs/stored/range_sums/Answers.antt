@@ -7,4 +7,4 @@ use Rattle.dipoles.proofs.stored.range_sums.Goals as goal
 pub leaf_sums-requires : goal.leaf_sums-requires
 leaf_sums-requires c =
     let a = c.args in
-    slice_entries _ a.order.now a.first (a.last - a.first) c.requires.0
+    slice_entries _ a.order.now a.first (a.last - a.first) c.requires.numbered

@@ -13,18 +13,18 @@ pub sums_from-sums-requires : goal.sums_from-sums-requires
 sums_from-sums-requires c =
     record {
       nodes = c.args.nodes;
-      readable = c.requires.0;
+      readable = c.requires.readable;
       here = c.loop-node-test.true;
-      room = omega (arith, c.requires.1, c.loop-node.invariant.run.long);
+      room = omega (arith, c.requires.room, c.loop-node.invariant.run.long);
     }
 
 pub store-requires : goal.store-requires
 store-requires c =
-    omega (arith, c.requires.1, c.loop-node.invariant.run.long, c.loop-node-test.true)
+    omega (arith, c.requires.room, c.loop-node.invariant.run.long, c.loop-node-test.true)
 
 pub loop-node-preserved : goal.loop-node-preserved
 loop-node-preserved c =
-    store_more _ _ _ _ _ _ _ _ _ _ c.requires.0 c.requires.1 c.loop-node-test.true c.loop-node.invariant c.sums_from-sums.ensures
+    store_more _ _ _ _ _ _ _ _ _ _ c.requires.readable c.requires.room c.loop-node-test.true c.loop-node.invariant c.sums_from-sums.ensures
     c.store.ensures
 
 pub shape_of-out : goal.shape_of-out

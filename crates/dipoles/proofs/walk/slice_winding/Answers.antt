@@ -19,11 +19,11 @@ loop-i-init c = sum_start _ _ _ _
 pub triangle_at-requires : goal.triangle_at-requires
 unfolding triangle_count
 triangle_at-requires c =
-    omega (arith, c.wide.ensures, c.requires.1 _ c.loop-i-test.true)
+    omega (arith, c.wide.ensures, c.requires.numbered _ c.loop-i-test.true)
 
 pub solid_angle_by-sum-requires : goal.solid_angle_by-sum-requires
 solid_angle_by-sum-requires c =
-    c.requires.0
+    c.requires.table
 
 pub loop-i-preserved : goal.loop-i-preserved
 loop-i-preserved c =

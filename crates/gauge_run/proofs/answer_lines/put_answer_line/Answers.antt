@@ -8,14 +8,11 @@ use Rattle.gauge_run.proofs.answer_lines.put_answer_line.Goals as goal
 pub returns-then-answers-first-eq0 : goal.returns-then-answers-first-eq0
 returns-then-answers-first-eq0 c =
     (
-      put_same (nothing_words c.args.answers.now c.args.k c.if-answers-first-eq0.true) c.put_nothing.ensures.0,
-      omega (arith, c.put_nothing.ensures.1),
+      put_same (nothing_words c.args.answers.now c.args.k c.if-answers-first-eq0.true) c.put_nothing.ensures.put,
+      omega (arith, c.put_nothing.ensures.upper_bound),
     )
 
 pub returns : goal.returns
 returns c =
-    (
-      put_same (found_words c.args.answers.now c.args.k _ _ c.if-answers-first-eq0.false c.whole.ensures c.whole-2.ensures)
-          c.put_found.ensures.0,
-      c.put_found.ensures.1,
-    )
+    record { put = put_same (found_words c.args.answers.now c.args.k _ _ c.if-answers-first-eq0.false c.whole.ensures c.whole-2.ensures)
+          c.put_found.ensures.put; upper_bound = c.put_found.ensures.upper_bound }

@@ -18,8 +18,8 @@ put_answer_line-next-requires c =
 
 pub loop-k-preserved : goal.loop-k-preserved
 loop-k-preserved c =
-    lined_more _ _ _ _ _ _ _ _ _ c.loop-k-test.true c.loop-k.invariant c.put_answer_line-next.ensures.0
-    c.put_answer_line-next.ensures.1
+    lined_more _ _ _ _ _ _ _ _ _ c.loop-k-test.true c.loop-k.invariant c.put_answer_line-next.ensures.put
+    c.put_answer_line-next.ensures.upper_bound
 
 pub shape_of-out : goal.shape_of-out
 shape_of-out c = c.loop-k.invariant.long

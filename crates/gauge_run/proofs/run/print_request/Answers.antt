@@ -9,11 +9,11 @@ use Rattle.gauge_run.proofs.run.print_request.Goals as goal
 pub returns-in-Refused : goal.returns-in-Refused
 returns-in-Refused c =
     put_same (refused_printed _ _ _ (sym c.request_refusal-verdict.ensures ∙ ap as_verdict c.in-Refused.is))
-    c.put_refused.ensures.0
+    c.put_refused.ensures.put
 
 pub put_run-requires : goal.put_run-requires
 put_run-requires c =
-    (sym c.request_refusal-verdict.ensures ∙ ap as_verdict c.in_default.is, c.requires)
+    record { rule_value = sym c.request_refusal-verdict.ensures ∙ ap as_verdict c.in_default.is; fits = c.requires }
 
 pub returns : goal.returns
 returns c =

@@ -11,18 +11,18 @@ use Rattle.gauge_run.proofs.run.print_sized.Goals as goal
 
 pub slice_bounds-print_request-end : goal.slice_bounds-print_request-end
 slice_bounds-print_request-end c =
-    sym (length-take-le _ _ (omega (arith, c.requires.0.0, c.requires.0.1, c.triangles-2-1.given)))
+    sym (length-take-le _ _ (omega (arith, c.requires.ruled_value.0, c.requires.ruled_value.1, c.triangles-2-1.given)))
 
 pub slice_bounds-print_request-end-2 : goal.slice_bounds-print_request-end-2
 slice_bounds-print_request-end-2 c =
-    sym (length-take-le _ _ (omega (arith, c.requires.0.0, c.requires.0.1, c.points-2-1.given)))
+    sym (length-take-le _ _ (omega (arith, c.requires.ruled_value.0, c.requires.ruled_value.1, c.points-2-1.given)))
 
 pub print_request-requires : goal.print_request-requires
 print_request-requires c =
     fits c.args.count c.args.touched _ _ _
-    (length-take-le _ _ (omega (arith, c.requires.0.0, c.requires.0.1, c.triangles-2-1.given)))
-    (length-take-le _ _ (omega (arith, c.requires.0.0, c.requires.0.1, c.points-2-1.given)))
-    (omega (arith, c.requires.0.0, c.requires.0.1)) c.requires.1
+    (length-take-le _ _ (omega (arith, c.requires.ruled_value.0, c.requires.ruled_value.1, c.triangles-2-1.given)))
+    (length-take-le _ _ (omega (arith, c.requires.ruled_value.0, c.requires.ruled_value.1, c.points-2-1.given)))
+    (omega (arith, c.requires.ruled_value.0, c.requires.ruled_value.1)) c.requires.max_printed_in_bounds
 
 pub returns : goal.returns
 returns c =

@@ -14,12 +14,12 @@ pub put_answer_lines-requires : goal.put_answer_lines-requires
 put_answer_lines-requires c =
     let a = c.args in
     let p = query_passed (sure a.rule) a.triangles.now a.order.now a.links.now a.boxes.now a.nodes a.points.now
-    a.distance (answer_width * max_points) c.requires.0 in
-    (omega (arith, p.1, c.point_count.ensures, c.answers-2-1.given), omega (arith, c.requires.1, c.point_count.ensures))
+    a.distance (answer_width * max_points) c.requires.max_points_value in
+    (omega (arith, p.1, c.point_count.ensures, c.answers-2-1.given), omega (arith, c.requires.points_in_bounds, c.point_count.ensures))
 
 pub returns : goal.returns
 returns c =
     let asked = c.sure_query.ensures in
     put_same
-    (sure_lines _ _ _ _ _ _ (is_answered c.args.rule _ _ _ _ _ _ _ asked.0 c.requires.0 asked.1))
+    (sure_lines _ _ _ _ _ _ (is_answered c.args.rule _ _ _ _ _ _ _ asked.verdict c.requires.max_points_value asked.answers))
     (rw c.point_count.ensures at c.put_answer_lines.ensures)

@@ -21,13 +21,13 @@ returns-in_default c =
       distance = a.distance;
       rule = a.rule;
     } in
-    absurd (is_built request (all_passed request c.requires.0) c.requires.1.triangles_few
+    absurd (is_built request (all_passed request c.requires.rule_value) c.requires.fits.triangles_few
     (record { order = refl; links = refl; boxes = refl; bounds = refl; centres = refl; scratch = refl })
     (rw c.in_default.is at c.build.ensures))
 
 pub slice_bounds-put_answers-end : goal.slice_bounds-put_answers-end
 slice_bounds-put_answers-end c =
-    sym (length-take-le _ _ (omega (arith, c.triangle_count-count.ensures, c.requires.1.triangles_few, c.order-2-1.given)))
+    sym (length-take-le _ _ (omega (arith, c.triangle_count-count.ensures, c.requires.fits.triangles_few, c.order-2-1.given)))
 
 pub put_answers-requires : goal.put_answers-requires
 put_answers-requires c =
@@ -39,17 +39,14 @@ put_answers-requires c =
       points = a.points.now;
       distance = a.distance;
       rule = a.rule;
-    } in (
-      query_passes request (all_passed request c.requires.0) (rw c.in-Tree.is at c.build.ensures) _
-          c.triangle_count-count.ensures c.requires.1.points_few,
-      omega (
+    } in record { max_points_value = query_passes request (all_passed request c.requires.rule_value) (rw c.in-Tree.is at c.build.ensures) _
+          c.triangle_count-count.ensures c.requires.fits.points_few; points_in_bounds = omega (
         arith,
-        c.put_counts-next.ensures.1,
-        put_long c.put_counts-next.ensures.0,
-        c.requires.1.room,
-        c.requires.1.points_few,
-      ),
-    )
+        c.put_counts-next.ensures.upper_bound,
+        put_long c.put_counts-next.ensures.put,
+        c.requires.fits.room,
+        c.requires.fits.points_few,
+      ) }
 
 pub returns : goal.returns
 returns c =
@@ -64,7 +61,7 @@ returns c =
     } in
     put_then
     (put_same
-    (tree_line_lem request (all_passed request c.requires.0) (rw c.in-Tree.is at c.build.ensures) _
+    (tree_line_lem request (all_passed request c.requires.rule_value) (rw c.in-Tree.is at c.build.ensures) _
     c.triangle_count-count.ensures)
-    c.put_counts-next.ensures.0)
+    c.put_counts-next.ensures.put)
     c.put_answers.ensures

@@ -13,7 +13,7 @@ u16_at-requires c =
     omega arith
 
 pub returns-then-ruled : goal.returns-then-ruled
-returns-then-ruled c = rw c.if-ruled.true c.u16_at.ensures.0
+returns-then-ruled c = rw c.if-ruled.true c.u16_at.ensures.value
 
 pub returns : goal.returns
 returns c = rw c.if-ruled.false

@@ -13,14 +13,14 @@ use Rattle.host_ask.proofs.calls.fast_points.Goals as goal
 pub encode-requires : goal.encode-requires
 encode-requires c =
     let a = c.args in
-    rw c.fast_winding-verdict.ensures.0 (fast_encodable a.triangles.now a.order.now a.links.now a.boxes.now a.nodes a.sums.now
+    rw c.fast_winding-verdict.ensures.verdict (fast_encodable a.triangles.now a.order.now a.links.now a.boxes.now a.nodes a.sums.now
     a.points.now a.accuracy (length a.windings.now) (omega (arith, c.well_formed)))
 
 pub returns : goal.returns
 returns c =
     let a = c.args in
     record {
-      status_is = c.encode.ensures ∙ ap (λ (v : Verdict). status v (length a.points.now / 12)) c.fast_winding-verdict.ensures.0;
-      windings_are = c.fast_winding-verdict.ensures.1 ∙ ap (λ (v : Verdict). after_bytes v (fast_bytes a.triangles.now a.order.now a.links.now
-          a.nodes a.sums.now a.accuracy a.points.now) a.windings.now) c.fast_winding-verdict.ensures.0;
+      status_is = c.encode.ensures ∙ ap (λ (v : Verdict). status v (length a.points.now / 12)) c.fast_winding-verdict.ensures.verdict;
+      windings_are = c.fast_winding-verdict.ensures.windings ∙ ap (λ (v : Verdict). after_bytes v (fast_bytes a.triangles.now a.order.now a.links.now
+          a.nodes a.sums.now a.accuracy a.points.now) a.windings.now) c.fast_winding-verdict.ensures.verdict;
     }

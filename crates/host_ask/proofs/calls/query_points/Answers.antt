@@ -16,15 +16,15 @@ use Rattle.host_ask.proofs.calls.query_points.Goals as goal
 pub encode-requires : goal.encode-requires
 encode-requires c =
     let a = c.args in
-    rw c.ask-verdict.ensures.0 (query_encodable a.triangles.now a.order.now a.links.now a.boxes.now a.nodes (as_query a.query)
+    rw c.ask-verdict.ensures.verdict (query_encodable a.triangles.now a.order.now a.links.now a.boxes.now a.nodes (as_query a.query)
     a.points.now a.distance (length a.answers.now) (omega (arith, c.well_formed)))
 
 pub returns : goal.returns
 returns c =
     let a = c.args in
     record {
-      status_is = c.encode.ensures ∙ ap (λ (v : Verdict). status v (length a.points.now / 12)) c.ask-verdict.ensures.0;
-      answers_are = c.ask-verdict.ensures.1 ∙ ap (λ (v : Verdict). after_bytes v (answer_bytes (most_by (as_query a.query)) (answer_by binary32
+      status_is = c.encode.ensures ∙ ap (λ (v : Verdict). status v (length a.points.now / 12)) c.ask-verdict.ensures.verdict;
+      answers_are = c.ask-verdict.ensures.answers ∙ ap (λ (v : Verdict). after_bytes v (answer_bytes (most_by (as_query a.query)) (answer_by binary32
           (as_query a.query) a.triangles.now a.order.now a.links.now a.boxes.now a.nodes a.distance) a.points.now)
-          a.answers.now) c.ask-verdict.ensures.0;
+          a.answers.now) c.ask-verdict.ensures.verdict;
     }

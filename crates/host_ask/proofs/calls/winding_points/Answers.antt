@@ -13,13 +13,13 @@ use Rattle.host_ask.proofs.calls.winding_points.Goals as goal
 pub encode-requires : goal.encode-requires
 encode-requires c =
     let a = c.args in
-    rw c.winding-verdict.ensures.0 (winding_encodable a.triangles.now a.points.now (length a.windings.now) (omega arith))
+    rw c.winding-verdict.ensures.verdict (winding_encodable a.triangles.now a.points.now (length a.windings.now) (omega arith))
 
 pub returns : goal.returns
 returns c =
     let a = c.args in
     record {
-      status_is = c.encode.ensures ∙ ap (λ (v : Verdict). status v (length a.points.now / 12)) c.winding-verdict.ensures.0;
-      windings_are = c.winding-verdict.ensures.1 ∙ ap (λ (v : Verdict). after_bytes v (winding_bytes a.triangles.now a.points.now) a.windings.now)
-          c.winding-verdict.ensures.0;
+      status_is = c.encode.ensures ∙ ap (λ (v : Verdict). status v (length a.points.now / 12)) c.winding-verdict.ensures.verdict;
+      windings_are = c.winding-verdict.ensures.windings ∙ ap (λ (v : Verdict). after_bytes v (winding_bytes a.triangles.now a.points.now) a.windings.now)
+          c.winding-verdict.ensures.verdict;
     }

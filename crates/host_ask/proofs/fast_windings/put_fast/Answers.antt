@@ -26,14 +26,14 @@ point_in-requires c = omega (arith, c.loop-k-test.true)
 
 pub fast_winding_by-winding-requires : goal.fast_winding_by-winding-requires
 fast_winding_by-winding-requires c =
-    (c.arc_table-table.ensures, c.requires.0)
+    (c.arc_table-table.ensures, c.requires.there)
 
 pub overflow_mul-k : goal.overflow_mul-k
 overflow_mul-k c = omega (arith, c.loop-k-test.true)
 
 pub put_winding_bytes-requires : goal.put_winding_bytes-requires
 put_winding_bytes-requires c =
-    omega (arith, c.requires.1, c.loop-k.invariant.long, c.loop-k-test.true)
+    omega (arith, c.requires.room, c.loop-k.invariant.long, c.loop-k-test.true)
 
 pub loop-k-preserved : goal.loop-k-preserved
 loop-k-preserved c =
@@ -42,7 +42,7 @@ loop-k-preserved c =
     ∙ ap (fast_about binary32 a.triangles.now a.order.now a.links.now a.nodes a.sums.now a.accuracy)
     c.point_in.ensures in
     numbers_more (number a.triangles.now a.order.now a.links.now a.nodes a.sums.now a.accuracy a.points.now) a.points.now
-    a.out.now _ _ _ _ _ c.requires.1 c.loop-k-test.true c.loop-k.invariant (ap (to_bits binary32) about) c.put_winding_bytes.ensures
+    a.out.now _ _ _ _ _ c.requires.room c.loop-k-test.true c.loop-k.invariant (ap (to_bits binary32) about) c.put_winding_bytes.ensures
 
 pub shape_of-out : goal.shape_of-out
 shape_of-out c = c.loop-k.invariant.long

@@ -13,21 +13,21 @@ use Rattle.host_ask.proofs.point_queries.put_answers.Goals as goal
 
 pub put_few-requires : goal.put_few-requires
 put_few-requires c =
-    (c.requires.0, (c.requires.1.0, (rw c.in-Sure.is at c.requires.1.1.0, (c.requires.1.1.1.0, (omega arith, omega arith)))))
+    record { searchable = c.requires.searchable; good_points = c.requires.good_points; points_in_bounds = rw c.in-Sure.is at c.requires.points_in_bounds; good_distance = c.requires.good_distance; le_most = (omega arith, omega arith) }
 
 pub put_few-requires-in-Few : goal.put_few-requires-in-Few
 put_few-requires-in-Few c =
     rw c.wide.ensures (
-      c.requires.0,
+      c.requires.searchable,
       (
-        c.requires.1.0,
-        (rw c.in-Few.is at c.requires.1.1.0, (c.requires.1.1.1.0, rw c.in-Few.is at c.requires.1.1.1.1)),
+        c.requires.good_points,
+        (rw c.in-Few.is at c.requires.points_in_bounds, (c.requires.good_distance, rw c.in-Few.is at c.requires.bound)),
       ),
     )
 
 pub put_source-requires : goal.put_source-requires
 put_source-requires c =
-    (c.requires.0, rw c.in-Source.is at c.requires.1.1.0)
+    record { searchable = c.requires.searchable; points_in_bounds = rw c.in-Source.is at c.requires.points_in_bounds }
 
 pub returns-in-Sure : goal.returns-in-Sure
 returns-in-Sure c =

@@ -32,7 +32,7 @@ held_words {best} {which} {most} {answer} h =
 
 pub overflow_mul-width : goal.overflow_mul-width
 overflow_mul-width c =
-    omega (arith, c.requires.1.1.1.1.1)
+    omega (arith, c.requires.le_most.1)
 
 pub loop-k-init : goal.loop-k-init
 loop-k-init c =
@@ -46,20 +46,14 @@ point_in-touched-requires c = omega (arith, c.loop-k-test.true)
 
 pub few_at-requires : goal.few_at-requires
 few_at-requires c =
-    (
-      c.requires.0,
-      (
-        rw c.point_in-touched.ensures (point_finite (numbers_of c.args.points.now) c.requires.1.0.coordinates _
-            (rw (numbers_long c.args.points.now) (omega (arith, c.loop-k-test.true)))),
-        (c.requires.1.1.1.0, (c.requires.1.1.1.1, c.loop-k.invariant.1)),
-      ),
-    )
+    record { searchable = c.requires.searchable; finite = rw c.point_in-touched.ensures (point_finite (numbers_of c.args.points.now) c.requires.good_points.coordinates _
+            (rw (numbers_long c.args.points.now) (omega (arith, c.loop-k-test.true)))); good_distance = c.requires.good_distance; le_most = c.requires.le_most; lent = c.loop-k.invariant.1 }
 
 pub overflow_mul-width-in-loop-k : goal.overflow_mul-width-in-loop-k
 overflow_mul-width-in-loop-k c =
     let a = c.args in
     let room = answers_room a.most (few_answer binary32 (rule_of a.rule) a.most a.triangles.now a.distance) a.points.now a.answers.now
-    _ _ _ c.requires.1.1.0 c.loop-k-test.true c.loop-k.invariant.0 in
+    _ _ _ c.requires.points_in_bounds c.loop-k-test.true c.loop-k.invariant.0 in
     let small : length a.answers.now < 2 ^ 64 = omega (arith, c.well_formed) in
     before_fits _ _ _ small (rw c.loop-k.invariant.0.long at room)
 
@@ -67,11 +61,8 @@ pub put_places_bytes-requires : goal.put_places_bytes-requires
 put_places_bytes-requires c =
     let a = c.args in
     let room = answers_room a.most (few_answer binary32 (rule_of a.rule) a.most a.triangles.now a.distance) a.points.now a.answers.now
-    _ _ _ c.requires.1.1.0 c.loop-k-test.true c.loop-k.invariant.0 in
-    let most_is = c.few_at.ensures.most_is in (
-      subst (λ (n : ℕ). n ≤ 16) (sym most_is) c.requires.1.1.1.1.1,
-      subst (λ (n : ℕ). (answer_size * a.most) * c.loop-k.k + answer_size * n ≤ length c.loop-k.answers) (sym most_is) room,
-    )
+    _ _ _ c.requires.points_in_bounds c.loop-k-test.true c.loop-k.invariant.0 in
+    let most_is = c.few_at.ensures.most_is in record { which_bound = subst (λ (n : ℕ). n ≤ 16) (sym most_is) c.requires.le_most.1; which_in_bounds = subst (λ (n : ℕ). (answer_size * a.most) * c.loop-k.k + answer_size * n ≤ length c.loop-k.answers) (sym most_is) room }
 
 pub overflow_add-k : goal.overflow_add-k
 overflow_add-k c =
@@ -82,7 +73,7 @@ loop-k-preserved c =
     let a = c.args in
     let answer = few_answer binary32 (rule_of a.rule) a.most a.triangles.now a.distance in
     let held = c.few_at.ensures in (
-      answered_more a.most answer a.points.now a.answers.now _ _ _ _ _ c.requires.1.1.0 c.loop-k-test.true c.loop-k.invariant.0
+      answered_more a.most answer a.points.now a.answers.now _ _ _ _ _ c.requires.points_in_bounds c.loop-k-test.true c.loop-k.invariant.0
           (held_words held ∙ ap (λ (p : Point). point_words binary32 a.most (answer p)) c.point_in-touched.ensures) c.put_places_bytes.ensures,
       held.lent,
     )

@@ -21,20 +21,20 @@ point_in-touched-requires c = omega (arith, c.loop-k-test.true)
 
 pub source_at-answer-requires : goal.source_at-answer-requires
 source_at-answer-requires c =
-    c.requires.0
+    c.requires.searchable
 
 pub overflow_mul-k : goal.overflow_mul-k
 overflow_mul-k c = omega (arith, c.loop-k-test.true)
 
 pub put_answer_bytes-requires : goal.put_answer_bytes-requires
 put_answer_bytes-requires c =
-    omega (arith, c.requires.1, c.loop-k.invariant.long, c.loop-k-test.true)
+    omega (arith, c.requires.points_in_bounds, c.loop-k.invariant.long, c.loop-k-test.true)
 
 pub loop-k-preserved : goal.loop-k-preserved
 loop-k-preserved c =
     let a = c.args in
     let answer = source_answer binary32 a.triangles.now a.order.now a.links.now a.boxes.now a.nodes a.distance in
-    answered_more 1 (λ (p : Point) (j : ℕ). answer p) a.points.now a.answers.now _ _ _ _ _ c.requires.1 c.loop-k-test.true
+    answered_more 1 (λ (p : Point) (j : ℕ). answer p) a.points.now a.answers.now _ _ _ _ _ c.requires.points_in_bounds c.loop-k-test.true
     c.loop-k.invariant
     (ap (words_of binary32) (c.source_at-answer.ensures ∙ ap answer c.point_in-touched.ensures) ∙ sym (one_place binary32 (λ j. answer _)))
     c.put_answer_bytes.ensures

@@ -23,21 +23,21 @@ loop-j-init c =
 
 pub overflow_add-at : goal.overflow_add-at
 overflow_add-at c =
-    omega (arith, c.requires.1, c.wide-most.ensures, c.loop-j-test.true)
+    omega (arith, c.requires.which_in_bounds, c.wide-most.ensures, c.loop-j-test.true)
 
 pub answer_at-requires : goal.answer_at-requires
 answer_at-requires c =
-    (omega (arith, c.wide-most.ensures, c.loop-j-test.true), c.requires.0)
+    (omega (arith, c.wide-most.ensures, c.loop-j-test.true), c.requires.which_bound)
 
 pub put_answer_bytes-requires : goal.put_answer_bytes-requires
 put_answer_bytes-requires c =
-    omega (arith, c.requires.1, c.wide-most.ensures, c.loop-j.invariant.long, c.loop-j-test.true)
+    omega (arith, c.requires.which_in_bounds, c.wide-most.ensures, c.loop-j.invariant.long, c.loop-j-test.true)
 
 pub loop-j-preserved : goal.loop-j-preserved
 loop-j-preserved c =
     let a = c.args in
     run_more (piece a.best.now a.which.now) answer_size a.at _ a.out.now _ _ _
-    (λ i. answer_long (answer_of a.best.now a.which.now i)) (omega (arith, c.requires.1, c.wide-most.ensures)) c.loop-j-test.true
+    (λ i. answer_long (answer_of a.best.now a.which.now i)) (omega (arith, c.requires.which_in_bounds, c.wide-most.ensures)) c.loop-j-test.true
     c.loop-j.invariant (c.put_answer_bytes.ensures
     ∙ ap (λ (x : Answer). overwrite (a.at + answer_size * c.loop-j.j) (word_bytes (words_of binary32 x)) c.loop-j.out) c.answer_at.ensures)
 

@@ -9,4 +9,4 @@ use Rattle.host_bytes.proofs.answers.put_winding_bytes.Goals as goal
 pub returns : goal.returns
 returns c =
     let a = c.args in
-    c.put_u32.ensures.0.written ∙ ap (λ (n : ℕ). overwrite a.at (little 4 n) a.out.now) c.bits_of.ensures
+    c.put_u32.ensures.put.written ∙ ap (λ (n : ℕ). overwrite a.at (little 4 n) a.out.now) c.bits_of.ensures

@@ -4,11 +4,11 @@ use Rattle.host_image.proofs.statuses.encode_read.Goals as goal
 
 pub encode_refusal-requires : goal.encode_refusal-requires
 encode_refusal-requires c =
-    rw c.in-Refused.is at c.requires.1
+    rw c.in-Refused.is at c.requires.read_placed
 
 pub put_settings-requires : goal.put_settings-requires
 put_settings-requires c =
-    (c.requires.0, rw c.in-Read.is at c.requires.1)
+    record { in_bounds = c.requires.in_bounds; small_settings = rw c.in-Read.is at c.requires.read_placed }
 
 pub returns-in-Refused : goal.returns-in-Refused
 returns-in-Refused c =

@@ -20,7 +20,7 @@ loop-i-init c =
 pub read_node-requires : goal.read_node-requires
 read_node-requires c =
     let a = c.args in
-    omega (arith, piece_within (node_size (shape_by a.wide)) a.nodes c.loop-i.i c.loop-i-test.true)
+    omega (record { wide_in_bounds = arith; node_in_bounds = piece_within (node_size (shape_by a.wide)) a.nodes c.loop-i.i c.loop-i-test.true })
 
 pub loop-i-preserved : goal.loop-i-preserved
 loop-i-preserved c =
@@ -28,9 +28,9 @@ loop-i-preserved c =
     let sh = shape_by a.wide in
     let v = c.loop-i.invariant in (
       run_front (links_in sh a.bytes.now a.start) 3 a.nodes a.links.now _ _ c.loop-i.i
-          (length_links sh a.bytes.now a.start) c.requires.1.0 c.loop-i-test.true v.0 c.read_node.ensures.0,
+          (length_links sh a.bytes.now a.start) c.requires.nodes_in_bounds_2.0 c.loop-i-test.true v.0 c.read_node.ensures.links_after,
       run_front (sides_in sh a.bytes.now a.start) 6 a.nodes a.boxes.now _ _ c.loop-i.i
-          (length_box sh a.bytes.now a.start) c.requires.1.1 c.loop-i-test.true v.1 c.read_node.ensures.1,
+          (length_box sh a.bytes.now a.start) c.requires.nodes_in_bounds_2.1 c.loop-i-test.true v.1 c.read_node.ensures.boxes_after,
     )
 
 pub shape_of-links : goal.shape_of-links
@@ -43,7 +43,4 @@ pub returns : goal.returns
 returns c =
     let a = c.args in
     let sh = shape_by a.wide in
-    let v = c.loop-i.invariant in (
-      run_end (links_in sh a.bytes.now a.start) 0 a.nodes a.links.now _ c.loop-i.i c.loop-i-test.false v.0,
-      run_end (sides_in sh a.bytes.now a.start) 0 a.nodes a.boxes.now _ c.loop-i.i c.loop-i-test.false v.1,
-    )
+    let v = c.loop-i.invariant in record { links_after = run_end (links_in sh a.bytes.now a.start) 0 a.nodes a.links.now _ c.loop-i.i c.loop-i-test.false v.0; boxes_after = run_end (sides_in sh a.bytes.now a.start) 0 a.nodes a.boxes.now _ c.loop-i.i c.loop-i-test.false v.1 }

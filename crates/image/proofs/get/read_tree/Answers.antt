@@ -43,7 +43,7 @@ read_entries-requires c =
 pub read_nodes-requires : goal.read_nodes-requires
 read_nodes-requires c =
     let a = c.args in
-    omega (arith, strides a.wide a.count)
+    omega (record { nodes_in_bounds = arith; nodes_in_bounds_2 = strides a.wide a.count })
 
 pub returns : goal.returns
 unfolding image_in
@@ -53,6 +53,6 @@ returns c =
     let order = c.order_size.ensures in
     record {
       order = rw size c.read_entries.ensures;
-      links = rw (size, ← order) c.read_nodes.ensures.0;
-      boxes = rw (size, ← order) c.read_nodes.ensures.1;
+      links = rw (size, ← order) c.read_nodes.ensures.links_after;
+      boxes = rw (size, ← order) c.read_nodes.ensures.boxes_after;
     }

@@ -9,5 +9,5 @@ pub returns : goal.returns
 unfolding settings_in
 returns c =
     let wide = c.args.wide in
-    let leaf = c.leaf_of.ensures ∙ ap (leaf_in (shape_by wide)) c.u16_at-2.ensures.0 in
-    λ i. record { c = c.u16_at.ensures.0 i; leaf_minimum = leaf i; maximum_depth = c.u16_at-3.ensures.0 i }
+    let leaf = c.leaf_of.ensures ∙ ap (leaf_in (shape_by wide)) c.u16_at-2.ensures.value in
+    λ i. record { c = c.u16_at.ensures.value i; leaf_minimum = leaf i; maximum_depth = c.u16_at-3.ensures.value i }

@@ -8,4 +8,4 @@ use Rattle.image.proofs.put.put_header.Goals as goal
 pub returns : goal.returns
 unfolding header
 returns c =
-    (put_then c.put_u32-next.ensures.0 c.put_u16.ensures.0, omega arith)
+    record { put = put_then c.put_u32-next.ensures.put c.put_u16.ensures.put; value = omega arith }

@@ -16,17 +16,17 @@ use Rattle.image.proofs.put.put_image.Goals as goal
 pub put_triangles-third-requires : goal.put_triangles-third-requires
 put_triangles-third-requires c =
     let a = c.args in
-    omega (arith, c.requires.0.triples, strides a.wide (length a.order.now))
+    omega (arith, c.requires.complete.triples, strides a.wide (length a.order.now))
 
 pub put_order-fourth-requires : goal.put_order-fourth-requires
 put_order-fourth-requires c =
     let a = c.args in
-    omega (arith, c.requires.0.triples, strides a.wide (length a.order.now))
+    omega (arith, c.requires.complete.triples, strides a.wide (length a.order.now))
 
 pub put_tree-requires : goal.put_tree-requires
 put_tree-requires c =
     let a = c.args in
-    omega (arith, c.requires.0.triples, strides a.wide (length a.order.now))
+    omega (arith, c.requires.complete.triples, strides a.wide (length a.order.now))
 
 pub returns : goal.returns
 unfolding image_bytes
@@ -36,8 +36,5 @@ returns c =
     let x = image_of a.settings a.triangles.now a.order.now a.links.now a.boxes.now a.nodes in
     let floats : float_bytes binary32 a.triangles.now 0 (length a.triangles.now) ≡ triangles_body sh x =
     ap (λ (f : Format). float_bytes f a.triangles.now 0 (length a.triangles.now)) (sym (wide_float a.wide)) in
-    let triangles = put_same (ap (record_of 2) floats) c.put_triangles-third.ensures.0 in (
-      put_then (put_then (put_then c.put_settings-second.ensures.0 triangles) c.put_order-fourth.ensures.0)
-          c.put_tree.ensures.0,
-      omega (arith, c.requires.0.triples, strides a.wide (length a.order.now)),
-    )
+    let triangles = put_same (ap (record_of 2) floats) c.put_triangles-third.ensures.put in record { put = put_then (put_then (put_then c.put_settings-second.ensures.put triangles) c.put_order-fourth.ensures.put)
+          c.put_tree.ensures.put; value = omega (arith, c.requires.complete.triples, strides a.wide (length a.order.now)) }

@@ -25,5 +25,5 @@ pub returns : goal.returns
 unfolding node_bytes
 returns c =
     let a = c.args in
-    let links = put_then c.put_u16s-sides.ensures.0 c.put_entries-bounds.ensures.0 in
-    (rw (wide_float a.wide) (put_then links c.put_f32s.ensures.0), omega (arith, strides a.wide a.node))
+    let links = put_then c.put_u16s-sides.ensures.put c.put_entries-bounds.ensures.put in
+    record { put = rw (wide_float a.wide) (put_then links c.put_f32s.ensures.put); value = omega (arith, strides a.wide a.node) }

@@ -12,7 +12,7 @@ pub loop-i-init : goal.loop-i-init
 loop-i-init c =
     let a = c.args in
     let sh = shape_by a.wide in
-    puts_start (node_bytes sh a.links.now a.boxes.now) (node_size sh) a.at a.nodes a.out.now c.requires.1
+    puts_start (node_bytes sh a.links.now a.boxes.now) (node_size sh) a.at a.nodes a.out.now c.requires.nodes_in_bounds_2
 
 pub put_node-next-requires : goal.put_node-next-requires
 put_node-next-requires c =
@@ -24,7 +24,7 @@ loop-i-preserved c =
     let a = c.args in
     let sh = shape_by a.wide in
     puts_more (node_bytes sh a.links.now a.boxes.now) (node_size sh) a.at a.nodes c.loop-i-test.true c.loop-i.invariant
-    c.put_node-next.ensures.0 c.put_node-next.ensures.1
+    c.put_node-next.ensures.put c.put_node-next.ensures.value
 
 pub shape_of-out : goal.shape_of-out
 shape_of-out c = c.loop-i.invariant.long

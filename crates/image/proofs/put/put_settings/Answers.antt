@@ -21,7 +21,7 @@ pub returns : goal.returns
 unfolding settings_bytes
 returns c =
     let a = c.args in
-    let first = put_same (ap (little 2) c.version.ensures) c.put_u16-a.ensures.0 in
-    let numbers = put_then (put_then (put_then first c.put_u16-b.ensures.0) c.put_u16-c.ensures.0)
-    c.put_u16.ensures.0 in
-    (record_put 1 8 (length_settings (shape_by a.wide) (as_settings a.settings)) c.put_header-body.ensures.0 numbers, omega arith)
+    let first = put_same (ap (little 2) c.version.ensures) c.put_u16-a.ensures.put in
+    let numbers = put_then (put_then (put_then first c.put_u16-b.ensures.put) c.put_u16-c.ensures.put)
+    c.put_u16.ensures.put in
+    record { put = record_put 1 8 (length_settings (shape_by a.wide) (as_settings a.settings)) c.put_header-body.ensures.put numbers; value = omega arith }

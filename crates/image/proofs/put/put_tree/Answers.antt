@@ -11,7 +11,7 @@ use Rattle.image.proofs.put.put_tree.Goals as goal
 
 pub nodes_size-requires : goal.nodes_size-requires
 nodes_size-requires c =
-    omega (arith, c.requires.0.1, c.well_formed)
+    omega (arith, c.requires.nodes_in_bounds.1, c.well_formed)
 
 pub returns : goal.returns
 returns c =
@@ -19,5 +19,5 @@ returns c =
     let sh = shape_by a.wide in
     let nodes = node_bytes sh a.links.now a.boxes.now in
     let long = length_concat_map nodes (node_size sh) a.nodes (length_node sh a.links.now a.boxes.now) in
-    let header = rw c.nodes_size.ensures at c.put_header-body.ensures.0 in
-    (record_put 4 (node_size sh * a.nodes) long header c.put_nodes.ensures.0, omega arith)
+    let header = rw c.nodes_size.ensures at c.put_header-body.ensures.put in
+    record { put = record_put 4 (node_size sh * a.nodes) long header c.put_nodes.ensures.put; value = omega arith }

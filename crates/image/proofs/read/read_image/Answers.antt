@@ -21,7 +21,7 @@ read_lists-requires c =
     let room = enough (rooms_in a.triangles.now a.order.now a.links.now a.boxes.now) _ _
     (sym c.has_room.ensures ∙ c.if-has_room.true) in
     let version = version_picked c.in-Right.count c.is_wide-wide.ensures in
-    (rw version (omega (arith, long)), ((room.triangles, room.order), (room.links, room.boxes)))
+    record { nodes_in_bounds = rw version (omega (arith, long)); count_in_bounds = (room.triangles, room.order); nodes_in_bounds_2 = (room.links, room.boxes) }
 
 pub settings_of-requires : goal.settings_of-requires
 settings_of-requires c =

@@ -11,19 +11,19 @@ pub put_image-requires : goal.put_image-requires
 put_image-requires c =
     let a = c.args in
     let version = version_picked _ c.is_wide-wide.ensures ∙ ap version_for c.triangle_count.ensures in
-    rw version (can_put (image_from a.strategy a.leaf-minimum a.maximum-depth a.triangles.now a.order.now a.links.now a.boxes.now
+    rw version (can_put (image_from a.strategy a.leaf_minimum a.maximum_depth a.triangles.now a.order.now a.links.now a.boxes.now
     a.nodes) a.out.now c.write_refusal-verdict.ensures c.in-Passed.is)
 
 pub returns-in-Refused : goal.returns-in-Refused
 returns-in-Refused c =
     let a = c.args in
-    wrote_nothing (image_from a.strategy a.leaf-minimum a.maximum-depth a.triangles.now a.order.now a.links.now a.boxes.now
+    wrote_nothing (image_from a.strategy a.leaf_minimum a.maximum_depth a.triangles.now a.order.now a.links.now a.boxes.now
     a.nodes) a.out.now c.write_refusal-verdict.ensures c.in-Refused.is
 
 pub returns-in-Passed : goal.returns-in-Passed
 returns-in-Passed c =
     let a = c.args in
     let version = version_picked _ c.is_wide-wide.ensures ∙ ap version_for c.triangle_count.ensures in
-    wrote_image (image_from a.strategy a.leaf-minimum a.maximum-depth a.triangles.now a.order.now a.links.now a.boxes.now
+    wrote_image (image_from a.strategy a.leaf_minimum a.maximum_depth a.triangles.now a.order.now a.links.now a.boxes.now
     a.nodes) a.out.now c.write_refusal-verdict.ensures c.in-Passed.is
-    (rw version at c.put_image.ensures.0) (rw version at c.put_image.ensures.1)
+    (rw version at c.put_image.ensures.put) (rw version at c.put_image.ensures.value)

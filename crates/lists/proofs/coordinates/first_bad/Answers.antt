@@ -13,14 +13,14 @@ pub returns-then-not-is_coordinate : goal.returns-then-not-is_coordinate
 returns-then-not-is_coordinate c =
     let loop = c.loop-i in
     let list = c.args.numbers.now in
-    let found = bad_here list loop.i c.loop-i-test.true (sym c.is_coordinate.ensures ∙ not-true _ c.if-not-is_coordinate.true) in
+    let found = bad_here list loop.i c.loop-i-test.true (sym c.is_coordinate.ensures ∙ c.if-not-is_coordinate.true) in
     omega (arith, loop.invariant)
 
 pub loop-i-preserved : goal.loop-i-preserved
 loop-i-preserved c =
     let loop = c.loop-i in
     let list = c.args.numbers.now in
-    let next = good_here list loop.i c.loop-i-test.true (sym c.is_coordinate.ensures ∙ not-false _ c.if-not-is_coordinate.false) in
+    let next = good_here list loop.i c.loop-i-test.true (sym c.is_coordinate.ensures ∙ c.if-not-is_coordinate.false) in
     omega (arith, loop.invariant)
 
 pub returns : goal.returns

@@ -6,4 +6,4 @@ use borrow.Author.Rules.{rules}
 use Rattle.printing.proofs.lines.put_byte.Goals as goal
 
 pub returns : goal.returns
-returns c = (put_store c.args.at c.args.byte c.args.out.now (omega arith), refl)
+returns c = record { put = put_store c.args.at c.args.byte c.args.out.now (omega arith); value = refl }

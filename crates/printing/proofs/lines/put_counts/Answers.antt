@@ -7,9 +7,8 @@ use Rattle.printing.proofs.lines.put_counts.Goals as goal
 
 pub returns : goal.returns
 unfolding triangles_word nodes_word depth_word counts_line
-returns c =
-    (
-      put_then (put_then (put_then c.put_named-a.ensures.0 c.put_named-b.ensures.0)
-          c.put_named-c.ensures.0) c.put_byte.ensures.0,
-      omega arith,
-    )
+returns c = record {
+  put = put_then (put_then (put_then c.put_named-a.ensures.put c.put_named-b.ensures.put)
+      c.put_named-c.ensures.put) c.put_byte.ensures.put;
+  upper_bound = omega arith;
+}

@@ -8,10 +8,10 @@ use Rattle.printing.proofs.lines.put_found.Goals as goal
 pub returns : goal.returns
 unfolding found_word found_line
 returns c =
-    let front = put_then (put_then c.put_decimal-a.ensures.0 c.put_named-b.ensures.0)
-    c.put_spaced_hex-c.ensures.0 in (
-      put_then (put_then (put_then (put_then (put_then front c.put_spaced_hex-d.ensures.0)
-          c.put_spaced_hex-e.ensures.0) c.put_spaced_hex-f.ensures.0)
-          c.put_spaced_decimal-g.ensures.0) c.put_byte.ensures.0,
-      omega arith,
-    )
+    let front = put_then (put_then c.put_decimal-a.ensures.put c.put_named-b.ensures.put)
+    c.put_spaced_hex-c.ensures.put in record {
+      put = put_then (put_then (put_then (put_then (put_then front c.put_spaced_hex-d.ensures.put)
+          c.put_spaced_hex-e.ensures.put) c.put_spaced_hex-f.ensures.put)
+          c.put_spaced_decimal-g.ensures.put) c.put_byte.ensures.put;
+      upper_bound = omega arith;
+    }

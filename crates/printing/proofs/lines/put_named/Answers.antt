@@ -8,4 +8,4 @@ use Rattle.printing.proofs.lines.put_named.Goals as goal
 pub returns : goal.returns
 unfolding named
 returns c =
-    (put_then c.put_word-next.ensures c.put_spaced_decimal.ensures.0, omega arith)
+    record { put = put_then c.put_word-next.ensures c.put_spaced_decimal.ensures.put; upper_bound = omega arith }

@@ -7,8 +7,4 @@ use Rattle.printing.proofs.lines.put_nothing.Goals as goal
 
 pub returns : goal.returns
 unfolding nothing_word nothing_line
-returns c =
-    (
-      put_then (put_then c.put_decimal-a.ensures.0 c.put_word-b.ensures) c.put_byte.ensures.0,
-      omega arith,
-    )
+returns c = record { put = put_then (put_then c.put_decimal-a.ensures.put c.put_word-b.ensures) c.put_byte.ensures.put; upper_bound = omega arith }

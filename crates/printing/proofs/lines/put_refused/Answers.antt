@@ -7,9 +7,8 @@ use Rattle.printing.proofs.lines.put_refused.Goals as goal
 
 pub returns : goal.returns
 unfolding refused_word refused_line
-returns c =
-    (
-      put_then (put_then c.put_named-a.ensures.0 c.put_spaced_decimal-b.ensures.0)
-          c.put_byte.ensures.0,
-      omega arith,
-    )
+returns c = record {
+  put = put_then (put_then c.put_named-a.ensures.put c.put_spaced_decimal-b.ensures.put)
+      c.put_byte.ensures.put;
+  upper_bound = omega arith;
+}

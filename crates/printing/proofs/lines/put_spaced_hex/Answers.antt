@@ -8,4 +8,4 @@ use Rattle.printing.proofs.lines.put_spaced_hex.Goals as goal
 pub returns : goal.returns
 unfolding spaced_hex
 returns c =
-    (put_then c.put_byte-next.ensures.0 c.put_hex.ensures.0, omega arith)
+    record { put = put_then c.put_byte-next.ensures.put c.put_hex.ensures.put; value = omega arith }

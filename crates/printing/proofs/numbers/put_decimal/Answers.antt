@@ -10,4 +10,4 @@ use Rattle.printing.proofs.numbers.put_decimal.Goals as goal
 pub returns : goal.returns
 unfolding decimal
 returns c =
-    (put_same (ap (λ (k : ℕ). digits 10 k c.args.n) c.width_of.ensures.0) c.put_digits.ensures.0, omega arith)
+    record { put = put_same (ap (λ (k : ℕ). digits 10 k c.args.n) c.width_of.ensures.0) c.put_digits.ensures.put; upper_bound = omega arith }

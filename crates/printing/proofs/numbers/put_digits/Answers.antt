@@ -13,7 +13,7 @@ loop-remaining-init c =
     back_start a.base a.at a.count a.n a.out.now
 
 pub digit_of-requires : goal.digit_of-requires
-digit_of-requires c = omega (arith, mod-lt c.loop-remaining.rest c.requires.1.0)
+digit_of-requires c = omega (arith, mod-lt c.loop-remaining.rest c.requires.base_nonzero.0)
 
 pub overflow_add-out : goal.overflow_add-out
 overflow_add-out c = omega (arith, c.loop-remaining.invariant.sized)
@@ -25,7 +25,7 @@ bounds-out-at c =
 pub loop-remaining-preserved : goal.loop-remaining-preserved
 loop-remaining-preserved c =
     let a = c.args in
-    back_more a.base a.at a.count a.n a.out.now _ c.loop-remaining.remaining c.loop-remaining.rest _ (c.loop-remaining.remaining - 1) c.requires.0
+    back_more a.base a.at a.count a.n a.out.now _ c.loop-remaining.remaining c.loop-remaining.rest _ (c.loop-remaining.remaining - 1) c.requires.count_in_bounds
     (omega arith) c.digit_of.ensures c.loop-remaining.invariant
 
 pub shape_of-out : goal.shape_of-out
@@ -33,8 +33,8 @@ shape_of-out c = c.loop-remaining.invariant.long
 
 pub returns : goal.returns
 returns c =
-    let a = c.args in (
-      back_end a.base a.at a.count a.n a.out.now _ c.loop-remaining.remaining c.loop-remaining.rest c.requires.0
-          c.loop-remaining-test.false c.loop-remaining.invariant,
-      refl,
-    )
+    let a = c.args in record {
+      put = back_end a.base a.at a.count a.n a.out.now _ c.loop-remaining.remaining c.loop-remaining.rest c.requires.count_in_bounds
+          c.loop-remaining-test.false c.loop-remaining.invariant;
+      value = refl;
+    }

@@ -6,4 +6,4 @@ use Rattle.printing.proofs.numbers.put_hex.Goals as goal
 
 pub returns : goal.returns
 unfolding hex
-returns c = (c.put_digits.ensures.0, omega arith)
+returns c = record { put = c.put_digits.ensures.put; value = omega arith }

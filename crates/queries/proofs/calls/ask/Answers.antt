@@ -27,10 +27,7 @@ put_answers-requires c =
 
 pub returns : goal.returns
 returns c =
-    let a = c.args in (
-      c.query_refusal-verdict.ensures,
-      is_answered binary32 (most_by (as_query a.query))
+    let a = c.args in record { verdict = c.query_refusal-verdict.ensures; answers = is_answered binary32 (most_by (as_query a.query))
           (answer_by binary32 (as_query a.query) a.triangles.now a.order.now a.links.now a.boxes.now a.nodes a.distance)
           a.points.now a.answers.now _ _ (c.query_refusal-verdict.ensures ∙ did_pass _ _ _ c.query_refusal-verdict.ensures
-          c.refuses.ensures c.if-refuses.false) c.put_answers.ensures,
-    )
+          c.refuses.ensures c.if-refuses.false) c.put_answers.ensures }

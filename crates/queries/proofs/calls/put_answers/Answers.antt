@@ -12,15 +12,15 @@ use Rattle.queries.proofs.calls.put_answers.Goals as goal
 
 pub put_few-requires : goal.put_few-requires
 put_few-requires c =
-    (c.requires.0, ((omega arith, omega arith), rw c.in-Sure.is at c.requires.1.0))
+    record { askable = c.requires.askable; le_most = (omega arith, omega arith); points_in_bounds = rw c.in-Sure.is at c.requires.points_in_bounds }
 
 pub put_few-requires-in-Few : goal.put_few-requires-in-Few
 put_few-requires-in-Few c =
-    (c.requires.0, rw c.wide.ensures (rw c.in-Few.is at c.requires.1.1, rw c.in-Few.is at c.requires.1.0))
+    (c.requires.askable, rw c.wide.ensures (rw c.in-Few.is at c.requires.bound, rw c.in-Few.is at c.requires.points_in_bounds))
 
 pub put_source-requires : goal.put_source-requires
 put_source-requires c =
-    (c.requires.0, rw c.in-Source.is at c.requires.1.0)
+    record { askable = c.requires.askable; points_in_bounds = rw c.in-Source.is at c.requires.points_in_bounds }
 
 pub returns-in-Sure : goal.returns-in-Sure
 returns-in-Sure c =

@@ -31,7 +31,7 @@ as_many out at best which {new} e = subst (λ (n : ℕ). new ≡ overwrite at (p
 
 pub overflow_mul-width : goal.overflow_mul-width
 overflow_mul-width c =
-    omega (arith, c.requires.1.0.1)
+    omega (arith, c.requires.le_most.1)
 
 pub loop-k-init : goal.loop-k-init
 loop-k-init c =
@@ -49,20 +49,14 @@ point_at-touched-requires c = omega (arith, point_inside _ _ (rw c.point_count-c
 
 pub few_at-requires : goal.few_at-requires
 few_at-requires c =
-    let ask = c.requires.0 in (
-      ask.searchable,
-      (
-        rw c.point_at-touched.ensures (point_finite _ ask.points_good.coordinates _
-            (omega (arith, point_inside _ _ (rw c.point_count-count.ensures at c.loop-k-test.true)))),
-        (ask.distance_good, (c.requires.1.0, c.loop-k.invariant.1)),
-      ),
-    )
+    let ask = c.requires.askable in record { searchable = ask.searchable; finite = rw c.point_at-touched.ensures (point_finite _ ask.points_good.coordinates _
+            (omega (arith, point_inside _ _ (rw c.point_count-count.ensures at c.loop-k-test.true)))); good_distance = ask.distance_good; le_most = c.requires.le_most; lent = c.loop-k.invariant.1 }
 
 pub overflow_mul-width-in-loop-k : goal.overflow_mul-width-in-loop-k
 overflow_mul-width-in-loop-k c =
     let a = c.args in
     let room = answers_room binary32 a.most (few_answer binary32 (rule_of a.rule) a.most a.triangles.now a.distance) a.points.now
-    a.answers.now _ _ _ (rw (← c.point_count-count.ensures) at c.requires.1.1) c.loop-k-test.true c.loop-k.invariant.0 in
+    a.answers.now _ _ _ (rw (← c.point_count-count.ensures) at c.requires.points_in_bounds) c.loop-k-test.true c.loop-k.invariant.0 in
     let small : length a.answers.now < 2 ^ 64 = c.well_formed.1.1.1.1.1.1.1.1.1.0.0 in
     within_fits _ _ small (within _ _ (rw c.loop-k.invariant.0.long at room))
 
@@ -70,18 +64,15 @@ pub put_places-requires : goal.put_places-requires
 put_places-requires c =
     let a = c.args in
     let room = answers_room binary32 a.most (few_answer binary32 (rule_of a.rule) a.most a.triangles.now a.distance) a.points.now
-    a.answers.now _ _ _ (rw (← c.point_count-count.ensures) at c.requires.1.1) c.loop-k-test.true c.loop-k.invariant.0 in
-    let most_is = c.few_at.ensures.most_is in (
-      subst (λ (n : ℕ). n ≤ 16) (sym most_is) c.requires.1.0.1,
-      subst (λ (n : ℕ). (answer_width * a.most) * c.loop-k.k + answer_width * n ≤ length c.loop-k.answers) (sym most_is) room,
-    )
+    a.answers.now _ _ _ (rw (← c.point_count-count.ensures) at c.requires.points_in_bounds) c.loop-k-test.true c.loop-k.invariant.0 in
+    let most_is = c.few_at.ensures.most_is in record { which_bound = subst (λ (n : ℕ). n ≤ 16) (sym most_is) c.requires.le_most.1; which_in_bounds = subst (λ (n : ℕ). (answer_width * a.most) * c.loop-k.k + answer_width * n ≤ length c.loop-k.answers) (sym most_is) room }
 
 pub loop-k-preserved : goal.loop-k-preserved
 loop-k-preserved c =
     let a = c.args in
     let answer = few_answer binary32 (rule_of a.rule) a.most a.triangles.now a.distance in
     let held = c.few_at.ensures in (
-      answered_more binary32 a.most answer a.points.now a.answers.now _ _ _ _ _ (rw (← c.point_count-count.ensures) at c.requires.1.1)
+      answered_more binary32 a.most answer a.points.now a.answers.now _ _ _ _ _ (rw (← c.point_count-count.ensures) at c.requires.points_in_bounds)
           c.loop-k-test.true c.loop-k.invariant.0
           (point_words_same binary32 a.most _ _ held.answers_are ∙ ap (λ p. point_words binary32 a.most (answer p)) c.point_at-touched.ensures)
           (as_many c.loop-k.answers ((answer_width * a.most) * c.loop-k.k) _ _ held.most_is c.put_places.ensures),

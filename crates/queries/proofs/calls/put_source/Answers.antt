@@ -25,18 +25,18 @@ point_at-p-requires c = omega (arith, point_inside _ _ (rw c.point_count-count.e
 
 pub source_at-answer-requires : goal.source_at-answer-requires
 source_at-answer-requires c =
-    c.requires.0.searchable
+    c.requires.askable.searchable
 
 pub put_answer-requires : goal.put_answer-requires
 put_answer-requires c =
-    omega (arith, c.requires.1, c.point_count-count.ensures, c.loop-k.invariant.long, c.loop-k-test.true)
+    omega (arith, c.requires.points_in_bounds, c.point_count-count.ensures, c.loop-k.invariant.long, c.loop-k-test.true)
 
 pub loop-k-preserved : goal.loop-k-preserved
 loop-k-preserved c =
     let a = c.args in
     let answer = source_answer binary32 a.triangles.now a.order.now a.links.now a.boxes.now a.nodes a.distance in
     answered_more binary32 1 (λ (p : Point) (j : ℕ). answer p) a.points.now a.answers.now _ _ _ _ _
-    (omega (arith, c.requires.1, c.point_count-count.ensures)) c.loop-k-test.true c.loop-k.invariant
+    (omega (arith, c.requires.points_in_bounds, c.point_count-count.ensures)) c.loop-k-test.true c.loop-k.invariant
     (ap (words_of binary32) (c.source_at-answer.ensures ∙ ap answer c.point_at-p.ensures) ∙ sym (one_place binary32 (λ j. answer _)))
     c.put_answer.ensures
 

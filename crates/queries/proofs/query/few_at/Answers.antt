@@ -20,7 +20,7 @@ pub search-requires : goal.search-requires
 unfolding limit_squared
 search-requires c =
     let pre = c.requires in
-    (pre.0, (limit_bounded binary32 c.args.distance pre.1.1.0, (pre.1.1.1.0, pre.1.1.1.1)))
+    record { searchable = pre.searchable; false_value = limit_bounded binary32 c.args.distance pre.good_distance; le_most = pre.le_most; lent = pre.lent }
 
 pub returns : goal.returns
 unfolding few_answer limit_squared
@@ -31,11 +31,11 @@ returns c =
     let limit = limit_of binary32 (rule_of a.rule) a.distance in
     let walk = few_walk binary32 a.triangles.now a.order.now a.links.now a.boxes.now a.nodes p a.most limit in
     let held = reached_answers limit.squared walk (marker limit.squared) c.search.ensures
-    (λ j l. marked_answers binary32 a.triangles.now a.order.now a.links.now a.boxes.now _ a.nodes (entries_below _ _ _ _ _ pre.0)
-    (numbers_low _ _ _ _ _ pre.0) p a.most pre.1.1.1.0.0 (rule_of a.rule) limit.squared
-    (limit_bounded binary32 a.distance pre.1.1.0) j (marker limit.squared) l) in
-    let scanned = walk_is_scan binary32 a.triangles.now p a.most limit pre.0.triangles_good pre.1.0 a.order.now a.links.now
-    a.boxes.now a.nodes pre.0.tree_accepted in
+    (λ j l. marked_answers binary32 a.triangles.now a.order.now a.links.now a.boxes.now _ a.nodes (entries_below _ _ _ _ _ pre.searchable)
+    (numbers_low _ _ _ _ _ pre.searchable) p a.most pre.le_most.0 (rule_of a.rule) limit.squared
+    (limit_bounded binary32 a.distance pre.good_distance) j (marker limit.squared) l) in
+    let scanned = walk_is_scan binary32 a.triangles.now p a.most limit pre.searchable.triangles_good pre.finite a.order.now a.links.now
+    a.boxes.now a.nodes pre.searchable.tree_accepted in
     record {
       c = held.lent;
       most_is = held.most_is;

@@ -19,12 +19,12 @@ returns-then-last-at-2 c =
 
 pub returns-then-u16_at-kind : goal.returns-then-u16_at-kind
 returns-then-u16_at-kind c =
-    rw (record_other c.args.kind c.args.bytes.now c.args.at (λ e. c.if-u16_at-kind.true (c.u16_at.ensures.0 ∙ e)))
+    rw (record_other c.args.kind c.args.bytes.now c.args.at (λ e. c.if-u16_at-kind.true (c.u16_at.ensures.value ∙ e)))
 
 pub returns : goal.returns
 returns c =
     rw (
       record_there c.args.kind c.args.bytes.now c.args.at (omega (arith, c.u32_at-size.ensures))
-          (sym c.u16_at.ensures.0 ∙ c.if-u16_at-kind.false),
+          (sym c.u16_at.ensures.value ∙ c.if-u16_at-kind.false),
       ← c.u32_at-size.ensures,
     )

@@ -14,7 +14,7 @@ u16_at-requires c =
 pub returns-then-has_body : goal.returns-then-has_body
 returns-then-has_body c =
     let s = c.args.bytes.now in
-    c.is_known.ensures ∙ ap is_known c.u16_at.ensures.0
+    c.is_known.ensures ∙ ap is_known c.u16_at.ensures.value
     ∙ sym (version_decides s (sym c.has_body.ensures ∙ c.if-has_body.true))
 
 pub returns : goal.returns

@@ -28,7 +28,7 @@ returns-then-version-u16_at c =
     let size = c.in-Right.size in
     let right = is_right 2 (whole 36) s 14 c.whole_body.ensures c.in-Right.is in
     let kept = c.version.ensures ∙ ap (λ (sh : Shape). sh.version) (version_picked (size / 36) c.is_wide.ensures) in
-    let read = c.u16_at.ensures.0 in
+    let read = c.u16_at.ensures.value in
     let other = ne_eqb (version_for (size / 36)).version (little_at 2 s 6) (λ e. c.if-version-u16_at.true (kept ∙ e ∙ sym read)) in
     rw (count_decides (little_at 2 s 6) s 14 right, other)
 
@@ -38,6 +38,6 @@ returns c =
     let size = c.in-Right.size in
     let right = is_right 2 (whole 36) s 14 c.whole_body.ensures c.in-Right.is in
     let kept = c.version.ensures ∙ ap (λ (sh : Shape). sh.version) (version_picked (size / 36) c.is_wide.ensures) in
-    let read = c.u16_at.ensures.0 in
+    let read = c.u16_at.ensures.value in
     let same = eq-eqb (version_for (size / 36)).version (little_at 2 s 6) (sym kept ∙ c.if-version-u16_at.false ∙ read) in
     rw (count_decides (little_at 2 s 6) s 14 right, same, right.sized)

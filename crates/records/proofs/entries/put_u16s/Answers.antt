@@ -14,7 +14,7 @@ loop-i-init c = puts_start _ _ _ _ _ c.requires.1
 pub loop-i-preserved : goal.loop-i-preserved
 loop-i-preserved c =
     puts_more _ _ _ _ c.loop-i-test.true c.loop-i.invariant
-    (put_same (ap (little 2) c.whole.ensures) c.put_u16-next.ensures.0) c.put_u16-next.ensures.1
+    (put_same (ap (little 2) c.whole.ensures) c.put_u16-next.ensures.put) c.put_u16-next.ensures.value
 
 pub shape_of-out : goal.shape_of-out
 shape_of-out c = c.loop-i.invariant.long

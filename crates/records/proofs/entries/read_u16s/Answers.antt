@@ -11,7 +11,7 @@ loop-i-init c = run_start _ 1 _ _ _
 
 pub loop-i-preserved : goal.loop-i-preserved
 loop-i-preserved c =
-    run_store _ _ _ _ _ _ _ c.requires.1 c.loop-i-test.true c.loop-i.invariant c.u16_at.ensures.0
+    run_store _ _ _ _ _ _ _ c.requires.1 c.loop-i-test.true c.loop-i.invariant c.u16_at.ensures.value
 
 pub shape_of-out : goal.shape_of-out
 shape_of-out c = c.loop-i.invariant.long

@@ -7,7 +7,7 @@ use borrow.Author.Rules.{rules}
 use Rattle.records.proofs.numbers.put_u16.Goals as goal
 
 pub returns : goal.returns
-returns c = (two_put c.args.n c.args.at c.args.out.now c.requires, refl)
+returns c = record { put = two_put c.args.n c.args.at c.args.out.now c.requires; value = refl }
 
 pub bounds-out-at-2 : goal.bounds-out-at-2
 bounds-out-at-2 c = simp length-set (omega arith)

@@ -6,7 +6,4 @@ use Rattle.records.proofs.numbers.put_u32.Goals as goal
 
 pub returns : goal.returns
 returns c =
-    (
-      four_put c.args.n c.put_u16-middle.ensures.0 c.put_u16.ensures.0,
-      omega (arith, c.put_u16-middle.ensures.1, c.put_u16.ensures.1),
-    )
+    record { put = four_put c.args.n c.put_u16-middle.ensures.put c.put_u16.ensures.put; value = omega (arith, c.put_u16-middle.ensures.value, c.put_u16.ensures.value) }

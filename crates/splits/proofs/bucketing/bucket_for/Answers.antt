@@ -15,7 +15,7 @@ pub truncating_f32_to_u64-requires : goal.truncating_f32_to_u64-requires
 unfolding of_bits
 truncating_f32_to_u64-requires c =
     let x = mul binary32 twelve c.args.offset in
-    (above_minus_one x (passed c.if-x-2.true), below_limit x (failed c.if-x.false) (passed c.if-x-2.true))
+    record { lower_bound = above_minus_one x (passed c.if-x-2.true); upper_bound = below_limit x (failed c.if-x.false) (passed c.if-x-2.true) }
 
 pub returns-then-x-2 : goal.returns-then-x-2
 unfolding bucket_for of_bits

@@ -19,7 +19,7 @@ loop-i-init c =
 
 pub bucket_of-k-requires : goal.bucket_of-k-requires
 bucket_of-k-requires c =
-    c.requires.1 c.loop-i.i c.loop-i-test.true
+    c.requires.all_in_table c.loop-i.i c.loop-i-test.true
 
 pub offset_bounds-buckets-k : goal.offset_bounds-buckets-k
 offset_bounds-buckets-k c = omega (arith, between_below binary32 _ _ _ _ c.bucket_of-k.result c.bucket_of-k.ensures)
@@ -29,7 +29,7 @@ bounds-buckets-k c = between_below binary32 _ _ _ _ c.bucket_of-k.result c.bucke
 
 pub box_at-requires : goal.box_at-requires
 box_at-requires c =
-    c.requires.1 c.loop-i.i c.loop-i-test.true
+    c.requires.all_in_table c.loop-i.i c.loop-i-test.true
 
 pub with_box-new-requires : goal.with_box-new-requires
 with_box-new-requires c =
@@ -37,7 +37,7 @@ with_box-new-requires c =
     let loop = c.loop-i in
     filling_small as_bucket binary32 (bucket_between binary32 (as_axis args.axis) args.within.lo args.within.hi) (box_in args.bounds.now)
     args.slice.now loop.buckets.each loop.i c.bucket_of-k.result no_bucket loop.invariant
-    (between_below binary32 _ _ _ _ c.bucket_of-k.result c.bucket_of-k.ensures) c.loop-i-test.true c.requires.0
+    (between_below binary32 _ _ _ _ c.bucket_of-k.result c.bucket_of-k.ensures) c.loop-i-test.true c.requires.slice_len_bound
 
 pub offset_bounds-buckets-k-in-loop-i : goal.offset_bounds-buckets-k-in-loop-i
 offset_bounds-buckets-k-in-loop-i c =

@@ -20,7 +20,7 @@ loop-i-init c =
 pub merged-left-requires : goal.merged-left-requires
 merged-left-requires c =
     let loop = c.loop-i in
-    up_fits as_bucket binary32 c.args.t1.each no_bucket (search (unmapped, c.well_formed)) _ loop.i loop.invariant.0 c.requires.0
+    up_fits as_bucket binary32 c.args.t1.each no_bucket (search (unmapped, c.well_formed)) _ loop.i loop.invariant.0 c.requires.are_small
 
 pub loop-i-preserved : goal.loop-i-preserved
 unfolding cost_at
@@ -29,13 +29,13 @@ loop-i-preserved c =
     let rights = c.right_sides-rights in
     let rights_full : length rights.result.each ≡ 12 = search (unmapped, rights.type-inv) in
     let loop = c.loop-i in
-    let left = left_side as_bucket binary32 c.args.t1.each no_bucket full _ loop.i loop.invariant.0 c.requires.0 _ c.merged-left.ensures in
+    let left = left_side as_bucket binary32 c.args.t1.each no_bucket full _ loop.i loop.invariant.0 c.requires.are_small _ c.merged-left.ensures in
     let right =
     sym (at_map as_bucket rights.result.each loop.i no_bucket (empty_bucket binary32) (omega (arith, rights_full)))
     ∙ ap (λ (l : List Bucket). bucket_at binary32 l loop.i) rights.ensures
-    ∙ right_side binary32 (as_buckets c.args.t1) loop.i (length-map c.args.t1.each as_bucket ∙ full) c.requires.1 in
+    ∙ right_side binary32 (as_buckets c.args.t1) loop.i (length-map c.args.t1.each as_bucket ∙ full) c.requires.are_plain in
     let cost : _ ≡ cost_at binary32 (as_box c.args.parent) (as_buckets c.args.t1) loop.i = c.cost_of.ensures ∙ rw (left, right) in (
-      up_goes_on as_bucket binary32 c.args.t1.each no_bucket full _ loop.i loop.invariant.0 c.requires.0 _ c.merged-left.ensures (omega arith),
+      up_goes_on as_bucket binary32 c.args.t1.each no_bucket full _ loop.i loop.invariant.0 c.requires.are_small _ c.merged-left.ensures (omega arith),
       (simp length-set loop.invariant.1.0, stored_on _ loop.costs loop.i _ (omega (arith, loop.invariant.1.0)) cost loop.invariant.1.1),
     )
 

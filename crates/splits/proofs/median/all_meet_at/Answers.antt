@@ -11,7 +11,7 @@ pub plane_between-requires : goal.plane_between-requires
 plane_between-requires c =
     let args = c.args in
     let pre = c.requires in
-    (pre.1.1 args.cut pre.1.0, pre.1.1 (args.cut - 1) (omega arith))
+    record { in_table = pre.all_in_table args.cut pre.cut_in_bounds; in_table_2 = pre.all_in_table (args.cut - 1) (omega arith) }
 
 pub returns : goal.returns
 unfolding all_meet_at
@@ -21,6 +21,6 @@ returns c =
     rw (
       c.all_meet.ensures,
       c.plane_between.ensures,
-      at_map (box_in args.bounds.now) args.slice.now args.cut 0 (empty binary32) pre.1.0,
+      at_map (box_in args.bounds.now) args.slice.now args.cut 0 (empty binary32) pre.cut_in_bounds,
       at_map (box_in args.bounds.now) args.slice.now (args.cut - 1) 0 (empty binary32) (omega arith),
     )

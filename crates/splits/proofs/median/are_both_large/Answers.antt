@@ -12,15 +12,15 @@ pub is_large-requires : goal.is_large-requires
 is_large-requires c =
     let args = c.args in
     let pre = c.requires in
-    let inside = pre.1.0 in
-    (simp length-take (omega arith), in_table_before args.bounds.now args.slice.now pre.1.1 args.cut (omega arith))
+    let inside = pre.cut_in_bounds in
+    record { slice_nonzero = simp length-take (omega arith); all_in_table = in_table_before args.bounds.now args.slice.now pre.all_in_table args.cut (omega arith) }
 
 pub is_large-requires-then-is_large : goal.is_large-requires-then-is_large
 is_large-requires-then-is_large c =
     let args = c.args in
     let pre = c.requires in
     rw (to_the_end args.cut args.slice.now)
-    (simp length-drop (omega arith), in_table_after args.bounds.now args.slice.now pre.1.1 args.cut)
+    (simp length-drop (omega arith), in_table_after args.bounds.now args.slice.now pre.all_in_table args.cut)
 
 pub returns-then-is_large : goal.returns-then-is_large
 unfolding are_both_large

@@ -5,14 +5,14 @@ use Rattle.spec_splits.specs.Median.{median_split}
 use Rattle.splits.proofs.median.median_split.Goals as goal
 
 pub all_meet_at-requires : goal.all_meet_at-requires
-all_meet_at-requires c = (omega arith, (omega arith, c.requires.1.in_table))
+all_meet_at-requires c = record { cut_nonzero = omega arith; cut_in_bounds = omega arith; all_in_table = c.requires.boxed.in_table }
 
 pub returns-then-all_meet_at : goal.returns-then-all_meet_at
 unfolding median_split
 returns-then-all_meet_at c = rw (length-map, ← c.all_meet_at.ensures, c.if-all_meet_at.true)
 
 pub are_both_large-requires : goal.are_both_large-requires
-are_both_large-requires c = (omega arith, (omega arith, c.requires.1.in_table))
+are_both_large-requires c = record { cut_nonzero = omega arith; cut_in_bounds = omega arith; all_in_table = c.requires.boxed.in_table }
 
 pub returns-then-are_both_large : goal.returns-then-are_both_large
 unfolding median_split

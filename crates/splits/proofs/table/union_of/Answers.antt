@@ -11,17 +11,17 @@ use Rattle.splits.proofs.table.union_of.Goals as goal
 
 pub box_at-joined-requires : goal.box_at-joined-requires
 box_at-joined-requires c =
-    c.requires.1 0 c.requires.0
+    c.requires.all_in_table 0 c.requires.slice_nonzero
 
 pub loop-i-init : goal.loop-i-init
 loop-i-init c =
     let args = c.args in
     ap (λ (b : Box). foldl union b (boxes_in args.bounds.now (drop 1 args.slice.now))) c.box_at-joined.ensures
-    ∙ union_from_first binary32 (box_in args.bounds.now) args.slice.now c.requires.0
+    ∙ union_from_first binary32 (box_in args.bounds.now) args.slice.now c.requires.slice_nonzero
 
 pub box_at-requires : goal.box_at-requires
 box_at-requires c =
-    c.requires.1 c.loop-i.i c.loop-i-test.true
+    c.requires.all_in_table c.loop-i.i c.loop-i-test.true
 
 pub loop-i-preserved : goal.loop-i-preserved
 loop-i-preserved c =

@@ -17,11 +17,11 @@ count_of-count-requires c =
 pub corners_refusal-requires : goal.corners_refusal-requires
 corners_refusal-requires c =
     let size = size_passed _ (did_pass _ _ _ c.size_refusal-wrong_size.ensures c.refuses.ensures c.if-refuses.false) in
-    (rw c.count_of-count.ensures.0 (omega (arith, size)), c.count_of-count.ensures.0)
+    record { count_in_bounds = rw c.count_of-count.ensures.value (omega (arith, size)); count_value = c.count_of-count.ensures.value }
 
 pub returns : goal.returns
 unfolding read_refusal
 returns c =
     goes_on _ _ _ _ _ c.size_refusal-wrong_size.ensures c.refuses.ensures c.if-refuses.false
-    (or_test _ _ _ _ _ (ends _ _ c.corners_refusal.ensures) (rw c.count_of-count.ensures.0 at c.room_refusal.ensures)
+    (or_test _ _ _ _ _ (ends _ _ c.corners_refusal.ensures) (rw c.count_of-count.ensures.value at c.room_refusal.ensures)
     c.or.ensures)

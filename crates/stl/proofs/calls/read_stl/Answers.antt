@@ -15,7 +15,7 @@ count_of-count-requires c =
 pub read_facets-requires : goal.read_facets-requires
 read_facets-requires c =
     let reads = read_passed _ _ (sym c.read_refusal.ensures ∙ ap as_verdict c.in-Passed.is) in
-    rw c.count_of-count.ensures.0 (omega (arith, reads.size), reads.fits)
+    rw c.count_of-count.ensures.value (omega (arith, reads.size), reads.fits)
 
 pub returns-in-Refused : goal.returns-in-Refused
 unfolding triangles_after
@@ -26,6 +26,6 @@ returns-in-Refused c =
 pub returns-in-Passed : goal.returns-in-Passed
 unfolding triangles_after stl_triangles
 returns-in-Passed c =
-    let count = c.count_of-count.ensures.0 in
+    let count = c.count_of-count.ensures.value in
     let e = sym c.read_refusal.ensures ∙ ap as_verdict c.in-Passed.is in
     record { answer = rw (e, ← count); triangles = rw (e, ← count) c.read_facets.ensures }

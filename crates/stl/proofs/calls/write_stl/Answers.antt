@@ -20,4 +20,4 @@ pub returns-in-Passed : goal.returns-in-Passed
 unfolding bytes_after
 returns-in-Passed c =
     let e = sym c.write_refusal.ensures ∙ ap as_verdict c.in-Passed.is in
-    record { answer = rw (e, c.put_stl.ensures.1); bytes = rw e c.put_stl.ensures.0.written }
+    record { answer = rw (e, c.put_stl.ensures.value); bytes = rw e c.put_stl.ensures.put.written }

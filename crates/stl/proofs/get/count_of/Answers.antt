@@ -5,4 +5,4 @@ use Rattle.stl.proofs.get.count_of.Goals as goal
 
 pub returns : goal.returns
 unfolding stl_count
-returns c = (c.u32_at.ensures, search rules)
+returns c = record { value = c.u32_at.ensures; upper_bound = search rules }

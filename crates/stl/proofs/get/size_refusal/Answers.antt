@@ -16,4 +16,4 @@ returns-then-size-lt84 c =
 
 pub returns : goal.returns
 unfolding size_refusal
-returns c = rw (c.refused_if-2.ensures, c.count_of.ensures.0)
+returns c = rw (c.refused_if-2.ensures, c.count_of.ensures.value)

@@ -8,5 +8,5 @@ use Rattle.stl.proofs.put.put_facet.Goals as goal
 pub returns : goal.returns
 unfolding facet_bytes
 returns c =
-    let behind = put_then c.put_f32s-attribute.ensures.0 c.put_zeros.ensures.0 in
-    (put_then c.put_zeros-corners.ensures.0 behind, omega arith)
+    let behind = put_then c.put_f32s-attribute.ensures.put c.put_zeros.ensures.put in
+    record { put = put_then c.put_zeros-corners.ensures.put behind; value = omega arith }

@@ -14,5 +14,5 @@ pub returns : goal.returns
 unfolding stl_bytes
 returns c =
     let count = c.triangle_count-count.ensures in
-    let behind = put_then c.put_u32-facets.ensures.0 c.put_facets.ensures.0 in
-    (put_then c.put_zeros-number.ensures.0 (rw count at behind), omega arith)
+    let behind = put_then c.put_u32-facets.ensures.put c.put_facets.ensures.put in
+    record { put = put_then c.put_zeros-number.ensures.put (rw count at behind); value = omega arith }

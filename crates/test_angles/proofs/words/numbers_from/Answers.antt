@@ -16,7 +16,7 @@ loop-i-preserved c =
 
 pub returns : goal.returns
 unfolding numbers_from
-returns c = (run_whole _ _ _ _ c.loop-i-test.false c.loop-i.invariant, c.loop-i.invariant.long)
+returns c = record { value = run_whole _ _ _ _ c.loop-i-test.false c.loop-i.invariant; result_len = c.loop-i.invariant.long }
 
 pub bounds-numbers-i : goal.bounds-numbers-i
 bounds-numbers-i c = omega arith

@@ -6,12 +6,12 @@ use Rattle.tree.proofs.boxes.first_unlike.Goals as goal
 
 pub returns-then-unlike-node : goal.returns-then-unlike-node
 returns-then-unlike-node c =
-    one_found _ _ _ c.requires.1 c.if-unlike-node.true
+    one_found _ _ _ c.requires.before c.if-unlike-node.true
 
 pub returns-then-is_boxed : goal.returns-then-is_boxed
 returns-then-is_boxed c =
-    one_holds _ _ _ c.requires.1 c.if-unlike-node.false (sym c.is_boxed.ensures ∙ c.if-is_boxed.true)
+    one_holds _ _ _ c.requires.before c.if-unlike-node.false (sym c.is_boxed.ensures ∙ c.if-is_boxed.true)
 
 pub returns : goal.returns
 returns c =
-    one_fails _ _ _ c.requires.1 c.if-unlike-node.false (sym c.is_boxed.ensures ∙ c.if-is_boxed.false)
+    one_fails _ _ _ c.requires.before c.if-unlike-node.false (sym c.is_boxed.ensures ∙ c.if-is_boxed.false)

@@ -9,7 +9,7 @@ use Rattle.tree.proofs.boxes.given_box.Goals as goal
 pub range_box-requires : goal.range_box-requires
 range_box-requires c =
     let range = sound_leaf _ _ _ c.requires.node_is (sym c.kind_at.ensures ∙ c.if-kind_at-eq1.true) in
-    (c.requires.entries, (omega arith, omega arith))
+    record { numbered = c.requires.entries; some = omega arith; within = omega arith }
 
 pub returns-then-kind_at-eq1 : goal.returns-then-kind_at-eq1
 returns-then-kind_at-eq1 c =

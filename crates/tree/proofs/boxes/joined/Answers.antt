@@ -14,15 +14,15 @@ use Rattle.tree.proofs.boxes.joined.Goals as goal
 
 pub box_at-over-requires : goal.box_at-over-requires
 box_at-over-requires c =
-    rw c.wide.ensures (triangle_inside _ _ (c.requires.1 0 c.requires.0))
+    rw c.wide.ensures (triangle_inside _ _ (c.requires.numbered 0 c.requires.some))
 
 pub loop-i-init : goal.loop-i-init
 loop-i-init c =
-    joining_starts _ _ _ c.requires.0 (c.box_at-over.ensures ∙ ap (box_at _) c.wide.ensures)
+    joining_starts _ _ _ c.requires.some (c.box_at-over.ensures ∙ ap (box_at _) c.wide.ensures)
 
 pub box_at-requires : goal.box_at-requires
 box_at-requires c =
-    rw c.wide-in-loop-i.ensures (triangle_inside _ _ (c.requires.1 c.loop-i.i c.loop-i-test.true))
+    rw c.wide-in-loop-i.ensures (triangle_inside _ _ (c.requires.numbered c.loop-i.i c.loop-i-test.true))
 
 pub overflow_add-i : goal.overflow_add-i
 overflow_add-i c =

@@ -8,4 +8,4 @@ pub joined-requires : goal.joined-requires
 joined-requires c =
     let first = c.args.first in
     let size = c.args.last - first in
-    (slice_some _ _ _ c.requires.1.0 c.requires.1.1, slice_entries _ c.args.order.now first size c.requires.0)
+    record { some = slice_some _ _ _ c.requires.some c.requires.within; numbered = slice_entries _ c.args.order.now first size c.requires.numbered }

@@ -11,7 +11,7 @@ pub depth_of-requires : goal.depth_of-requires
 depth_of-requires c =
     let p = sym c.check-verdict.ensures ∙ ap as_verdict c.in-Passed.is in
     let some = passed_some _ _ _ _ _ p in
-    (some, sound_descends _ _ _ _ _ _ (passed_sound _ _ _ _ _ p) (omega (arith, some)))
+    record { some = some; descends = sound_descends _ _ _ _ _ _ (passed_sound _ _ _ _ _ p) (omega (arith, some)) }
 
 pub returns-in-Refused : goal.returns-in-Refused
 returns-in-Refused c = depth_refused _ _ _ _ _ _ _ (sym c.check-verdict.ensures ∙ ap as_verdict c.in-Refused.is)

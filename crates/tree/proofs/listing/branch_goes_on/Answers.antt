@@ -15,7 +15,7 @@ returns-then-not-is_right_before c =
 
 pub first_of-requires : goal.first_of-requires
 first_of-requires c =
-    before_descends _ _ (omega (arith, c.if-node-eq0.false)) (omega (arith, c.requires.0)) c.requires.1
+    before_descends _ _ (omega (arith, c.if-node-eq0.false)) (omega (arith, c.requires.there)) c.requires.before
 
 pub returns : goal.returns
 returns c =

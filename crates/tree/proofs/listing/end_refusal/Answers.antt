@@ -10,10 +10,10 @@ use borrow.Author.Rules.{rules}
 use Rattle.tree.proofs.listing.end_refusal.Goals as goal
 
 pub first_of-requires : goal.first_of-requires
-first_of-requires c = scanned_descends _ _ _ _ c.requires.0 c.requires.1.0 c.requires.1.1
+first_of-requires c = scanned_descends _ _ _ _ c.requires.some c.requires.there c.requires.scanned
 
 pub returns : goal.returns
 returns c =
     c.refused_if.ensures
     ∙ ap (λ (first : ℕ). refused_if (not (eqb first 0 && eqb c.args.entry c.args.n)) 73 (c.args.nodes - 1)) c.first_of.ensures
-    ∙ sym (ends_refused _ _ _ c.requires.1.0 _ c.requires.1.1 c.requires.0)
+    ∙ sym (ends_refused _ _ _ c.requires.there _ c.requires.scanned c.requires.some)

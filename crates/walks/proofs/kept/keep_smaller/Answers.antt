@@ -9,7 +9,7 @@ use Rattle.walks.proofs.kept.keep_smaller.Goals as goal
 
 pub put_slot-requires : goal.put_slot-requires
 put_slot-requires c =
-    (c.requires, omega arith)
+    record { lent = c.requires; j_lt_most_few = omega arith }
 
 pub returns-then-hit-best : goal.returns-then-hit-best
 unfolding slot_at

@@ -43,7 +43,7 @@ ready_again Computed triangles probe t best which best' which' r h = h.lent
 pub loop-i-init : goal.loop-i-init
 loop-i-init c =
     let a = c.args in (
-      (omega arith, c.requires.1.1),
+      (omega arith, c.requires.ready),
       (
         refl,
         ap (λ (n : ℕ). took_all (took a.measures a.triangles.now a.probe.now (most_of a.which.now)) a.slice.now
@@ -54,7 +54,7 @@ loop-i-init c =
 
 pub measure-requires : goal.measure-requires
 measure-requires c =
-    (triangle_inside _ _ (c.requires.0 c.loop-i.i c.loop-i-test.true), c.loop-i.invariant.0.1)
+    record { t_in_bounds = triangle_inside _ _ (c.requires.entries_below c.loop-i.i c.loop-i-test.true); ready = c.loop-i.invariant.0.1 }
 
 pub loop-i-preserved : goal.loop-i-preserved
 loop-i-preserved c =

@@ -12,13 +12,13 @@ use Rattle.walks.proofs.places.insert.Goals as goal
 pub loop-j-init : goal.loop-j-init
 loop-j-init c =
     let a = c.args in
-    moving_starts (as_hit a.hit) a.best.now a.which.now c.requires.0 c.requires.1
+    moving_starts (as_hit a.hit) a.best.now a.which.now c.requires.sound c.requires.which_value
 
 pub returns-then-not-goes_before : goal.returns-then-not-goes_before
 returns-then-not-goes_before c =
     let a = c.args in
     let loop = c.loop-j in
-    moving_ends (as_hit a.hit) a.best.now a.which.now c.requires.0 c.requires.1 loop.best loop.which loop.j loop.invariant _ _
+    moving_ends (as_hit a.hit) a.best.now a.which.now c.requires.sound c.requires.which_value loop.best loop.which loop.j loop.invariant _ _
     (omega (arith, c.loop-j-test.true, c.wide-most.ensures))
     (sym c.goes_before.ensures ∙ not-true _ c.if-not-goes_before.true) c.put_slot.ensures
 
@@ -26,7 +26,7 @@ pub loop-j-preserved : goal.loop-j-preserved
 loop-j-preserved c =
     let a = c.args in
     let loop = c.loop-j in
-    moving_goes_on (as_hit a.hit) a.best.now a.which.now c.requires.0 c.requires.1 loop.best loop.which loop.j loop.invariant
+    moving_goes_on (as_hit a.hit) a.best.now a.which.now c.requires.sound c.requires.which_value loop.best loop.which loop.j loop.invariant
     (as_hit c.slot_at-next.result) _ _ (omega (arith, c.loop-j-test.true, c.wide-most.ensures))
     (sym c.goes_before.ensures ∙ not-false _ c.if-not-goes_before.false) c.slot_at-next.ensures c.put_slot-in-loop-j.ensures
 
@@ -34,7 +34,7 @@ pub returns : goal.returns
 returns c =
     let a = c.args in
     let loop = c.loop-j in
-    moving_ends_nearest (as_hit a.hit) a.best.now a.which.now c.requires.0 c.requires.1 loop.best loop.which loop.j loop.invariant _ _
+    moving_ends_nearest (as_hit a.hit) a.best.now a.which.now c.requires.sound c.requires.which_value loop.best loop.which loop.j loop.invariant _ _
     (omega (arith, c.loop-j-test.false, c.wide-most.ensures)) c.put_slot-2.ensures
 
 pub overflow_add-j : goal.overflow_add-j

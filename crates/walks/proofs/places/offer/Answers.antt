@@ -14,7 +14,7 @@ use Rattle.walks.proofs.places.offer.Goals as goal
 pub insert-requires : goal.insert-requires
 insert-requires c =
     let a = c.args in
-    (c.requires, sym c.goes_before.ensures ∙ (both_passed (lt a.hit.squared a.limit) c.goes_before.result c.if-hit-limit.true).1)
+    record { sound = c.requires; which_value = sym c.goes_before.ensures ∙ (both_passed (lt a.hit.squared a.limit) c.goes_before.result c.if-hit-limit.true).1 }
 
 pub returns-then-hit-limit : goal.returns-then-hit-limit
 unfolding counts

@@ -119,4 +119,4 @@ module _ (best : List Float) (which : List ℕ) (j : ℕ) (h : Hit) (lent : Lent
   }
 
 pub returns : goal.returns
-returns c = stored c.args.best.now c.args.which.now c.args.j (as_hit c.args.hit) c.requires.0 c.requires.1
+returns c = stored c.args.best.now c.args.which.now c.args.j (as_hit c.args.hit) c.requires.lent c.requires.j_lt_most_few

@@ -16,7 +16,7 @@ use Rattle.walks.proofs.places.start.Goals as goal
 pub loop-j-init : goal.loop-j-init
 unfolding of_bits
 loop-j-init c =
-    let lent = c.requires.0 in
+    let lent = c.requires.lent in
     let a = c.args in (
       (
         record { floats = lent.floats; numbers = length-set a.which.now 32 a.most ∙ lent.numbers },

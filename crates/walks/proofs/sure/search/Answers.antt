@@ -15,22 +15,16 @@ use borrow.Author.Rules.{rules}
 use Rattle.walks.proofs.sure.search.Goals as goal
 
 pub overflow_sub-root : goal.overflow_sub-root
-overflow_sub-root c = root_there _ _ _ _ _ c.requires.0
+overflow_sub-root c = root_there _ _ _ _ _ c.requires.searchable
 
 pub node_squared-squared-requires : goal.node_squared-squared-requires
 node_squared-squared-requires c =
-    let safe = root_safe _ _ _ _ _ c.requires.0 in
+    let safe = root_safe _ _ _ _ _ c.requires.searchable in
     (hangs_there _ _ _ _ safe.tree _ safe.hangs).boxes_there
 
 pub node_walk-requires : goal.node_walk-requires
 node_walk-requires c =
-    let most = c.requires.1.1.0 in (
-      root_safe _ _ _ _ _ c.requires.0,
-      (
-        c.node_squared-squared.ensures,
-        start_sound _ _ _ _ (less_number _ (inf false) c.requires.1.0) most.0 most.1 c.start.ensures,
-      ),
-    )
+    let most = c.requires.le_most in record { node_safe = root_safe _ _ _ _ _ c.requires.searchable; squared_value = c.node_squared-squared.ensures; sound = start_sound _ _ _ _ (less_number _ (inf false) c.requires.false_value) most.0 most.1 c.start.ensures }
 
 pub returns : goal.returns
 unfolding marked_walk
@@ -38,6 +32,6 @@ returns c =
     let a = c.args in
     let walk = few_then binary32 _ _ _ _ _ _ _ _ (record { holds = c.start.ensures; measured_is = refl }) c.node_walk.ensures in
     reached_on (rw c.walk_limit.ensures at walk)
-    (marked_is_few binary32 a.t1.now a.t2.now a.t3.now a.t4.now _ a.nodes (entries_below _ _ _ _ _ c.requires.0)
-    (numbers_low _ _ _ _ _ c.requires.0) (as_point a.probe.point) a.most c.requires.1.1.0.0 (rule_of a.rule) a.probe.limit
-    c.requires.1.0)
+    (marked_is_few binary32 a.t1.now a.t2.now a.t3.now a.t4.now _ a.nodes (entries_below _ _ _ _ _ c.requires.searchable)
+    (numbers_low _ _ _ _ _ c.requires.searchable) (as_point a.probe.point) a.most c.requires.le_most.0 (rule_of a.rule) a.probe.limit
+    c.requires.false_value)
