@@ -43,11 +43,10 @@ loop-i-smaller c =
     omega (arith, c.loop-i-test.true)
 
 pub loop-i-preserved : goal.loop-i-preserved
-loop-i-preserved c =
-    (
-      marked_more _ _ _ c.loop-i.i c.loop-i.invariant.0 c.loop-i-test.true _ c.wide-k.ensures c.if-k-n.false c.if-seen-k.false,
-      simp length-set c.loop-i.invariant.1,
-    )
+loop-i-preserved c = (
+  marked_more _ _ _ c.loop-i.i c.loop-i.invariant.0 c.loop-i-test.true _ c.wide-k.ensures c.if-k-n.false c.if-seen-k.false,
+  simp length-set c.loop-i.invariant.1,
+)
 
 pub shape_of-seen : goal.shape_of-seen
 shape_of-seen c = c.loop-i.invariant.1
