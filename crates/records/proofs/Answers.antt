@@ -34,8 +34,8 @@ module _ (kind : ℕ) (s : List ℕ) (at : ℕ) {r : Body} (answer : r ≡ body_
 -- of one whose body passes a test
 module _ (kind : ℕ) (test : List ℕ → Bool) (s : List ℕ) (at : ℕ) {r : Body} (answer : r ≡ body_if (is_right kind test s at) (size_at s at)) where
   -- a body was answered: the record is there and its body passes the test
-  pub is_right : {size : ℕ} → r ≡ Right size → RightRecord kind test s at size
-  is_right {size} e =
+  pub is_right_lem : {size : ℕ} → r ≡ Right size → RightRecord kind test s at size
+  is_right_lem {size} e =
       let p = if_right (is_right kind test s at) (size_at s at) size (sym answer ∙ e) in
       subst (RightRecord kind test s at) p.1 (right_parts kind test s at p.0)
 
@@ -86,7 +86,7 @@ module _ {s : List ℕ} {size order node : ℕ} (next : TreeNext s size order no
       (one 3 (exactly order) (λ _. one 4 (whole node) (λ _. done))) (20 + size)
   tree_next =
       let o = is_opened s next.front in
-      rw (next.order-is, next.node_is) (tree_wanted o.settings o.triangles)
+      rw (next.order_is, next.node_is) (tree_wanted o.settings o.triangles)
 
   -- and the counts put the bodies where the headers do
   pub tree_spans : (nodes : ℕ) → nodes % node ≡ 0
@@ -96,7 +96,7 @@ module _ {s : List ℕ} {size order node : ℕ} (next : TreeNext s size order no
   tree_spans nodes e =
       let o = is_opened s next.front in
       let f : nodes % node_size (version_for t) ≡ 0 = rw (← next.node_is) e in
-      rw (next.order-is, next.node_is)
+      rw (next.order_is, next.node_is)
       (image_spans_lem (version_for t) size nodes (version_triangle t) (triangles_whole (little_at 2 s 6) s 14 o.triangles) f)
 
 -- ---- behind the points of an input of `gauge`

@@ -34,7 +34,7 @@ units_of-requires c = at_most_one _ _ _ c.requires.askable c.ratio_of.ensures
 
 pub arc_of-arc-requires : goal.arc_of-arc-requires
 arc_of-arc-requires c =
-    (c.requires.table_value, few _ _ _ c.requires.askable c.ratio_of.ensures _ c.units_of.ensures)
+    record { table_value = c.requires.table_value; u_bound = few _ _ _ c.requires.askable c.ratio_of.ensures _ c.units_of.ensures }
 
 pub mirrored-requires : goal.mirrored-requires
 mirrored-requires c =

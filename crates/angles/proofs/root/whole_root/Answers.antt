@@ -2,13 +2,8 @@
 use Rattle.std.proofs.Common.{ℕ, ◌+◌, ◌*◌, ◌/◌, ◌^◌, ◌<◌, ◌≤◌, lt_of_lt_of_le, lt_of_le_of_lt, arith}
 use Rattle.spec_angles.proofs.Powers.{square_mono, square_reflects}
 use Rattle.spec_angles.proofs.WholeRoot.{whole_root_lem, whole_root_unique}
+use Rattle.angles.proofs.root.whole_root.Invariants.{Between}
 use Rattle.angles.proofs.root.whole_root.Goals as goal
-
-record Between (n r step : ℕ) : Type 0 where
-  low : r * r ≤ n
-  high : n < (r + step) * (r + step)
-  least : 1 ≤ step
-  most : step ≤ 2 ^ 24
 
 -- r is below the root of 2 ^ 48
 small : {n r step : ℕ} → n < 2 ^ 48 → Between n r step → r < 2 ^ 24

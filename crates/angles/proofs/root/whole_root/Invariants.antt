@@ -4,6 +4,12 @@ use Rattle.spec_angles.proofs.Powers.{square_mono, square_reflects}
 use Rattle.spec_angles.proofs.WholeRoot.{whole_root_lem, whole_root_unique}
 use Rattle.angles.proofs.root.whole_root.Given as goal
 
+pub record Between (n r step : ℕ) : Type 0 where
+  pub low : r * r ≤ n
+  pub high : n < (r + step) * (r + step)
+  pub least : 1 ≤ step
+  pub most : step ≤ 2 ^ 24
+
 abbrev pub invariant-loop-step : goal.invariant-loop-step
 invariant-loop-step l = Between l.n l.r l.step
 

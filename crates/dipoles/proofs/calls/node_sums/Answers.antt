@@ -9,10 +9,7 @@ use Rattle.dipoles.proofs.calls.node_sums.Goals as goal
 
 pub returns-then-refuses : goal.returns-then-refuses
 returns-then-refuses c =
-    (
-      c.sums_refusal-verdict.ensures,
-      sums_refused _ _ _ _ _ _ binary32 _ c.sums_refusal-verdict.ensures (sym c.refuses.ensures ∙ c.if-refuses.true),
-    )
+    record { verdict = c.sums_refusal-verdict.ensures; sums = sums_refused _ _ _ _ _ _ binary32 _ c.sums_refusal-verdict.ensures (sym c.refuses.ensures ∙ c.if-refuses.true) }
 
 pub store_sums-requires : goal.store_sums-requires
 store_sums-requires c =

@@ -7,7 +7,7 @@ use Rattle.grow.proofs.tries.try_slice.Goals as goal
 
 pub union_of-parent-requires : goal.union_of-parent-requires
 union_of-parent-requires c =
-    (omega (arith, c.requires.some), (try_rule_needs binary32 _ _ c.requires).boxed.in_table)
+    record { slice_nonzero = omega (arith, c.requires.some); all_in_table = (try_rule_needs binary32 _ _ c.requires).boxed.in_table }
 
 pub returns : goal.returns
 returns c =

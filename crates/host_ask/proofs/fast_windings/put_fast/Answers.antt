@@ -26,7 +26,7 @@ point_in-requires c = omega (arith, c.loop-k-test.true)
 
 pub fast_winding_by-winding-requires : goal.fast_winding_by-winding-requires
 fast_winding_by-winding-requires c =
-    (c.arc_table-table.ensures, c.requires.there)
+    record { table = c.arc_table-table.ensures; there = c.requires.there }
 
 pub overflow_mul-k : goal.overflow_mul-k
 overflow_mul-k c = omega (arith, c.loop-k-test.true)

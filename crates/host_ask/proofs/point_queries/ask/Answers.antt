@@ -9,7 +9,7 @@ use borrow.Author.Rules.{rules}
 use Rattle.host_ask.proofs.point_queries.ask.Goals as goal
 
 pub returns-then-refuses : goal.returns-then-refuses
-returns-then-refuses c = (c.query_refusal-verdict.ensures, as_it_was _ _ _ (sym c.refuses.ensures ∙ c.if-refuses.true))
+returns-then-refuses c = record { verdict = c.query_refusal-verdict.ensures; answers = as_it_was _ _ _ (sym c.refuses.ensures ∙ c.if-refuses.true) }
 
 pub put_answers-requires : goal.put_answers-requires
 put_answers-requires c =

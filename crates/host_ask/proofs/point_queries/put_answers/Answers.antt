@@ -17,13 +17,7 @@ put_few-requires c =
 
 pub put_few-requires-in-Few : goal.put_few-requires-in-Few
 put_few-requires-in-Few c =
-    rw c.wide.ensures (
-      c.requires.searchable,
-      (
-        c.requires.good_points,
-        (rw c.in-Few.is at c.requires.points_in_bounds, (c.requires.good_distance, rw c.in-Few.is at c.requires.bound)),
-      ),
-    )
+    rw c.wide.ensures (record { searchable = c.requires.searchable; good_points = c.requires.good_points; points_in_bounds = rw c.in-Few.is at c.requires.points_in_bounds; good_distance = c.requires.good_distance; le_most = rw c.in-Few.is at c.requires.bound })
 
 pub put_source-requires : goal.put_source-requires
 put_source-requires c =

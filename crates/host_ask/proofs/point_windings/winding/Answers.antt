@@ -8,7 +8,7 @@ use borrow.Author.Rules.{rules}
 use Rattle.host_ask.proofs.point_windings.winding.Goals as goal
 
 pub returns-then-refuses : goal.returns-then-refuses
-returns-then-refuses c = (c.winding_refusal-verdict.ensures, as_it_was _ _ _ (sym c.refuses.ensures ∙ c.if-refuses.true))
+returns-then-refuses c = record { verdict = c.winding_refusal-verdict.ensures; windings = as_it_was _ _ _ (sym c.refuses.ensures ∙ c.if-refuses.true) }
 
 pub put_windings-requires : goal.put_windings-requires
 put_windings-requires c =

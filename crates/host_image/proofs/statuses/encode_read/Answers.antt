@@ -12,8 +12,8 @@ put_settings-requires c =
 
 pub returns-in-Refused : goal.returns-in-Refused
 returns-in-Refused c =
-    (rw c.in-Refused.is c.encode_refusal.ensures, rw c.in-Refused.is)
+    record { status = rw c.in-Refused.is c.encode_refusal.ensures; settings = rw c.in-Refused.is }
 
 pub returns-in-Read : goal.returns-in-Read
 returns-in-Read c =
-    (rw c.in-Read.is, rw c.in-Read.is c.put_settings.ensures)
+    record { status = rw c.in-Read.is; settings = rw c.in-Read.is c.put_settings.ensures }

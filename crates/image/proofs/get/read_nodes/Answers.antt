@@ -20,7 +20,7 @@ loop-i-init c =
 pub read_node-requires : goal.read_node-requires
 read_node-requires c =
     let a = c.args in
-    omega (record { wide_in_bounds = arith; node_in_bounds = piece_within (node_size (shape_by a.wide)) a.nodes c.loop-i.i c.loop-i-test.true })
+    omega (arith, piece_within (node_size (shape_by a.wide)) a.nodes c.loop-i.i c.loop-i-test.true)
 
 pub loop-i-preserved : goal.loop-i-preserved
 loop-i-preserved c =

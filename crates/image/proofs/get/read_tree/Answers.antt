@@ -43,7 +43,7 @@ read_entries-requires c =
 pub read_nodes-requires : goal.read_nodes-requires
 read_nodes-requires c =
     let a = c.args in
-    omega (record { nodes_in_bounds = arith; nodes_in_bounds_2 = strides a.wide a.count })
+    omega (arith, strides a.wide a.count)
 
 pub returns : goal.returns
 unfolding image_in

@@ -11,12 +11,9 @@ use Rattle.queries.proofs.calls.ask.Goals as goal
 
 pub returns-then-refuses : goal.returns-then-refuses
 returns-then-refuses c =
-    let a = c.args in (
-      c.query_refusal-verdict.ensures,
-      as_it_was binary32 (most_by (as_query a.query))
+    let a = c.args in record { verdict = c.query_refusal-verdict.ensures; answers = as_it_was binary32 (most_by (as_query a.query))
           (answer_by binary32 (as_query a.query) a.triangles.now a.order.now a.links.now a.boxes.now a.nodes
-          a.distance) a.points.now a.answers.now _ (sym c.refuses.ensures ∙ c.if-refuses.true),
-    )
+          a.distance) a.points.now a.answers.now _ (sym c.refuses.ensures ∙ c.if-refuses.true) }
 
 pub put_answers-requires : goal.put_answers-requires
 put_answers-requires c =

@@ -29,7 +29,7 @@ returns-then-not-is_coordinate c =
     let taken = c.loop-i-test.true in
     let found = bad_here (floats_in binary32 s a.start a.count) loop.i (rw (long s a.start a.count) taken)
     (ap is_coordinate (number s a.start a.count loop.i taken ∙ sym c.f32_at.ensures) ∙ sym c.is_coordinate.ensures
-    ∙ not-true _ c.if-not-is_coordinate.true) in
+    ∙ c.if-not-is_coordinate.true) in
     omega (arith, loop.invariant)
 
 pub loop-i-preserved : goal.loop-i-preserved
@@ -40,7 +40,7 @@ loop-i-preserved c =
     let taken = c.loop-i-test.true in
     let next = good_here (floats_in binary32 s a.start a.count) loop.i (rw (long s a.start a.count) taken)
     (ap is_coordinate (number s a.start a.count loop.i taken ∙ sym c.f32_at.ensures) ∙ sym c.is_coordinate.ensures
-    ∙ not-false _ c.if-not-is_coordinate.false) in
+    ∙ c.if-not-is_coordinate.false) in
     omega (arith, loop.invariant)
 
 pub returns : goal.returns

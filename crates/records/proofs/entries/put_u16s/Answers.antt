@@ -20,4 +20,5 @@ pub shape_of-out : goal.shape_of-out
 shape_of-out c = c.loop-i.invariant.long
 
 pub returns : goal.returns
-returns c = puts_end _ _ _ _ c.loop-i-test.false c.loop-i.invariant
+returns c =
+    record { put = (puts_end _ _ _ _ c.loop-i-test.false c.loop-i.invariant).0; value = (puts_end _ _ _ _ c.loop-i-test.false c.loop-i.invariant).1 }

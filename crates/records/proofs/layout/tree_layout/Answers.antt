@@ -6,7 +6,7 @@ use Rattle.spec_records.specs.Records.{bodies, whole}
 use Prim.Native.Nat.{◌+◌}
 use Rattle.spec_records.proofs.Records.{right_within, reach_on, reach_wrong, reach_end, reach_extra}
 use Rattle.spec_records.proofs.Layouts.{exactly_right, whole_size}
-use Rattle.records.proofs.Answers.{is_right, is_wrong, is_opened, tree_next, tree_spans}
+use Rattle.records.proofs.Answers.{is_right_lem, is_wrong, is_opened, tree_next, tree_spans}
 use borrow.Author.Rules.{rules}
 use Rattle.records.proofs.layout.tree_layout.Goals as goal
 
@@ -17,7 +17,7 @@ overflow_add-third c =
 
 pub returns-then-not-has_body : goal.returns-then-not-has_body
 returns-then-not-has_body c =
-    sym (reach_wrong (tree_next c.requires) (sym c.has_body.ensures ∙ not-true _ c.if-not-has_body.true))
+    sym (reach_wrong (tree_next c.requires) (sym c.has_body.ensures ∙ c.if-not-has_body.true))
 
 pub overflow_add-fourth : goal.overflow_add-fourth
 overflow_add-fourth c =
@@ -25,7 +25,7 @@ overflow_add-fourth c =
     omega (
       arith,
       right_within (exactly_right 3 a.order a.bytes.now (20 + a.triangles)
-          (sym c.has_body.ensures ∙ not-false _ c.if-not-has_body.false)),
+          (sym c.has_body.ensures ∙ c.if-not-has_body.false)),
     )
 
 pub overflow_add-fourth-2 : goal.overflow_add-fourth-2
@@ -34,40 +34,40 @@ overflow_add-fourth-2 c =
     omega (
       arith,
       right_within (exactly_right 3 a.order a.bytes.now (20 + a.triangles)
-          (sym c.has_body.ensures ∙ not-false _ c.if-not-has_body.false)),
+          (sym c.has_body.ensures ∙ c.if-not-has_body.false)),
     )
 
 pub returns-in_default : goal.returns-in_default
 returns-in_default c =
     let a = c.args in
     let s = a.bytes.now in
-    let order = exactly_right 3 a.order s (20 + a.triangles) (sym c.has_body.ensures ∙ not-false _ c.if-not-has_body.false) in
+    let order = exactly_right 3 a.order s (20 + a.triangles) (sym c.has_body.ensures ∙ c.if-not-has_body.false) in
     sym (reach_wrong (reach_on (tree_next c.requires) order)
     (is_wrong 4 (whole a.node) s _ c.whole_body.ensures c.in_default.is))
 
 pub overflow_add-end : goal.overflow_add-end
 overflow_add-end c =
     let a = c.args in
-    omega (arith, right_within (is_right 4 (whole a.node) a.bytes.now _ c.whole_body.ensures c.in-Right.is))
+    omega (arith, right_within (is_right_lem 4 (whole a.node) a.bytes.now _ c.whole_body.ensures c.in-Right.is))
 
 pub overflow_add-end-2 : goal.overflow_add-end-2
 overflow_add-end-2 c =
     let a = c.args in
-    omega (arith, right_within (is_right 4 (whole a.node) a.bytes.now _ c.whole_body.ensures c.in-Right.is))
+    omega (arith, right_within (is_right_lem 4 (whole a.node) a.bytes.now _ c.whole_body.ensures c.in-Right.is))
 
 pub returns-then-end-bytes : goal.returns-then-end-bytes
 returns-then-end-bytes c =
     let a = c.args in
     let s = a.bytes.now in
-    let order = exactly_right 3 a.order s (20 + a.triangles) (sym c.has_body.ensures ∙ not-false _ c.if-not-has_body.false) in
-    let nodes = is_right 4 (whole a.node) s _ c.whole_body.ensures c.in-Right.is in
+    let order = exactly_right 3 a.order s (20 + a.triangles) (sym c.has_body.ensures ∙ c.if-not-has_body.false) in
+    let nodes = is_right_lem 4 (whole a.node) s _ c.whole_body.ensures c.in-Right.is in
     sym (reach_extra (reach_on (reach_on (tree_next c.requires) order) nodes) c.if-end-bytes.true)
 
 pub returns : goal.returns
 returns c =
     let a = c.args in
     let s = a.bytes.now in
-    let order = exactly_right 3 a.order s (20 + a.triangles) (sym c.has_body.ensures ∙ not-false _ c.if-not-has_body.false) in
-    let nodes = is_right 4 (whole a.node) s _ c.whole_body.ensures c.in-Right.is in
+    let order = exactly_right 3 a.order s (20 + a.triangles) (sym c.has_body.ensures ∙ c.if-not-has_body.false) in
+    let nodes = is_right_lem 4 (whole a.node) s _ c.whole_body.ensures c.in-Right.is in
     ap bodies (tree_spans c.requires _ (whole_size a.node nodes))
     ∙ sym (reach_end (reach_on (reach_on (tree_next c.requires) order) nodes) c.if-end-bytes.false)

@@ -11,17 +11,17 @@ use Rattle.splits.proofs.costs.cheapest_of.Goals as goal
 pub loop-i-init : goal.loop-i-init
 unfolding none_yet cheapest_of
 loop-i-init c =
-    (omega arith, (ap (λ (s : Cheapest). s.seen) c.none_yet-best.ensures, ap (λ (s : Cheapest). foldl with_cost s c.args.t1) c.none_yet-best.ensures))
+    (omega arith, (ap (λ (s : Cheapest). s.seen) c.none_yet-best.ensures, ap (λ (s : Cheapest). foldl with_cost s c.args.costs) c.none_yet-best.ensures))
 
 pub loop-i-preserved : goal.loop-i-preserved
 loop-i-preserved c =
     let args = c.args in
     let loop = c.loop-i in
-    let full : length args.t1 ≡ 11 = search rules in (
+    let full : length args.costs ≡ 11 = search rules in (
       omega arith,
       (
         seen_goes_on (as_cheapest loop.best) (as_cheapest c.with_cost-best.result) _ loop.i c.with_cost-best.ensures loop.invariant.1.0,
-        fold_on nan with_cost args.t1 loop.i (as_cheapest loop.best) _ (as_cheapest c.with_cost-best.result) (omega (arith, full)) c.with_cost-best.ensures
+        fold_on nan with_cost args.costs loop.i (as_cheapest loop.best) _ (as_cheapest c.with_cost-best.result) (omega (arith, full)) c.with_cost-best.ensures
             loop.invariant.1.1,
       ),
     )
@@ -30,8 +30,8 @@ pub returns : goal.returns
 returns c =
     let args = c.args in
     let loop = c.loop-i in
-    let full : length args.t1 ≡ 11 = search rules in
-    fold_ended nan with_cost args.t1 loop.i (as_cheapest loop.best) _ (omega (arith, full)) loop.invariant.1.1
+    let full : length args.costs ≡ 11 = search rules in
+    fold_ended nan with_cost args.costs loop.i (as_cheapest loop.best) _ (omega (arith, full)) loop.invariant.1.1
 
 pub with_cost-best-requires : goal.with_cost-best-requires
 with_cost-best-requires c = omega arith

@@ -8,7 +8,7 @@ use Rattle.splits.proofs.costs.right_sides.Goals as goal
 
 pub loop-i-init : goal.loop-i-init
 loop-i-init c =
-    down_starts as_bucket binary32 c.args.t1.each no_bucket (search (unmapped, c.well_formed)) _ _ c.empty-sides.ensures c.empty-right.ensures
+    down_starts as_bucket binary32 c.args.buckets.each no_bucket (search (unmapped, c.well_formed)) _ _ c.empty-sides.ensures c.empty-right.ensures
 
 pub offset_bounds-buckets-i : goal.offset_bounds-buckets-i
 offset_bounds-buckets-i c = omega (arith, c.loop-i.invariant.within)
@@ -19,7 +19,7 @@ bounds-buckets-i c = omega (arith, c.loop-i.invariant.within)
 pub merged-right-requires : goal.merged-right-requires
 merged-right-requires c =
     let loop = c.loop-i in
-    down_fits as_bucket binary32 c.args.t1.each no_bucket (search (unmapped, c.well_formed)) _ _ loop.i loop.invariant c.requires
+    down_fits as_bucket binary32 c.args.buckets.each no_bucket (search (unmapped, c.well_formed)) _ _ loop.i loop.invariant c.requires
 
 pub offset_bounds-sides-i : goal.offset_bounds-sides-i
 offset_bounds-sides-i c = omega (arith, c.loop-i.invariant.within)
@@ -29,13 +29,13 @@ bounds-sides-i c = omega (arith, c.loop-i.invariant.within)
 
 pub loop-i-preserved : goal.loop-i-preserved
 loop-i-preserved c =
-    down_goes_on as_bucket binary32 c.args.t1.each no_bucket (search (unmapped, c.well_formed)) _ _ c.loop-i.i c.loop-i.invariant c.requires
+    down_goes_on as_bucket binary32 c.args.buckets.each no_bucket (search (unmapped, c.well_formed)) _ _ c.loop-i.i c.loop-i.invariant c.requires
     c.merged-right.result (c.loop-i.i - 1) (omega arith) c.merged-right.ensures
 
 pub returns : goal.returns
 returns c =
     let loop = c.loop-i in
-    down_ends as_bucket binary32 c.args.t1.each no_bucket (search (unmapped, c.well_formed)) _ _ loop.i loop.invariant (omega arith)
+    down_ends as_bucket binary32 c.args.buckets.each no_bucket (search (unmapped, c.well_formed)) _ _ loop.i loop.invariant (omega arith)
 
 pub loop-i-smaller : goal.loop-i-smaller
 loop-i-smaller c = omega arith

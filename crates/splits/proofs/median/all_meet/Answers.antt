@@ -21,7 +21,7 @@ returns-then-not-intersects_box3 c =
     let loop = c.loop-i in
     let test = sym (c.intersects_box3.ensures ∙ ap (meets_box binary32 (as_plane args.plane)) c.box_at.ensures) in
     meeting_stops binary32 (as_plane args.plane) (box_in args.bounds.now) args.slice.now loop.i _ c.loop-i-test.true
-    (test ∙ not_true _ c.if-not-intersects_box3.true) loop.invariant
+    (test ∙ c.if-not-intersects_box3.true) loop.invariant
 
 pub loop-i-preserved : goal.loop-i-preserved
 loop-i-preserved c =
@@ -29,7 +29,7 @@ loop-i-preserved c =
     let loop = c.loop-i in
     let test = sym (c.intersects_box3.ensures ∙ ap (meets_box binary32 (as_plane args.plane)) c.box_at.ensures) in
     meeting_goes_on binary32 (as_plane args.plane) (box_in args.bounds.now) args.slice.now loop.i _ c.loop-i-test.true
-    (test ∙ not_false _ c.if-not-intersects_box3.false) loop.invariant
+    (test ∙ c.if-not-intersects_box3.false) loop.invariant
 
 pub returns : goal.returns
 returns c =

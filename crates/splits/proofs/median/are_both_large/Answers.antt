@@ -20,7 +20,7 @@ is_large-requires-then-is_large c =
     let args = c.args in
     let pre = c.requires in
     rw (to_the_end args.cut args.slice.now)
-    (simp length-drop (omega arith), in_table_after args.bounds.now args.slice.now pre.all_in_table args.cut)
+    (record { slice_nonzero = simp length-drop (omega arith); all_in_table = in_table_after args.bounds.now args.slice.now pre.all_in_table args.cut })
 
 pub returns-then-is_large : goal.returns-then-is_large
 unfolding are_both_large

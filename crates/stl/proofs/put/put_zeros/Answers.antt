@@ -18,4 +18,5 @@ pub shape_of-out : goal.shape_of-out
 shape_of-out c = c.loop-i.invariant.long
 
 pub returns : goal.returns
-returns c = zeros_end _ _ _ _ _ c.requires c.loop-i-test.false c.loop-i.invariant
+returns c =
+    record { put = (zeros_end _ _ _ _ _ c.requires c.loop-i-test.false c.loop-i.invariant).0; value = (zeros_end _ _ _ _ _ c.requires c.loop-i-test.false c.loop-i.invariant).1 }

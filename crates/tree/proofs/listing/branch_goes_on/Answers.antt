@@ -11,7 +11,7 @@ returns-then-node-eq0 c = rw (le-ltb 0 c.args.node (omega (arith, c.if-node-eq0.
 
 pub returns-then-not-is_right_before : goal.returns-then-not-is_right_before
 returns-then-not-is_right_before c =
-    rw (lt-ltb 0 c.args.node (omega (arith, c.if-node-eq0.false)), sym c.is_right_before.ensures ∙ not-true _ c.if-not-is_right_before.true)
+    rw (lt-ltb 0 c.args.node (omega (arith, c.if-node-eq0.false)), sym c.is_right_before.ensures ∙ c.if-not-is_right_before.true)
 
 pub first_of-requires : goal.first_of-requires
 first_of-requires c =
@@ -21,6 +21,6 @@ pub returns : goal.returns
 returns c =
     rw (
       lt-ltb 0 c.args.node (omega (arith, c.if-node-eq0.false)),
-      sym c.is_right_before.ensures ∙ not-false _ c.if-not-is_right_before.false,
+      sym c.is_right_before.ensures ∙ c.if-not-is_right_before.false,
       ← c.first_of.ensures,
     ) c.is_left_before.ensures

@@ -25,7 +25,7 @@ unfolding first_refusal
 returns-then-not-goes_on c =
     let broke =
     Scanning.breaks_refused _ _ _ c.requires.links_there c.loop-node.node c.loop-node.entry c.loop-node.invariant.1.0 c.loop-node-test.true
-    (sym c.goes_on.ensures ∙ not-true _ c.if-not-goes_on.true) in
+    (sym c.goes_on.ensures ∙ c.if-not-goes_on.true) in
     rw broke
 
 pub entry_after-entry-requires : goal.entry_after-entry-requires
@@ -35,17 +35,17 @@ entry_after-entry-requires c =
 pub first_unlike-unlike-requires : goal.first_unlike-unlike-requires
 first_unlike-unlike-requires c =
     let h = c.loop-node-test.true in
-    let next = Scanning.goes_on _ _ _ c.requires.links_there c.loop-node.node c.loop-node.entry c.loop-node.invariant.1.0 h
-    (sym c.goes_on.ensures ∙ not-false _ c.if-not-goes_on.false) in (
-      record {
+    let next = Scanning.goes_on_lem _ _ _ c.requires.links_there c.loop-node.node c.loop-node.entry c.loop-node.invariant.1.0 h
+    (sym c.goes_on.ensures ∙ c.if-not-goes_on.false) in record {
+      boxable = record {
         links_there = omega (arith, c.requires.links_there);
         boxes_there = omega (arith, c.requires.boxes_there);
         node_is = Scanning.scanned_sound _ _ _ c.requires.links_there _ c.requires.long (c.loop-node.node + 1) _ next (omega arith) c.loop-node.node
             (omega arith);
         entries = c.requires.entries;
-      },
-      c.loop-node.invariant.1.1,
-    )
+      };
+      before = c.loop-node.invariant.1.1;
+    }
 
 pub loop-node-preserved : goal.loop-node-preserved
 loop-node-preserved c =
@@ -53,8 +53,8 @@ loop-node-preserved c =
       omega arith,
       (
         rw c.entry_after-entry.ensures
-            (Scanning.goes_on _ _ _ c.requires.links_there c.loop-node.node c.loop-node.entry c.loop-node.invariant.1.0 h
-            (sym c.goes_on.ensures ∙ not-false _ c.if-not-goes_on.false)),
+            (Scanning.goes_on_lem _ _ _ c.requires.links_there c.loop-node.node c.loop-node.entry c.loop-node.invariant.1.0 h
+            (sym c.goes_on.ensures ∙ c.if-not-goes_on.false)),
         c.first_unlike-unlike.ensures,
       ),
     )
@@ -62,7 +62,7 @@ loop-node-preserved c =
 pub end_refusal-bad_end-requires : goal.end_refusal-bad_end-requires
 end_refusal-bad_end-requires c =
     let end : c.loop-node.node ≡ c.args.nodes = omega (arith, c.loop-node.invariant.0, c.loop-node-test.false) in
-    (c.requires.some, (c.requires.links_there, rw end at c.loop-node.invariant.1.0))
+    record { some = c.requires.some; there = c.requires.links_there; scanned = rw end at c.loop-node.invariant.1.0 }
 
 pub returns-then-refuses : goal.returns-then-refuses
 returns-then-refuses c = stops _ _ _ _ c.end_refusal-bad_end.ensures c.refuses.ensures c.if-refuses.true

@@ -20,7 +20,7 @@ returns-then-not-goes_before c =
     let loop = c.loop-j in
     moving_ends (as_hit a.hit) a.best.now a.which.now c.requires.sound c.requires.which_value loop.best loop.which loop.j loop.invariant _ _
     (omega (arith, c.loop-j-test.true, c.wide-most.ensures))
-    (sym c.goes_before.ensures ∙ not-true _ c.if-not-goes_before.true) c.put_slot.ensures
+    (sym c.goes_before.ensures ∙ c.if-not-goes_before.true) c.put_slot.ensures
 
 pub loop-j-preserved : goal.loop-j-preserved
 loop-j-preserved c =
@@ -28,7 +28,7 @@ loop-j-preserved c =
     let loop = c.loop-j in
     moving_goes_on (as_hit a.hit) a.best.now a.which.now c.requires.sound c.requires.which_value loop.best loop.which loop.j loop.invariant
     (as_hit c.slot_at-next.result) _ _ (omega (arith, c.loop-j-test.true, c.wide-most.ensures))
-    (sym c.goes_before.ensures ∙ not-false _ c.if-not-goes_before.false) c.slot_at-next.ensures c.put_slot-in-loop-j.ensures
+    (sym c.goes_before.ensures ∙ c.if-not-goes_before.false) c.slot_at-next.ensures c.put_slot-in-loop-j.ensures
 
 pub returns : goal.returns
 returns c =

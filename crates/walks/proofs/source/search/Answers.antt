@@ -15,7 +15,7 @@ overflow_sub-nodes c =
 
 pub look-measured-requires : goal.look-measured-requires
 look-measured-requires c =
-    (root_safe _ _ _ _ _ c.requires, record { floats = refl; numbers = refl })
+    record { node_safe = root_safe _ _ _ _ _ c.requires; lent = record { floats = refl; numbers = refl } }
 
 pub returns : goal.returns
 unfolding source_walk kept div of_bits eq slot_at
