@@ -46,6 +46,9 @@ read_f32s-requires c =
 pub returns : goal.returns
 returns c =
     let a = c.args in
-    let at = ap (λ (k : ℕ). a.start + k) c.nodes_size.ensures in record { links_after = links_overwrite (shape_by a.wide) a.bytes.now a.start a.node _ a.links.now _ _ at c.requires.node_in_bounds.0
-          c.read_u16s.ensures c.read_entries.ensures; boxes_after = box_overwrite a.wide a.bytes.now a.start a.node _ _ a.boxes.now _ at c.bounds_at.ensures
-          c.read_f32s.ensures }
+    let at = ap (λ (k : ℕ). a.start + k) c.nodes_size.ensures in record {
+      links_after = links_overwrite (shape_by a.wide) a.bytes.now a.start a.node _ a.links.now _ _ at c.requires.node_in_bounds.0
+          c.read_u16s.ensures c.read_entries.ensures;
+      boxes_after = box_overwrite a.wide a.bytes.now a.start a.node _ _ a.boxes.now _ at c.bounds_at.ensures
+          c.read_f32s.ensures;
+    }

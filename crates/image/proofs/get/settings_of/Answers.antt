@@ -10,4 +10,4 @@ unfolding settings_in
 returns c =
     let wide = c.args.wide in
     let leaf = c.leaf_of.ensures ∙ ap (leaf_in (shape_by wide)) c.u16_at-2.ensures.value in
-    λ i. record { c = c.u16_at.ensures.value i; leaf_minimum = leaf i; maximum_depth = c.u16_at-3.ensures.value i }
+    λ i. record { strategy = c.u16_at.ensures.value i; leaf_minimum = leaf i; maximum_depth = c.u16_at-3.ensures.value i }

@@ -36,5 +36,8 @@ returns c =
     let x = image_of a.settings a.triangles.now a.order.now a.links.now a.boxes.now a.nodes in
     let floats : float_bytes binary32 a.triangles.now 0 (length a.triangles.now) ≡ triangles_body sh x =
     ap (λ (f : Format). float_bytes f a.triangles.now 0 (length a.triangles.now)) (sym (wide_float a.wide)) in
-    let triangles = put_same (ap (record_of 2) floats) c.put_triangles-third.ensures.put in record { put = put_then (put_then (put_then c.put_settings-second.ensures.put triangles) c.put_order-fourth.ensures.put)
-          c.put_tree.ensures.put; value = omega (arith, c.requires.complete.triples, strides a.wide (length a.order.now)) }
+    let triangles = put_same (ap (record_of 2) floats) c.put_triangles-third.ensures.put in record {
+      put = put_then (put_then (put_then c.put_settings-second.ensures.put triangles) c.put_order-fourth.ensures.put)
+          c.put_tree.ensures.put;
+      value = omega (arith, c.requires.complete.triples, strides a.wide (length a.order.now));
+    }

@@ -10,5 +10,8 @@ use Rattle.image.proofs.put.put_triangles.Goals as goal
 
 pub returns : goal.returns
 returns c =
-    let triangles = c.args.triangles.now in record { put = record_put 2 (4 * length triangles) (length_floats binary32 triangles 0 (length triangles)) c.put_header-body.ensures.put
-          c.put_f32s.ensures.put; value = omega arith }
+    let triangles = c.args.triangles.now in record {
+      put = record_put 2 (4 * length triangles) (length_floats binary32 triangles 0 (length triangles)) c.put_header-body.ensures.put
+          c.put_f32s.ensures.put;
+      value = omega arith;
+    }

@@ -11,8 +11,10 @@ pub put_image-requires : goal.put_image-requires
 put_image-requires c =
     let a = c.args in
     let version = version_picked _ c.is_wide-wide.ensures ∙ ap version_for c.triangle_count.ensures in
-    rw version (can_put (image_from a.strategy a.leaf_minimum a.maximum_depth a.triangles.now a.order.now a.links.now a.boxes.now
-    a.nodes) a.out.now c.write_refusal-verdict.ensures c.in-Passed.is)
+    let fits =
+    can_put (image_from a.strategy a.leaf_minimum a.maximum_depth a.triangles.now a.order.now a.links.now a.boxes.now
+    a.nodes) a.out.now c.write_refusal-verdict.ensures c.in-Passed.is in
+    rw version (record { complete = fits.0; nodes_in_bounds = fits.1 })
 
 pub returns-in-Refused : goal.returns-in-Refused
 returns-in-Refused c =

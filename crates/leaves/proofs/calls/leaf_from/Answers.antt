@@ -1,12 +1,12 @@
 -- `leaves::calls::leaf_from` meets its contract. The invariant: the leaf that is sought is found from this node on.
 use mathlib.Core.Path.{◌≡◌, refl, sym, ap, ◌∙◌}
-use mathlib.Core.Logic.{⊎_elim}
 use Prim.Native.Nat.{◌-◌}
 use native.Mathlib.Omega.{arith}
 use borrow.Author.Rules.{rules}
 use Rattle.spec_tree.specs.Leaves.{leaf_from}
 use Rattle.spec_tree.proofs.Seeking.{seek_here, seek_past, seek_on, seek_ends}
 use Rattle.leaves.proofs.calls.leaf_from.Goals as goal
+use Rattle.leaves.proofs.calls.leaf_from.Goals.{then-kind_at-eq1+else-remaining-eq0, else-kind_at-eq1}
 
 pub loop-node-init : goal.loop-node-init
 loop-node-init c = refl
@@ -29,11 +29,13 @@ overflow_sub-remaining c = omega (arith, c.if-remaining-eq0.false)
 
 pub loop-node-preserved : goal.loop-node-preserved
 loop-node-preserved c =
-    ⊎_elim
-    (λ w. ap (leaf_from _ _ _ _) w.2 ∙ seek_past _ _ _ _ c.loop-node-test.true _ (sym c.kind_at.ensures ∙ w.0.taken) w.1.left
-    ∙ c.loop-node.invariant)
-    (λ w. ap (leaf_from _ _ _ _) w.1 ∙ seek_on _ _ _ _ c.loop-node-test.true _ (λ p. w.0.left (c.kind_at.ensures ∙ p)) ∙ c.loop-node.invariant)
-    c.if-kind_at-eq1.branch
+    elim c.if-kind_at-eq1.branch [
+      | then-kind_at-eq1+else-remaining-eq0 w ↦
+          ap (leaf_from _ _ _ _) w.remaining-is ∙ seek_past _ _ _ _ c.loop-node-test.true _ (sym c.kind_at.ensures ∙ w.if-kind_at-eq1.true) w.if-remaining-eq0.false
+          ∙ c.loop-node.invariant
+      | else-kind_at-eq1 w ↦
+          ap (leaf_from _ _ _ _) w.remaining-is ∙ seek_on _ _ _ _ c.loop-node-test.true _ (λ p. w.if-kind_at-eq1.false (c.kind_at.ensures ∙ p)) ∙ c.loop-node.invariant
+    ]
 
 pub returns : goal.returns
 returns c = sym (seek_ends _ _ _ _ _ (omega (arith, c.loop-node-test.false))) ∙ c.loop-node.invariant

@@ -18,11 +18,11 @@ use Rattle.walks.proofs.leaf.measure.Goals as goal
 
 pub offer-requires : goal.offer-requires
 offer-requires c =
-    rw c.in-Held.is at c.pre.1
+    rw c.in-Held.is at c.requires.ready
 
 pub keep_smaller-requires : goal.keep_smaller-requires
 keep_smaller-requires c =
-    rw c.in-Computed.is at c.pre.1
+    rw c.in-Computed.is at c.requires.ready
 
 pub returns-in-Held : goal.returns-in-Held
 unfolding took_few hit held_spot

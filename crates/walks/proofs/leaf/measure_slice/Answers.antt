@@ -19,10 +19,8 @@ use Rattle.walks.specs.Places.{most_of, Lent, Keeps, kept_in, took_by, Ready, so
 use Rattle.walks.proofs.Counting.{none_counted, one_more_counted}
 use Rattle.walks.proofs.Slots.{sound_after}
 use borrow.Author.Rules.{rules}
+use Rattle.walks.proofs.leaf.measure_slice.Invariants.{took}
 use Rattle.walks.proofs.leaf.measure_slice.Goals as goal
-
-abbrev took : (by : Measures) → List Float → List Float → ℕ → ℕ → Keeps by → Keeps by
-took by triangles probe most = took_by by binary32 triangles (point_of probe) (fourth_of probe) most
 
 as_many : (by : Measures) (triangles probe : List Float) (t : ℕ) (s : Keeps by) {best : List Float} {which : List ℕ} {m n : ℕ} → m ≡ n
     → Holds by best which m (took by triangles probe m t s) → Holds by best which n (took by triangles probe n t s)
@@ -48,7 +46,7 @@ loop-i-init c =
         refl,
         ap (λ (n : ℕ). took_all (took a.measures a.triangles.now a.probe.now (most_of a.which.now)) a.slice.now
             (sought_of a.measures a.best.now a.which.now n))
-            (none_counted a.decreases),
+            (none_counted a.measured),
       ),
     )
 
@@ -61,7 +59,7 @@ loop-i-preserved c =
     let a = c.args in
     let loop = c.loop-i in
     let same = loop.invariant.1.0 in
-    let next = one_more_counted a.decreases loop.i in
+    let next = one_more_counted a.measured loop.i in
     let measured = c.measure.ensures in
     let holds =
     as_many a.measures a.triangles.now a.probe.now (get_or a.slice.now loop.i 0) (kept_in a.measures loop.best loop.which) same
@@ -74,8 +72,8 @@ loop-i-preserved c =
       (
         holds.most_is,
         one_more (took a.measures a.triangles.now a.probe.now (most_of a.which.now)) a.slice.now loop.i
-            (sought_of a.measures loop.best loop.which (a.decreases + loop.i)) _
-            (sought_of a.measures a.best.now a.which.now a.decreases) c.loop-i-test.true
+            (sought_of a.measures loop.best loop.which (a.measured + loop.i)) _
+            (sought_of a.measures a.best.now a.which.now a.measured) c.loop-i-test.true
             (λ j. record { best = holds.kept_is j; measured = next j }) loop.invariant.1.1,
       ),
     )
@@ -86,7 +84,7 @@ returns c =
     let loop = c.loop-i in
     let all =
     none_remaining (took a.measures a.triangles.now a.probe.now (most_of a.which.now)) a.slice.now loop.i
-    (sought_of a.measures loop.best loop.which (a.decreases + loop.i)) (sought_of a.measures a.best.now a.which.now a.decreases)
+    (sought_of a.measures loop.best loop.which (a.measured + loop.i)) (sought_of a.measures a.best.now a.which.now a.measured)
     loop.invariant.0.0
     c.loop-i-test.false loop.invariant.1.1 in record {
       holds = record {
@@ -94,7 +92,7 @@ returns c =
         most_is = loop.invariant.1.0;
         kept_is = ap (λ (s : Sought (Keeps a.measures)). s.best) all;
       };
-      measured_is = ap (λ (s : Sought (Keeps a.measures)). s.decreases) all;
+      measured_is = ap (λ (s : Sought (Keeps a.measures)). s.measured) all;
     }
 
 pub loop-i-smaller : goal.loop-i-smaller

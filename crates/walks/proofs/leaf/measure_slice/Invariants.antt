@@ -21,6 +21,9 @@ use Rattle.walks.proofs.Slots.{sound_after}
 use borrow.Author.Rules.{rules}
 use Rattle.walks.proofs.leaf.measure_slice.Given as goal
 
+abbrev pub took : (by : Measures) → List Float → List Float → ℕ → ℕ → Keeps by → Keeps by
+took by triangles probe most = took_by by binary32 triangles (point_of probe) (fourth_of probe) most
+
 abbrev pub invariant-loop-i : goal.invariant-loop-i
 invariant-loop-i l =
     ((l.i ≤ length l.slice) × Ready l.measures l.best l.which)

@@ -29,6 +29,7 @@ module _ {A : Type 0} (l : List A) (at : ℕ) (a b d : A) where
 
   two_long : length two ≡ length l
   two_long = length-set (set l at a) (at + 1) b ∙ length-set l at a
+
 module _ (l : List Float) (at : ℕ) (a b c e : Float) where
   abbrev four : List Float
   four = set (set (two l at a b nan) (at + 2) c) (at + 3) e
@@ -63,6 +64,7 @@ module _ (l : List Float) (at : ℕ) (a b c e : Float) where
 
   four_long : length four ≡ length l
   four_long = length-set (set (two l at a b nan) (at + 2) c) (at + 3) e ∙ length-set (two l at a b nan) (at + 2) c ∙ two_long l at a b nan
+
 -- ---- the slot
 module _ (best : List Float) (which : List ℕ) (j : ℕ) (h : Hit) (lent : Lent best which) (low : j < 16) where
   abbrev best' : List Float

@@ -1,0 +1,110 @@
+-- `walks::source::look` and `walks::source::look_if_entered` meet their contracts. `look` calls `look_if_entered` with one level less,
+-- and `look_if_entered` calls `look` with the same levels, so the measures are 2d and 2d + 1. Each answer applies a law of `spec_search`.
+use mathlib.Core.Path.{◌≡◌, refl, sym, ap, ◌∙◌}
+use mathlib.Core.Bool.{not}
+use native.Mathlib.Omega.{arith}
+use lib.Ieee.{binary32}
+use Rattle.spec_search.specs.Source.{source_search}
+use Rattle.spec_search.proofs.Walked.{walk_skipped, walk_looked}
+use Rattle.spec_search.proofs.Steps.{hangs_there, leaf_needs, pair_needs, levels_remaining, root_leaf_answers, root_pair_answers, right_needs, then_left_needs, right_answers}
+use Rattle.walks.specs.Values.{point_of, fourth_of}
+use Rattle.walks.specs.declared.answer.Measures.TheVariants.{Computed}
+use Rattle.walks.specs.Places.{sought_of}
+use Rattle.walks.proofs.Reached.{reached_is, reached_on, reached_still, reached_then}
+use Prim.Native.Nat.{ℕ, ◌+◌, ◌-◌, ◌<◌}
+use Rattle.walks.proofs.source.+look_look_if_entered.Goals as goal
+
+falls_in : (d t : ℕ) → 0 < d → d + d ≡ t → (d - 1) + (d - 1) + 1 < t
+falls_in d t z e = omega arith
+
+falls_out : (d t : ℕ) → d + d + 1 ≡ t → d + d < t
+falls_out d t e = omega arith
+
+pub look-links_of-here-requires : goal.look-links_of-here-requires
+look-links_of-here-requires t c =
+    let a = c.args in
+    (hangs_there a.triangles.now a.order.now a.links.now a.boxes.now c.requires.node_safe.tree a.node c.requires.node_safe.hangs).links_there
+
+pub look-measure_leaf-requires : goal.look-measure_leaf-requires
+look-measure_leaf-requires t c =
+    let a = c.args in
+    let wanted =
+    leaf_needs a.triangles.now a.order.now a.links.now a.boxes.now a.depth a.node a.measured _ _ _ c.links_of-here.ensures
+    c.requires.node_safe c.if-here-eq1.true in
+    record { entries_below = wanted.0; first_le_last = wanted.1.0; first_bound = wanted.1.1; ready = c.requires.lent }
+
+pub look-returns-then-here-eq1 : goal.look-returns-then-here-eq1
+look-returns-then-here-eq1 t c =
+    let a = c.args in
+    let how = source_search binary32 a.triangles.now a.boxes.now (point_of a.probe.now) (fourth_of a.probe.now) in
+    let s = sought_of Computed a.best.now a.which.now a.measured in
+    reached_on c.measure_leaf.ensures
+    (root_leaf_answers a.triangles.now a.order.now a.links.now a.boxes.now a.depth a.node a.measured _ _ _
+    c.links_of-here.ensures c.requires.node_safe how s _ c.if-here-eq1.true refl)
+
+pub look-overflow_sub-below : goal.look-overflow_sub-below
+look-overflow_sub-below t c =
+    let a = c.args in
+    levels_remaining a.triangles.now a.order.now a.links.now a.boxes.now a.depth a.node a.measured _ _ _
+    c.links_of-here.ensures c.requires.node_safe c.if-here-eq1.false
+
+pub look-look_if_entered-then-requires : goal.look-look_if_entered-then-requires
+look-look_if_entered-then-requires t c =
+    let a = c.args in (
+      falls_in a.depth t (levels_remaining a.triangles.now a.order.now a.links.now a.boxes.now a.depth a.node a.measured _ _ _
+          c.links_of-here.ensures c.requires.node_safe c.if-here-eq1.false) (omega arith),
+      (right_needs a.triangles.now a.order.now a.links.now a.boxes.now (a.depth - 1) _ _ a.measured
+            (pair_needs a.triangles.now a.order.now a.links.now a.boxes.now a.depth a.node a.measured _ _ _
+            c.links_of-here.ensures c.requires.node_safe c.if-here-eq1.false), c.requires.lent),
+    )
+
+pub look-look_if_entered-requires : goal.look-look_if_entered-requires
+look-look_if_entered-requires t c =
+    let a = c.args in
+    let how = source_search binary32 a.triangles.now a.boxes.now (point_of a.probe.now) (fourth_of a.probe.now) in
+    let s = sought_of Computed a.best.now a.which.now a.measured in (
+      falls_in a.depth t (levels_remaining a.triangles.now a.order.now a.links.now a.boxes.now a.depth a.node a.measured _ _ _
+          c.links_of-here.ensures c.requires.node_safe c.if-here-eq1.false) (omega arith),
+      (then_left_needs a.triangles.now a.order.now a.links.now a.boxes.now (a.depth - 1) _ _ a.measured
+            (pair_needs a.triangles.now a.order.now a.links.now a.boxes.now a.depth a.node a.measured _ _ _
+            c.links_of-here.ensures c.requires.node_safe c.if-here-eq1.false) how s _ refl
+            (reached_is c.look_if_entered-then.ensures), c.look_if_entered-then.ensures.holds.lent),
+    )
+
+pub look-returns : goal.look-returns
+look-returns t c =
+    let a = c.args in
+    let how = source_search binary32 a.triangles.now a.boxes.now (point_of a.probe.now) (fourth_of a.probe.now) in
+    let s = sought_of Computed a.best.now a.which.now a.measured in
+    reached_on
+    (reached_then (λ most. how) a.order.now a.links.now (a.depth - 1) _ c.look_if_entered-then.ensures
+    c.look_if_entered.ensures)
+    (root_pair_answers a.triangles.now a.order.now a.links.now a.boxes.now a.depth a.node a.measured _ _ _
+    c.links_of-here.ensures c.requires.node_safe how s _ c.if-here-eq1.false
+    (right_answers how a.order.now a.links.now (a.depth - 1) _ _ s _ _ refl refl refl))
+
+pub look_if_entered-does_enter-requires : goal.look_if_entered-does_enter-requires
+look_if_entered-does_enter-requires t c =
+    let a = c.args in
+    (hangs_there a.triangles.now a.order.now a.links.now a.boxes.now c.requires.node_safe.tree a.node c.requires.node_safe.hangs).boxes_there
+
+pub look_if_entered-look-requires : goal.look_if_entered-look-requires
+look_if_entered-look-requires t c =
+    let a = c.args in
+    (falls_out a.depth t (omega arith), (c.requires.node_safe, c.requires.lent))
+
+pub look_if_entered-returns-then-does_enter : goal.look_if_entered-returns-then-does_enter
+look_if_entered-returns-then-does_enter t c =
+    let a = c.args in
+    let how = source_search binary32 a.triangles.now a.boxes.now (point_of a.probe.now) (fourth_of a.probe.now) in
+    let s = sought_of Computed a.best.now a.which.now a.measured in
+    reached_on c.look.ensures
+    (walk_looked how a.order.now a.links.now a.depth a.node s (ap not (sym c.does_enter.ensures ∙ c.if-does_enter.true)))
+
+pub look_if_entered-returns : goal.look_if_entered-returns
+look_if_entered-returns t c =
+    let a = c.args in
+    let how = source_search binary32 a.triangles.now a.boxes.now (point_of a.probe.now) (fourth_of a.probe.now) in
+    let s = sought_of Computed a.best.now a.which.now a.measured in
+    reached_on (reached_still Computed a.measured c.requires.lent)
+    (sym (walk_skipped how a.order.now a.links.now a.depth a.node s (ap not (sym c.does_enter.ensures ∙ c.if-does_enter.false))))
