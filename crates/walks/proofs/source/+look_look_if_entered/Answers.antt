@@ -53,9 +53,12 @@ look-look_if_entered-then-requires t c =
     let a = c.args in (
       falls_in a.depth t (levels_remaining a.triangles.now a.order.now a.links.now a.boxes.now a.depth a.node a.measured _ _ _
           c.links_of-here.ensures c.requires.node_safe c.if-here-eq1.false) (omega arith),
-      (right_needs a.triangles.now a.order.now a.links.now a.boxes.now (a.depth - 1) _ _ a.measured
+      (
+        right_needs a.triangles.now a.order.now a.links.now a.boxes.now (a.depth - 1) _ _ a.measured
             (pair_needs a.triangles.now a.order.now a.links.now a.boxes.now a.depth a.node a.measured _ _ _
-            c.links_of-here.ensures c.requires.node_safe c.if-here-eq1.false), c.requires.lent),
+            c.links_of-here.ensures c.requires.node_safe c.if-here-eq1.false),
+        c.requires.lent,
+      ),
     )
 
 pub look-look_if_entered-requires : goal.look-look_if_entered-requires
@@ -65,10 +68,13 @@ look-look_if_entered-requires t c =
     let s = sought_of Computed a.best.now a.which.now a.measured in (
       falls_in a.depth t (levels_remaining a.triangles.now a.order.now a.links.now a.boxes.now a.depth a.node a.measured _ _ _
           c.links_of-here.ensures c.requires.node_safe c.if-here-eq1.false) (omega arith),
-      (then_left_needs a.triangles.now a.order.now a.links.now a.boxes.now (a.depth - 1) _ _ a.measured
+      (
+        then_left_needs a.triangles.now a.order.now a.links.now a.boxes.now (a.depth - 1) _ _ a.measured
             (pair_needs a.triangles.now a.order.now a.links.now a.boxes.now a.depth a.node a.measured _ _ _
             c.links_of-here.ensures c.requires.node_safe c.if-here-eq1.false) how s _ refl
-            (reached_is c.look_if_entered-then.ensures), c.look_if_entered-then.ensures.holds.lent),
+            (reached_is c.look_if_entered-then.ensures),
+        c.look_if_entered-then.ensures.holds.lent,
+      ),
     )
 
 pub look-returns : goal.look-returns
