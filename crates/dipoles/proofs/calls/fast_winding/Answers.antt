@@ -17,5 +17,8 @@ write_windings-requires c =
 
 pub returns : goal.returns
 returns c =
-    record { verdict = c.fast_refusal-verdict.ensures; windings = fast_written _ _ _ _ _ _ _ _ _ (did_pass _ _ _ c.fast_refusal-verdict.ensures c.refuses.ensures c.if-refuses.false) binary32 _
-          c.write_windings.ensures }
+    record {
+      verdict = c.fast_refusal-verdict.ensures;
+      windings = fast_written _ _ _ _ _ _ _ _ _ (did_pass _ _ _ c.fast_refusal-verdict.ensures c.refuses.ensures c.if-refuses.false) binary32 _
+          c.write_windings.ensures;
+    }

@@ -23,5 +23,8 @@ make_dipoles-requires c =
 
 pub returns : goal.returns
 returns c =
-    record { verdict = c.sums_refusal-verdict.ensures; sums = sums_written _ _ _ _ _ _ (did_pass _ _ _ c.sums_refusal-verdict.ensures c.refuses.ensures c.if-refuses.false) binary32 _ _
-          c.store_sums.ensures c.make_dipoles.ensures }
+    record {
+      verdict = c.sums_refusal-verdict.ensures;
+      sums = sums_written _ _ _ _ _ _ (did_pass _ _ _ c.sums_refusal-verdict.ensures c.refuses.ensures c.if-refuses.false) binary32 _ _
+          c.store_sums.ensures c.make_dipoles.ensures;
+    }

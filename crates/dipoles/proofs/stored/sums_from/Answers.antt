@@ -16,8 +16,11 @@ kind_at-requires c = node_links _ _ _ _ _ c.requires
 
 pub range_sums-requires : goal.range_sums-requires
 range_sums-requires c =
-    record { numbered = c.requires.readable.entries; within = rw (c.left_at-left.ensures, c.right_at-right.ensures)
-          (leaf_range _ _ _ _ _ c.requires (sym c.kind_at.ensures ∙ c.if-kind_at-eq1.true)) }
+    record {
+      numbered = c.requires.readable.entries;
+      within = rw (c.left_at-left.ensures, c.right_at-right.ensures)
+          (leaf_range _ _ _ _ _ c.requires (sym c.kind_at.ensures ∙ c.if-kind_at-eq1.true));
+    }
 
 pub returns-then-kind_at-eq1 : goal.returns-then-kind_at-eq1
 returns-then-kind_at-eq1 c =

@@ -35,14 +35,12 @@ kind_at-requires t c =
 
 pub leaf_winding-requires : goal.leaf_winding-requires
 leaf_winding-requires t c =
-    (
-      c.requires.table,
-      (
-        c.requires.there.readable.entries,
-        rw (c.right_at-right.ensures, c.left_at-left.ensures)
-            (leaf_range _ _ _ _ _ c.requires.there (sym c.kind_at.ensures ∙ c.if-kind_at-eq1.true)),
-      ),
-    )
+    record {
+      table = c.requires.table;
+      numbered = c.requires.there.readable.entries;
+      within = rw (c.right_at-right.ensures, c.left_at-left.ensures)
+          (leaf_range _ _ _ _ _ c.requires.there (sym c.kind_at.ensures ∙ c.if-kind_at-eq1.true));
+    }
 
 pub returns-then-kind_at-eq1 : goal.returns-then-kind_at-eq1
 returns-then-kind_at-eq1 t c =
@@ -54,22 +52,20 @@ overflow_sub-levels t c =
     omega (arith, c.if-levels-eq0.false)
 
 pub walk-from_left-requires : goal.walk-from_left-requires
-walk-from_left-requires t c =
-    (
-      omega (arith, c.if-levels-eq0.false),
-      (c.requires.table, rw c.left_at-left.ensures (left_in _ _ _ _ _ c.requires.there (λ p. c.if-kind_at-eq1.false (c.kind_at.ensures ∙ p)))),
-    )
+walk-from_left-requires t c = (
+  omega (arith, c.if-levels-eq0.false),
+  (c.requires.table, rw c.left_at-left.ensures (left_in _ _ _ _ _ c.requires.there (λ p. c.if-kind_at-eq1.false (c.kind_at.ensures ∙ p)))),
+)
 
 pub overflow_sub-levels-2 : goal.overflow_sub-levels-2
 overflow_sub-levels-2 t c =
     omega (arith, c.if-levels-eq0.false)
 
 pub walk-from_right-requires : goal.walk-from_right-requires
-walk-from_right-requires t c =
-    (
-      omega (arith, c.if-levels-eq0.false),
-      (c.requires.table, rw c.right_at-right.ensures (right_in _ _ _ _ _ c.requires.there (λ p. c.if-kind_at-eq1.false (c.kind_at.ensures ∙ p)))),
-    )
+walk-from_right-requires t c = (
+  omega (arith, c.if-levels-eq0.false),
+  (c.requires.table, rw c.right_at-right.ensures (right_in _ _ _ _ _ c.requires.there (λ p. c.if-kind_at-eq1.false (c.kind_at.ensures ∙ p)))),
+)
 
 pub returns : goal.returns
 returns t c =

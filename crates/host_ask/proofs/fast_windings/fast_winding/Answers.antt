@@ -13,9 +13,11 @@ returns-then-refuses c = record { verdict = c.fast_refusal-verdict.ensures; wind
 pub put_fast-requires : goal.put_fast-requires
 put_fast-requires c =
     let a = c.args in
+    let passed =
     fast_passed a.triangles.now a.order.now a.links.now a.boxes.now a.nodes a.sums.now a.points.now a.accuracy
     (length a.out.now)
-    (did_pass _ _ _ c.fast_refusal-verdict.ensures c.refuses.ensures c.if-refuses.false)
+    (did_pass _ _ _ c.fast_refusal-verdict.ensures c.refuses.ensures c.if-refuses.false) in
+    record { there = passed.0; room = passed.1 }
 
 pub returns : goal.returns
 returns c =

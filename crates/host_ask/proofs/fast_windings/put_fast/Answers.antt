@@ -10,10 +10,7 @@ use Rattle.spec_host.specs.PointBytes.{numbers_of, fast_bytes}
 use Rattle.spec_host.proofs.PointBytes.{NumbersPut, numbers_start, numbers_more, numbers_end}
 use borrow.Author.Rules.{rules}
 use Rattle.host_ask.proofs.fast_windings.put_fast.Goals as goal
-
--- the number of point k
-abbrev number : (triangles : List Float) (order links : List ℕ) (nodes : ℕ) (sums : List Float) (accuracy : Float) (points : List ℕ) → ℕ → Float
-number triangles order links nodes sums accuracy points k = fast_about binary32 triangles order links nodes sums accuracy (point_at (numbers_of points) (3 * k))
+use Rattle.host_ask.proofs.fast_windings.put_fast.Invariants.{number}
 
 pub loop-k-init : goal.loop-k-init
 loop-k-init c =

@@ -11,6 +11,10 @@ use Rattle.spec_host.proofs.PointBytes.{NumbersPut, numbers_start, numbers_more,
 use borrow.Author.Rules.{rules}
 use Rattle.host_ask.proofs.fast_windings.put_fast.Given as goal
 
+-- the number of point k
+abbrev pub number : (triangles : List Float) (order links : List ℕ) (nodes : ℕ) (sums : List Float) (accuracy : Float) (points : List ℕ) → ℕ → Float
+number triangles order links nodes sums accuracy points k = fast_about binary32 triangles order links nodes sums accuracy (point_at (numbers_of points) (3 * k))
+
 abbrev pub invariant-loop-k : goal.invariant-loop-k
 invariant-loop-k l =
     NumbersPut (number l.triangles l.order l.links l.nodes l.sums l.accuracy l.points) l.points l.initial.out l.count l.out l.k

@@ -14,9 +14,17 @@ returns-then-refuses c = record { verdict = c.query_refusal-verdict.ensures; ans
 pub put_answers-requires : goal.put_answers-requires
 put_answers-requires c =
     let a = c.args in
+    let passed =
     query_passed a.triangles.now a.order.now a.links.now a.boxes.now a.nodes (as_query a.query) a.points.now
     a.distance (length a.answers.now)
-    (did_pass _ _ _ c.query_refusal-verdict.ensures c.refuses.ensures c.if-refuses.false)
+    (did_pass _ _ _ c.query_refusal-verdict.ensures c.refuses.ensures c.if-refuses.false) in
+    record {
+      searchable = passed.0;
+      good_points = passed.1.0;
+      points_in_bounds = passed.1.1.0;
+      good_distance = passed.1.1.1.0;
+      bound = passed.1.1.1.1;
+    }
 
 pub returns : goal.returns
 returns c =

@@ -12,9 +12,7 @@ use Rattle.spec_host.proofs.PointBytes.{answer_long, point_bytes}
 use Rattle.walks.specs.Places.{most_of, answer_of}
 use borrow.Author.Rules.{rules}
 use Rattle.host_bytes.proofs.answers.put_places_bytes.Goals as goal
-
-abbrev piece : List Float → List ℕ → ℕ → List ℕ
-piece best which i = word_bytes (words_of binary32 (answer_of best which i))
+use Rattle.host_bytes.proofs.answers.put_places_bytes.Invariants.{piece}
 
 pub loop-j-init : goal.loop-j-init
 loop-j-init c =

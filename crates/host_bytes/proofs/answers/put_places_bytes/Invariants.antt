@@ -13,6 +13,9 @@ use Rattle.walks.specs.Places.{most_of, answer_of}
 use borrow.Author.Rules.{rules}
 use Rattle.host_bytes.proofs.answers.put_places_bytes.Given as goal
 
+abbrev pub piece : List Float → List ℕ → ℕ → List ℕ
+piece best which i = word_bytes (words_of binary32 (answer_of best which i))
+
 abbrev pub invariant-loop-j : goal.invariant-loop-j
 invariant-loop-j l = Run (piece l.best l.which) l.at l.most l.initial.out l.out l.j
 

@@ -16,7 +16,11 @@ put_few-requires c =
 
 pub put_few-requires-in-Few : goal.put_few-requires-in-Few
 put_few-requires-in-Few c =
-    (c.requires.askable, rw c.wide.ensures (rw c.in-Few.is at c.requires.bound, rw c.in-Few.is at c.requires.points_in_bounds))
+    record {
+      askable = c.requires.askable;
+      le_most = rw c.wide.ensures (rw c.in-Few.is at c.requires.bound);
+      points_in_bounds = rw c.wide.ensures (rw c.in-Few.is at c.requires.points_in_bounds);
+    }
 
 pub put_source-requires : goal.put_source-requires
 put_source-requires c =

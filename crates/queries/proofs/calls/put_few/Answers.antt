@@ -49,8 +49,14 @@ point_at-touched-requires c = omega (arith, point_inside _ _ (rw c.point_count-c
 
 pub few_at-requires : goal.few_at-requires
 few_at-requires c =
-    let ask = c.requires.askable in record { searchable = ask.searchable; finite = rw c.point_at-touched.ensures (point_finite _ ask.points_good.coordinates _
-            (omega (arith, point_inside _ _ (rw c.point_count-count.ensures at c.loop-k-test.true)))); good_distance = ask.distance_good; le_most = c.requires.le_most; lent = c.loop-k.invariant.1 }
+    let ask = c.requires.askable in record {
+      searchable = ask.searchable;
+      finite = rw c.point_at-touched.ensures (point_finite _ ask.points_good.coordinates _
+          (omega (arith, point_inside _ _ (rw c.point_count-count.ensures at c.loop-k-test.true))));
+      good_distance = ask.distance_good;
+      le_most = c.requires.le_most;
+      lent = c.loop-k.invariant.1;
+    }
 
 pub overflow_mul-width-in-loop-k : goal.overflow_mul-width-in-loop-k
 overflow_mul-width-in-loop-k c =

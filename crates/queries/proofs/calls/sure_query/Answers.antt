@@ -9,5 +9,8 @@ use Rattle.queries.proofs.calls.sure_query.Goals as goal
 
 pub returns : goal.returns
 returns c =
-    let a = c.args in record { verdict = c.ask.ensures.verdict; answers = c.ask.ensures.answers ∙ after_one binary32 (sure_answer binary32 (rule_of a.rule) a.triangles.now a.distance)
-          a.points.now _ a.answers.now }
+    let a = c.args in record {
+      verdict = c.ask.ensures.verdict;
+      answers = c.ask.ensures.answers ∙ after_one binary32 (sure_answer binary32 (rule_of a.rule) a.triangles.now a.distance)
+          a.points.now _ a.answers.now;
+    }

@@ -37,7 +37,7 @@ returns c =
     let scanned = walk_is_scan binary32 a.triangles.now p a.most limit pre.searchable.triangles_good pre.finite a.order.now a.links.now
     a.boxes.now a.nodes pre.searchable.tree_accepted in
     record {
-      c = held.lent;
+      lent = held.lent;
       most_is = held.most_is;
       answers_are = λ j l. held.answers_are j l ∙ ap (λ (ks : List Hit). answer_in ks j) scanned;
     }
