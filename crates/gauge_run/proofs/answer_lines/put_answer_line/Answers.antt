@@ -11,5 +11,8 @@ returns-then-answers-first-eq0 c =
 
 pub returns : goal.returns
 returns c =
-    record { put = put_same (found_words c.args.answers.now c.args.k _ _ c.if-answers-first-eq0.false c.whole.ensures c.whole-2.ensures)
-          c.put_found.ensures.put; upper_bound = c.put_found.ensures.upper_bound }
+    record {
+      put = put_same (found_words c.args.answers.now c.args.k _ _ c.if-answers-first-eq0.false c.whole.ensures c.whole-2.ensures)
+          c.put_found.ensures.put;
+      upper_bound = c.put_found.ensures.upper_bound;
+    }

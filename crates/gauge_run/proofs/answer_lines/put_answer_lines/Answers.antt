@@ -10,11 +10,10 @@ loop-k-init c =
     lined_start (words_line c.args.answers.now) c.args.at c.args.count c.args.out.now (omega (arith, c.requires.1))
 
 pub put_answer_line-next-requires : goal.put_answer_line-next-requires
-put_answer_line-next-requires c =
-    (
-      omega (arith, c.requires.0, c.loop-k-test.true),
-      omega (arith, c.requires.1, c.loop-k-test.true, c.loop-k.invariant.room, c.loop-k.invariant.long),
-    )
+put_answer_line-next-requires c = (
+  omega (arith, c.requires.0, c.loop-k-test.true),
+  omega (arith, c.requires.1, c.loop-k-test.true, c.loop-k.invariant.room, c.loop-k.invariant.long),
+)
 
 pub loop-k-preserved : goal.loop-k-preserved
 loop-k-preserved c =

@@ -39,14 +39,17 @@ put_answers-requires c =
       points = a.points.now;
       distance = a.distance;
       rule = a.rule;
-    } in record { max_points_value = query_passes request (all_passed request c.requires.rule_value) (rw c.in-Tree.is at c.build.ensures) _
-          c.triangle_count-count.ensures c.requires.fits.points_few; points_in_bounds = omega (
+    } in record {
+      max_points_value = query_passes request (all_passed request c.requires.rule_value) (rw c.in-Tree.is at c.build.ensures) _
+          c.triangle_count-count.ensures c.requires.fits.points_few;
+      points_in_bounds = omega (
         arith,
         c.put_counts-next.ensures.upper_bound,
         put_long c.put_counts-next.ensures.put,
         c.requires.fits.room,
         c.requires.fits.points_few,
-      ) }
+      );
+    }
 
 pub returns : goal.returns
 returns c =

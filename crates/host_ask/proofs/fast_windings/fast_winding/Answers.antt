@@ -21,5 +21,8 @@ put_fast-requires c =
 
 pub returns : goal.returns
 returns c =
-    record { verdict = c.fast_refusal-verdict.ensures; windings = as_written _ _ _ _ (c.fast_refusal-verdict.ensures ∙ did_pass _ _ _ c.fast_refusal-verdict.ensures c.refuses.ensures
-          c.if-refuses.false) c.put_fast.ensures }
+    record {
+      verdict = c.fast_refusal-verdict.ensures;
+      windings = as_written _ _ _ _ (c.fast_refusal-verdict.ensures ∙ did_pass _ _ _ c.fast_refusal-verdict.ensures c.refuses.ensures
+          c.if-refuses.false) c.put_fast.ensures;
+    }

@@ -28,5 +28,8 @@ put_answers-requires c =
 
 pub returns : goal.returns
 returns c =
-    record { verdict = c.query_refusal-verdict.ensures; answers = as_written _ _ _ _ (c.query_refusal-verdict.ensures ∙ did_pass _ _ _ c.query_refusal-verdict.ensures
-          c.refuses.ensures c.if-refuses.false) c.put_answers.ensures }
+    record {
+      verdict = c.query_refusal-verdict.ensures;
+      answers = as_written _ _ _ _ (c.query_refusal-verdict.ensures ∙ did_pass _ _ _ c.query_refusal-verdict.ensures
+          c.refuses.ensures c.if-refuses.false) c.put_answers.ensures;
+    }

@@ -46,8 +46,14 @@ point_in-touched-requires c = omega (arith, c.loop-k-test.true)
 
 pub few_at-requires : goal.few_at-requires
 few_at-requires c =
-    record { searchable = c.requires.searchable; finite = rw c.point_in-touched.ensures (point_finite (numbers_of c.args.points.now) c.requires.good_points.coordinates _
-            (rw (numbers_long c.args.points.now) (omega (arith, c.loop-k-test.true)))); good_distance = c.requires.good_distance; le_most = c.requires.le_most; lent = c.loop-k.invariant.1 }
+    record {
+      searchable = c.requires.searchable;
+      finite = rw c.point_in-touched.ensures (point_finite (numbers_of c.args.points.now) c.requires.good_points.coordinates _
+          (rw (numbers_long c.args.points.now) (omega (arith, c.loop-k-test.true))));
+      good_distance = c.requires.good_distance;
+      le_most = c.requires.le_most;
+      lent = c.loop-k.invariant.1;
+    }
 
 pub overflow_mul-width-in-loop-k : goal.overflow_mul-width-in-loop-k
 overflow_mul-width-in-loop-k c =

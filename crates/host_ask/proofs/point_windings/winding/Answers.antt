@@ -18,5 +18,8 @@ put_windings-requires c =
 
 pub returns : goal.returns
 returns c =
-    record { verdict = c.winding_refusal-verdict.ensures; windings = as_written _ _ _ _ (c.winding_refusal-verdict.ensures ∙ did_pass _ _ _ c.winding_refusal-verdict.ensures
-          c.refuses.ensures c.if-refuses.false) c.put_windings.ensures }
+    record {
+      verdict = c.winding_refusal-verdict.ensures;
+      windings = as_written _ _ _ _ (c.winding_refusal-verdict.ensures ∙ did_pass _ _ _ c.winding_refusal-verdict.ensures
+          c.refuses.ensures c.if-refuses.false) c.put_windings.ensures;
+    }

@@ -13,9 +13,12 @@ returns-then-settings-lt3 c = read_short c.if-settings-lt3.true c.encode_short.e
 pub encode_read-requires : goal.encode_read-requires
 encode_read-requires c =
     let a = c.args in
-    let three : 3 ≤ length a.settings.now = omega (arith, c.if-settings-lt3.false) in record { in_bounds = three; read_placed = read_placed a.image.now (record { below = λ i. omega (arith, c.shared_slice_known-1.given i) })
+    let three : 3 ≤ length a.settings.now = omega (arith, c.if-settings-lt3.false) in record {
+      in_bounds = three;
+      read_placed = read_placed a.image.now (record { below = λ i. omega (arith, c.shared_slice_known-1.given i) })
           (record { settings = a.settings.now; triangles = a.triangles.now; order = a.order.now; links = a.links.now; boxes = a.boxes.now }) three _
-          c.read_image-read.ensures.answer }
+          c.read_image-read.ensures.answer;
+    }
 
 pub returns : goal.returns
 returns c =
