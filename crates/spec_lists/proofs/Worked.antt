@@ -4,9 +4,8 @@ use mathlib.Core.Bool.{true, false}
 use mathlib.Core.List.{List, [], ◌∷◌}
 use Prim.Native.Nat.{ℕ, ◌+◌, ◌*◌}
 use lib.IntN.{pos, negsuc}
-use lib.Ieee.{Float, nan, fin, le, neg}
+use lib.Ieee.{Float, nan, fin, le}
 use Rattle.spec_shapes.specs.Points.{Point}
-use Rattle.spec_shapes.specs.Triangles.{Triangle}
 use Rattle.spec_lists.specs.Reading.{number_at, point_at, triangle_at, triangle_count}
 use Rattle.spec_lists.specs.Refusals.{passes, refused, first_refusal, is_coordinate, is_distance, first_bad, coordinate_refusal, room_refusal, distance_refusal, is_scale, scale_refusal}
 use Rattle.spec_lists.specs.Refusals.{ragged_refusal, none_refusal, too_many_refusal, triangles_refusal, are_settings, settings_refusal, points_refusal}

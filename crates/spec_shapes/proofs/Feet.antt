@@ -9,7 +9,7 @@ use lib.Ieee.Bits.{is_true}
 use Rattle.spec_numbers.specs.Values.{zero, one}
 use Rattle.spec_numbers.specs.Hold.{held}
 use Rattle.spec_numbers.proofs.Within.{share_within}
-use Rattle.spec_shapes.specs.Points.{Point, on, minus, plus, scale, dot, is_finite}
+use Rattle.spec_shapes.specs.Points.{Point, minus, plus, scale, dot, is_finite}
 use Rattle.spec_shapes.specs.Boxes.{held_in}
 use Rattle.spec_shapes.specs.Triangles.{Triangle, box_of, OnEdges, along, foot, finite_or, held_foot}
 use Rattle.spec_shapes.proofs.Within.{PointWithin, point_within_more, plus_within, scale_within, power, difference_within, dot_of_differences, within_is_finite}
