@@ -1,11 +1,11 @@
 -- Angles worked out: the numerator and the denominator (1,1), (1,-1), (1,0) and (2,-1), and the solid angle of an octant from its corner, which is a
 -- quarter turn.
 use mathlib.Core.Path.{◌≡◌, refl}
-use mathlib.Core.Bool.{false, true}
-use mathlib.Core.List.{List, [], ◌∷◌}
+use mathlib.Core.Bool.{false}
+use mathlib.Core.List.{[], ◌∷◌}
 use Prim.Native.Nat.{ℕ, ◌^◌, ◌-◌}
 use lib.IntN.{ℤ, pos, negsuc}
-use lib.Ieee.{Float, Format, binary32, binary64, add, sub, mul, div, lt, le, eq, round, of_int}
+use lib.Ieee.{Format, binary32, binary64, add, sub, mul, div, lt, le, eq, round, of_int}
 use Rattle.spec_shapes.specs.Points.{Point, minus, divided_by, dot, cross}
 use Rattle.spec_shapes.specs.Triangles.{Triangle}
 use Rattle.spec_angles.specs.Root.{whole_root, root_by, root_in, root, root_or_nan}

@@ -1,7 +1,7 @@
 -- In which order the axes are tried, and which rule a strategy is.
 use mathlib.Core.Path.{◌≡◌, refl}
 use mathlib.Core.Bool.{true, false}
-use mathlib.Core.List.{List, [], ◌∷◌}
+use mathlib.Core.List.{[], ◌∷◌}
 use lib.Ieee.{Float, Format, lt}
 use Rattle.spec_numbers.specs.Axes.{Axis, X, Y, Z}
 use Rattle.spec_splits.specs.Median.{median_split}

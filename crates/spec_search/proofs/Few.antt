@@ -1,13 +1,13 @@
 -- The nearest few, by either rule: the walk of an accepted tree keeps what the scan of all triangles keeps, which is the front of the ranking of all that
 -- counts; and the first of them is what the scan for one answers. At most = 1 this is demand 3 of the scope.
 use mathlib.Core.Path.{◌≡◌, refl, sym, ap, ◌∙◌}
-use mathlib.Core.Bool.{Bool, true, false, not, cond, ◌&&◌, ◌||◌}
+use mathlib.Core.Bool.{Bool, true, false, cond, ◌&&◌}
 use mathlib.Core.Logic.{⊎_elim}
 use mathlib.Core.List.{List, [], ◌∷◌}
 use Prim.Native.Nat.{ℕ, zero, suc, ◌≤◌, ◌<◌}
 use native.Mathlib.Nat.{le_of_suc-le-suc}
 use native.Mathlib.Omega.{arith}
-use lib.ListN.{length, take}
+use lib.ListN.{take}
 use lib.Ieee.{Float, Format, lt}
 use lib.Ieee.Bits.{is_false}
 use Rattle.spec_numbers.specs.Values.{Number}
@@ -23,10 +23,10 @@ use Rattle.spec_lists.specs.Passed.{GoodTriangles}
 use Rattle.spec_lists.proofs.Reading.{triangle_inside, corners_finite}
 use Rattle.spec_tree.specs.Order.{range}
 use Rattle.spec_tree.specs.Accepted.{accepted}
-use Rattle.spec_search.specs.Answers.{Hit, squared_of, number_of, Answer, nothing, found}
+use Rattle.spec_search.specs.Answers.{Hit, squared_of, number_of, Answer, found}
 use Rattle.spec_search.specs.Rules.{Limit, counts}
-use Rattle.spec_search.specs.Ranked.{before, inserted, offered_to, above_last, IsRanking}
-use Rattle.spec_search.specs.Walk.{Sought, fold}
+use Rattle.spec_search.specs.Ranked.{inserted, offered_to, IsRanking}
+use Rattle.spec_search.specs.Walk.{fold}
 use Rattle.spec_search.specs.Sure.{better, offered, hit, took_sure, scan}
 use Rattle.spec_search.specs.Few.{offered_few, is_skipped, took_few, scan_few, answer_in, node_squared, skipped_few, right_nearer, few_walk}
 use Rattle.spec_search.proofs.Rules.{counts_number, counts_nearer}

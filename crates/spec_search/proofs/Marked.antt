@@ -3,12 +3,12 @@
 -- squared is finite, as that of every search distance is.
 use mathlib.Core.Path.{◌≡◌, refl, sym, ap, ◌∙◌}
 use mathlib.Core.Bool.{Bool, true, false, not, cond, ◌&&◌, ◌||◌, true≢false, false≢true}
-use mathlib.Core.Logic.{◌⊎◌, inl, inr, ⊎_elim}
+use mathlib.Core.Logic.{◌⊎◌, ⊎_elim}
 use mathlib.Core.List.{List, [], ◌∷◌, ◌++◌, append-nil}
 use Prim.Native.Nat.{ℕ, zero, suc, ◌+◌, ◌-◌, ◌≤◌, ◌<◌}
 use native.Mathlib.Nat.{eq-or-lt_of_le, le_of_suc-le-suc}
 use native.Mathlib.Omega.{arith}
-use borrow.Author.Tests.{eq-eqb, ne_eqb, lt-ltb}
+use borrow.Author.Tests.{ne_eqb, lt-ltb}
 use lib.Dec.{T, not_T, eqb}
 use lib.ListN.{length, take, get_or, length-take}
 use lib.Ieee.{Float, Format, inf, lt, le, eq}
@@ -19,7 +19,7 @@ use Rattle.spec_numbers.proofs.Comparisons.{less_number, less_asymmetric}
 use Rattle.spec_shapes.specs.Points.{Point}
 use Rattle.spec_lists.specs.Limits.{deepest}
 use Rattle.spec_tree.specs.Order.{EntriesBelow}
-use Rattle.spec_search.specs.Answers.{Hit, squared_of, number_of, Answer, nothing, found}
+use Rattle.spec_search.specs.Answers.{Hit, squared_of, number_of, nothing, found}
 use Rattle.spec_search.specs.Rules.{Rule, strictly_below, below_or_equal, Limit, counts}
 use Rattle.spec_search.specs.Ranked.{before, inserted, offered_to, above_last}
 use Rattle.spec_search.specs.Sure.{hit}

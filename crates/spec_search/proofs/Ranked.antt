@@ -11,10 +11,10 @@ use native.Mathlib.Decide.{ℕ_discrete}
 use borrow.Author.Tests.{ltb-true, ltb-false, lt-ltb}
 use lib.Dec.{ltb}
 use lib.ListN.{length, take}
-use lib.Ieee.{Float, lt, eq}
+use lib.Ieee.{Float, lt}
 use Rattle.spec_numbers.specs.Values.{Number}
 use Rattle.spec_numbers.proofs.Tests.{either}
-use Rattle.spec_numbers.proofs.Comparisons.{less_number, less_asymmetric, less_between, equal_is}
+use Rattle.spec_numbers.proofs.Comparisons.{less_asymmetric, less_between, equal_is}
 use Rattle.spec_tree.specs.Order.{range}
 use Rattle.spec_search.specs.Walk.{fold}
 use Rattle.spec_search.specs.Ranked.{before, inserted, offered_to, above_last, NotBelow, Rising, NoneBefore, Sorted, BeforeAll, Ranks, IsRanking}

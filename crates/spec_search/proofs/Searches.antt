@@ -1,6 +1,6 @@
 -- Any search that skips a node by its box alone and what is kept, and skips a box only where no triangle inside it would change what is kept, keeps by
 -- the walk of an accepted tree what the scan of all triangles keeps.
-use mathlib.Core.Path.{◌≡◌, refl, sym, ap, subst, ◌∙◌}
+use mathlib.Core.Path.{◌≡◌, sym, ap, subst, ◌∙◌}
 use mathlib.Core.Bool.{Bool, true, false}
 use mathlib.Core.List.Memᴰ
 use mathlib.Core.List.{List, Memᴰ}

@@ -1,19 +1,19 @@
 -- The two rules worked out where the laws leave them free: the mean plane, 0.8 and a ratio that is no number, the first of equal costs, a side that
 -- is empty, a cost that is no number.
 use mathlib.Core.Path.{◌≡◌, refl}
-use mathlib.Core.Bool.{Bool, true, false}
-use mathlib.Core.List.{List, [], ◌∷◌, map, foldl}
+use mathlib.Core.Bool.{true, false}
+use mathlib.Core.List.{List, [], ◌∷◌}
 use Prim.Native.Nat.{ℕ}
 use lib.IntN.{ℤ, pos}
-use lib.Ieee.{Float, Format, binary32, binary64, nan, inf, is_nan, add, sub, mul, div, lt, le, eq, round, of_int}
+use lib.Ieee.{Format, binary32, binary64, nan, inf, is_nan, add, sub, mul, div, lt, le, eq, round, of_int}
 use Rattle.spec_numbers.specs.Axes.{X}
 use Rattle.spec_shapes.specs.Points.{Point, minus, plus, divided_by, dot, smallest, largest}
-use Rattle.spec_shapes.specs.Boxes.{Box, empty, union, centre, sizes, area, volume}
+use Rattle.spec_shapes.specs.Boxes.{Box, union, centre, sizes, volume}
 use Rattle.spec_shapes.specs.Planes.{unit, reach, meets_box}
 use Rattle.spec_splits.specs.Splits.{Split, cut_at, nowhere, union_of}
 use Rattle.spec_splits.specs.Median.{plane_between, all_meet, all_meet_at, is_large, are_both_large, median_split}
-use Rattle.spec_splits.specs.Buckets.{Bucket, empty_bucket, with_box}
-use Rattle.spec_splits.specs.Area.{cost, Cheapest, none_yet, with_cost, cheapest_of, weight, first_later, cut_by}
+use Rattle.spec_splits.specs.Buckets.{empty_bucket, with_box}
+use Rattle.spec_splits.specs.Area.{cost, none_yet, with_cost, cheapest_of, cut_by}
 
 module _ (f : Format) where
   abbrev point : ℤ → ℤ → ℤ → Point

@@ -1,5 +1,5 @@
 -- `test_angles::replay_section` is safe and ends: the turn is at most the count.
-use Rattle.std.proofs.Common.{◌-◌, ◌≤◌, rules}
+use Rattle.std.proofs.Common.{◌-◌, ◌≤◌}
 use Rattle.test_angles.proofs.replay_section.Given as goal
 
 abbrev pub invariant-loop-i : goal.invariant-loop-i

@@ -1,5 +1,5 @@
 -- `test_angles::replay_windings` is safe and ends: the turn is at most the number of points.
-use Rattle.std.proofs.Common.{◌-◌, ◌≤◌, rules}
+use Rattle.std.proofs.Common.{◌-◌, ◌≤◌}
 use Rattle.test_angles.proofs.replay_windings.Given as goal
 
 abbrev pub invariant-loop-k : goal.invariant-loop-k

@@ -1,6 +1,5 @@
 -- `test_check::comb` is safe and ends: there are 129 nodes.
 use Prim.Native.Nat.{◌≤◌, ◌-◌}
-use borrow.Author.Rules.{rules}
 use Rattle.test_check.proofs.comb.Given as goal
 
 abbrev pub invariant-loop-t : goal.invariant-loop-t

@@ -1,6 +1,5 @@
 -- `test_check::numbers` is safe and ends: each number is below 65.
 use Prim.Native.Nat.{◌≤◌, ◌-◌}
-use borrow.Author.Rules.{rules}
 use Rattle.test_check.proofs.numbers.Given as goal
 
 abbrev pub invariant-loop-t : goal.invariant-loop-t

@@ -1,6 +1,5 @@
 -- `test_check::put_each_link` is safe and ends.
 use Prim.Native.Nat.{◌-◌}
-use borrow.Author.Rules.{rules}
 use Rattle.test_check.proofs.put_each_link.Given as goal
 
 abbrev pub invariant-loop-i : goal.invariant-loop-i

@@ -1,5 +1,5 @@
 -- `test_dipoles::replay_all` is safe and ends: the turn is at most 1000.
-use Rattle.std.proofs.Common.{◌-◌, ◌≤◌, rules}
+use Rattle.std.proofs.Common.{◌-◌, ◌≤◌}
 use Rattle.test_dipoles.proofs.replay_all.Given as goal
 
 abbrev pub invariant-loop-turn : goal.invariant-loop-turn

@@ -9,7 +9,6 @@ use Rattle.spec_search.proofs.Rules.{limit_bounded}
 use Rattle.spec_search.proofs.Calls.{most_passed}
 use Rattle.test_exports.specs.Answered.{measured_at}
 use Rattle.test_exports.proofs.Branches.{when, unless}
-use borrow.Author.Rules.{rules}
 use Rattle.test_exports.proofs.measured_at.Goals as goal
 
 pub returns-then-refuses : goal.returns-then-refuses
@@ -26,8 +25,13 @@ returns-then-refuses-2 c =
 pub search-requires : goal.search-requires
 unfolding limit_squared
 search-requires c =
-    let few = most_passed _ (did_pass _ _ _ c.most_refusal-bad_most.ensures c.refuses-2.ensures c.if-refuses-2.false) in record { searchable = c.requires; false_value = limit_bounded binary32 _
-            (distance_passed _ (did_pass _ _ _ c.distance_refusal-bad_distance.ensures c.refuses.ensures c.if-refuses.false)); le_most = rw c.wide.ensures few; lent = record { floats = refl; numbers = refl } }
+    let few = most_passed _ (did_pass _ _ _ c.most_refusal-bad_most.ensures c.refuses-2.ensures c.if-refuses-2.false) in record {
+      searchable = c.requires;
+      false_value = limit_bounded binary32 _
+          (distance_passed _ (did_pass _ _ _ c.distance_refusal-bad_distance.ensures c.refuses.ensures c.if-refuses.false));
+      le_most = rw c.wide.ensures few;
+      lent = record { floats = refl; numbers = refl };
+    }
 
 pub returns : goal.returns
 unfolding limit_squared measured_at

@@ -1,7 +1,6 @@
 -- `test_exports::timing_check` meets its contract: the number says whether the check passed.
 use mathlib.Core.Path.{ap, ◌∙◌}
 use Rattle.test_exports.specs.Answered.{one_passed}
-use borrow.Author.Rules.{rules}
 use Rattle.test_exports.proofs.timing_check.Goals as goal
 
 pub returns : goal.returns

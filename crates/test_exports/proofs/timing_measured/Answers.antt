@@ -13,7 +13,6 @@ use Rattle.test_exports.proofs.Branches.{when, unless}
 use Rattle.spec_lists.proofs.Verdicts.{did_pass}
 use Rattle.spec_lists.proofs.Passed.{triangles_passed}
 use Rattle.spec_tree.proofs.Unchanged.{acceptance_unchanged, tree_passed}
-use borrow.Author.Rules.{rules}
 use borrow.Author.Tests.{le-leb, lt-leb}
 use Rattle.test_exports.proofs.timing_measured.Goals as goal
 

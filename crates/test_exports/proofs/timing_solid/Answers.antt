@@ -1,7 +1,6 @@
 -- `test_exports::timing_solid` meets its contract: the angle of one triangle from one point, else a NaN.
 use mathlib.Core.Path.{◌∙◌}
 use lib.Ieee.{of_bits, div}
-use borrow.Author.Rules.{rules}
 use borrow.Author.Tests.{eq-eqb, ne_eqb}
 use Rattle.test_exports.specs.Answered.{angle_of_one}
 use Rattle.test_exports.proofs.Branches.{when, unless}

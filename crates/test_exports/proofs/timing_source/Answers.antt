@@ -1,7 +1,6 @@
 -- `test_exports::timing_source` meets its contract: the query's answers are written, and the number says whether there are any.
 use mathlib.Core.Path.{ap, ◌∙◌}
 use Rattle.test_exports.specs.Answered.{one_passed}
-use borrow.Author.Rules.{rules}
 use Rattle.test_exports.proofs.timing_source.Goals as goal
 
 pub returns : goal.returns

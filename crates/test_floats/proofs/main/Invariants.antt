@@ -1,6 +1,5 @@
 -- `test_floats::main` is safe and ends: the turn is at most 1,024.
 use Prim.Native.Nat.{◌≤◌, ◌-◌}
-use borrow.Author.Rules.{rules}
 use Rattle.test_floats.proofs.main.Given as goal
 
 abbrev pub invariant-loop-k : goal.invariant-loop-k

@@ -7,7 +7,6 @@ use lib.ListN.{length-replicate}
 use lib.Seq.{length-take-le}
 use Rattle.spec_tables.proofs.Tables.{put_long}
 use Rattle.spec_gauge.specs.Printed.{max_printed}
-use borrow.Author.Rules.{rules}
 use Rattle.test_gauge.proofs.print_one.Goals as goal
 
 pub slice_bounds-print-end : goal.slice_bounds-print-end

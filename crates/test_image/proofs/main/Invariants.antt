@@ -1,5 +1,5 @@
 -- `test_image::main` is safe and ends: the turn is at most 1,000.
-use Rattle.std.proofs.Common.{◌-◌, ◌≤◌, rules}
+use Rattle.std.proofs.Common.{◌-◌, ◌≤◌}
 use Rattle.test_image.proofs.main.Given as goal
 
 abbrev pub invariant-loop-turn : goal.invariant-loop-turn

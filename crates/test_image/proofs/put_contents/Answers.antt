@@ -1,5 +1,5 @@
 -- `test_image::put_contents` meets its contract: the slices that are written again end within the lists.
-use Rattle.std.proofs.Common.{arith, length-take, rules}
+use Rattle.std.proofs.Common.{arith, length-take}
 use Rattle.test_image.proofs.put_contents.Goals as goal
 
 pub write_again-requires : goal.write_again-requires

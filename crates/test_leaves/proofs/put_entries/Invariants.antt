@@ -1,6 +1,5 @@
 -- `test_leaves::put_entries` is safe and ends: the place is at most the count.
 use Prim.Native.Nat.{◌≤◌, ◌-◌}
-use borrow.Author.Rules.{rules}
 use Rattle.test_leaves.proofs.put_entries.Given as goal
 
 abbrev pub invariant-loop-i : goal.invariant-loop-i

@@ -1,6 +1,5 @@
 -- `test_leaves::put_leaves` is safe and ends: the leaf's number is at most the count.
 use Prim.Native.Nat.{◌≤◌, ◌-◌}
-use borrow.Author.Rules.{rules}
 use Rattle.test_leaves.proofs.put_leaves.Given as goal
 
 abbrev pub invariant-loop-k : goal.invariant-loop-k

@@ -1,6 +1,5 @@
 -- `test_leaves::put_tree` is safe and ends: the nodes of lists that pass are there.
 use mathlib.Core.Path.{sym, ap, ◌∙◌}
-use borrow.Author.Rules.{rules}
 use Rattle.spec_tree.proofs.Leaves.{counted_there}
 use Rattle.leaves.specs.Values.{as_leaves_counted}
 use Rattle.test_leaves.proofs.put_tree.Goals as goal

@@ -1,6 +1,5 @@
 -- `test_shapes::replay_all` is safe and ends: the turn is at most 10,000.
 use Prim.Native.Nat.{◌≤◌, ◌-◌}
-use borrow.Author.Rules.{rules}
 use Rattle.test_shapes.proofs.replay_all.Given as goal
 
 abbrev pub invariant-loop-turn : goal.invariant-loop-turn

@@ -1,6 +1,5 @@
 -- `test_trees::replay_all` is safe and ends: the turn is at most 1000.
 use Prim.Native.Nat.{◌≤◌, ◌-◌}
-use borrow.Author.Rules.{rules}
 use Rattle.test_trees.proofs.replay_all.Given as goal
 
 abbrev pub invariant-loop-turn : goal.invariant-loop-turn

@@ -1,13 +1,10 @@
 -- `test_words::fill_floats` meets its contract. The invariant: the first i stand in the list.
-use mathlib.Core.List.{[], ◌∷◌}
-use Prim.Native.Nat.{◌*◌, ◌-◌}
+use Prim.Native.Nat.{◌-◌}
 use native.Mathlib.Omega.{arith}
-use borrow.Author.Rules.{rules}
-use lib.Ieee.{binary32, of_bits}
-use lib.ListN.{length, length-set}
-use Rattle.spec_tables.proofs.Runs.{Run, run_start}
+use lib.ListN.{length-set}
+use Rattle.spec_tables.proofs.Runs.{run_start}
 use Rattle.spec_tables.proofs.Stores.{run_store_front, run_whole}
-use Rattle.test_words.specs.Words.{word_at, more, floats_from}
+use Rattle.test_words.specs.Words.{more, floats_from}
 use Rattle.test_words.proofs.fill_floats.Goals as goal
 
 pub loop-i-init : goal.loop-i-init

@@ -1,13 +1,10 @@
 -- `test_words::fill_floats` meets its contract. The invariant: the first i stand in the list.
 use mathlib.Core.List.{[], ◌∷◌}
 use Prim.Native.Nat.{◌*◌, ◌-◌}
-use native.Mathlib.Omega.{arith}
-use borrow.Author.Rules.{rules}
 use lib.Ieee.{binary32, of_bits}
-use lib.ListN.{length, length-set}
-use Rattle.spec_tables.proofs.Runs.{Run, run_start}
-use Rattle.spec_tables.proofs.Stores.{run_store_front, run_whole}
-use Rattle.test_words.specs.Words.{word_at, more, floats_from}
+use lib.ListN.{length}
+use Rattle.spec_tables.proofs.Runs.{Run}
+use Rattle.test_words.specs.Words.{word_at, more}
 use Rattle.test_words.proofs.fill_floats.Given as goal
 
 abbrev pub invariant-loop-i : goal.invariant-loop-i

@@ -1,5 +1,4 @@
 -- `test_words::more` meets its contract: its tests are those of the definition.
-use borrow.Author.Rules.{rules}
 use borrow.Author.Tests.{lt-ltb, le-ltb}
 use Rattle.test_words.specs.Words.{more}
 use Rattle.test_words.proofs.more.Goals as goal

@@ -1,5 +1,5 @@
 -- `angles::arc_tangent::angle_by` meets its contract: its test is `askable`.
-use Rattle.std.proofs.Common.{◌≡◌, Bool, true, ◌&&◌, refl, rules}
+use Rattle.std.proofs.Common.{◌≡◌, Bool, true, ◌&&◌, refl}
 use lib.Ieee.{Float, ne, of_bits, div}
 use lib.Ieee.Scale.{finite}
 use Rattle.spec_numbers.specs.Values.{zero}

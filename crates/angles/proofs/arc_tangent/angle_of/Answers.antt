@@ -1,5 +1,5 @@
 -- `angles::arc_tangent::angle_of` meets its contract: the ratio, its units, their arc, and the arc mirrored into its quadrant.
-use Rattle.std.proofs.Common.{◌≡◌, ℕ, ◌^◌, ◌≤◌, Bool, refl, le_trans, lit≤, rules}
+use Rattle.std.proofs.Common.{◌≡◌, ℕ, ◌^◌, ◌≤◌, Bool, refl, le_trans, lit≤}
 use lib.Ieee.{Float, binary32, lt, of_bits}
 use Rattle.spec_numbers.specs.Values.{zero, abs}
 use Rattle.spec_angles.specs.Angle.{Askable, AtMostOne, ratio, in_units, arc, quarter_turn, half_turn, mirrored, angle}

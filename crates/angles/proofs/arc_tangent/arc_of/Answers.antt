@@ -1,5 +1,5 @@
 -- `angles::arc_tangent::arc_of` meets its contract: the last entry, or a point on the line between two.
-use Rattle.std.proofs.Common.{◌∙◌, lt_of_le_of_lt, le_of_lt, lit<, rules}
+use Rattle.std.proofs.Common.{◌∙◌, lt_of_le_of_lt, le_of_lt, lit<}
 use Rattle.spec_angles.proofs.Arc.{at_the_end, rises, product_fits, line_most, on_the_line}
 use Rattle.angles.proofs.arc_tangent.arc_of.Goals as goal
 

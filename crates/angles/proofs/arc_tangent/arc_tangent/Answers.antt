@@ -1,5 +1,5 @@
 -- `angles::arc_tangent::arc_tangent` meets its contract: the size of the angle, rounded once, with the sign of n.
-use Rattle.std.proofs.Common.{refl, arith, rules}
+use Rattle.std.proofs.Common.{refl, arith}
 use lib.Ieee.{binary32, of_bits}
 use Rattle.spec_angles.specs.Angle.{arc_tangent}
 use Rattle.spec_angles.proofs.Arc.{angle_most}

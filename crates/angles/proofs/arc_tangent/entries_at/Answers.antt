@@ -1,5 +1,5 @@
 -- `angles::arc_tangent::entries_at` meets its contract: the array that is lent is the table of the definitions.
-use Rattle.std.proofs.Common.{ℕ, ◌+◌, List, get_or, ap, ◌∙◌, rules}
+use Rattle.std.proofs.Common.{ℕ, ◌+◌, List, get_or, ap, ◌∙◌}
 use Rattle.spec_angles.specs.Table.{entry}
 use Rattle.angles.proofs.arc_tangent.entries_at.Goals as goal
 

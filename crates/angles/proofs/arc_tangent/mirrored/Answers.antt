@@ -1,5 +1,4 @@
 -- `angles::arc_tangent::mirrored` meets its contract: each arm is a case of the definition.
-use Rattle.std.proofs.Common.{rules}
 use Rattle.spec_angles.specs.Angle.{mirrored}
 use Rattle.angles.proofs.arc_tangent.mirrored.Goals as goal
 

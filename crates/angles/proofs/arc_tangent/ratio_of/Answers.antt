@@ -1,5 +1,5 @@
 -- `angles::arc_tangent::ratio_of` meets its contract: the smaller magnitude is divided by the larger.
-use Rattle.std.proofs.Common.{◌≡◌, true, false, rules}
+use Rattle.std.proofs.Common.{◌≡◌, true, false}
 use lib.Ieee.{Float, binary32, lt, div}
 use Rattle.spec_numbers.specs.Values.{abs}
 use Rattle.spec_angles.specs.Angle.{ratio}

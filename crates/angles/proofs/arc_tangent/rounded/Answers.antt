@@ -1,6 +1,5 @@
 -- `angles::arc_tangent::rounded` meets its contract. The constant of the source is 2 ^ -30.
 use lib.Ieee.{binary32, of_bits, of_int}
-use Rattle.std.proofs.Common.{rules}
 use Rattle.spec_angles.proofs.Thirtieth.{rounds_once, rounds_once_negated}
 use Rattle.angles.proofs.arc_tangent.rounded.Goals as goal
 

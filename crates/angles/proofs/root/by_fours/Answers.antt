@@ -2,7 +2,7 @@
 -- Shifted up by its spare places the significand has 24 digits; 23 or 24 places more leave an even power.
 use Rattle.std.proofs.Common.{arith}
 use lib.Count.{count_leading_zeros}
-use Rattle.spec_angles.proofs.RootByBits.{Spare, spare_of, split_of}
+use Rattle.spec_angles.proofs.RootByBits.{spare_of, split_of}
 use Rattle.angles.proofs.root.by_fours.Goals as goal
 
 pub overflow_sub-spare : goal.overflow_sub-spare

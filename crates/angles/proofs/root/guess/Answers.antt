@@ -1,7 +1,7 @@
 -- `angles::root::guess` meets its contract: the rest of a division is below its divisor.
 use Rattle.spec_numbers.proofs.Tests.{failed}
 use Rattle.spec_numbers.proofs.Patterns.{same_is_number}
-use Rattle.std.proofs.Common.{arith, rules}
+use Rattle.std.proofs.Common.{arith}
 use Rattle.angles.proofs.root.guess.Goals as goal
 
 pub float_to_bits-result : goal.float_to_bits-result

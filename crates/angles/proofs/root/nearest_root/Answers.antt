@@ -1,6 +1,6 @@
 -- `angles::root::nearest_root` meets its contract: a guess that passes both tests is the nearest (`tested_nearer`),
 -- and the test after the halving is that of `nearer`.
-use Rattle.std.proofs.Common.{◌≡◌, ℕ, ◌+◌, ◌-◌, ◌*◌, ◌^◌, ◌<◌, ◌≤◌, sym, lt_of_le_of_lt, arith, rules}
+use Rattle.std.proofs.Common.{◌≡◌, ℕ, ◌+◌, ◌-◌, ◌*◌, ◌^◌, ◌<◌, ◌≤◌, sym, lt_of_le_of_lt, arith}
 use Rattle.spec_angles.specs.Root.{whole_root, nearer, WholeRoot}
 use Rattle.spec_angles.proofs.Powers.{square_mono, square_reflects}
 use Rattle.spec_angles.proofs.WholeRoot.{whole_root_lem, root_below, root_above, tested_nearer}

@@ -1,8 +1,8 @@
 -- `angles::root::root` meets its contract: the bits that it puts together are those of the value nearest the root, and there is only one.
-use Rattle.std.proofs.Common.{◌≡◌, ℕ, ◌+◌, ◌-◌, ◌*◌, ◌^◌, ◌<◌, not, T, sym, inl, inr, eq-zero-or-pos, arith, T_not, rules}
+use Rattle.std.proofs.Common.{◌≡◌, ℕ, ◌+◌, ◌-◌, ◌*◌, ◌^◌, ◌<◌, not, T, sym, inl, inr, eq-zero-or-pos, arith, T_not}
 use lib.Ieee.{Float, binary32, fits, eq, of_bits, to_bits}
 use lib.Ieee.Bits.{of_bits-to_bits}
-use Rattle.spec_numbers.specs.Values.{zero, unsigned}
+use Rattle.spec_numbers.specs.Values.{zero}
 use Rattle.spec_numbers.proofs.Tests.{passed, failed}
 use Rattle.spec_angles.specs.Root.{IsRoot, root, rootable, whole_root, nearer}
 use Rattle.spec_angles.specs.RootByBits.{NearestRoot, Scaled}

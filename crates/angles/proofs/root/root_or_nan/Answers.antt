@@ -1,5 +1,5 @@
 -- `angles::root::root_or_nan` meets its contract: its test is `rootable`.
-use Rattle.std.proofs.Common.{◌≡◌, Bool, true, ◌&&◌, sym, refl, ◌∙◌, rules}
+use Rattle.std.proofs.Common.{◌≡◌, Bool, true, ◌&&◌, sym, refl, ◌∙◌}
 use lib.Ieee.{Float, le, of_bits, div}
 use lib.Ieee.Scale.{finite}
 use Rattle.spec_numbers.specs.Values.{zero}

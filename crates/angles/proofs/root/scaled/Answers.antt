@@ -1,5 +1,4 @@
 -- `angles::root::scaled` meets its contract: a subnormal number has no leading digit, and a normal one has it.
-use Rattle.std.proofs.Common.{rules}
 use Rattle.spec_angles.proofs.RootByBits.{scaled_subnormal, scaled_normal}
 use Rattle.angles.proofs.root.scaled.Goals as goal
 

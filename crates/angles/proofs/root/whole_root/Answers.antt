@@ -1,5 +1,5 @@
 -- `angles::root::whole_root` meets its contract. The invariant: the root lies from r on and below r + step. The measure is the step.
-use Rattle.std.proofs.Common.{ℕ, ◌+◌, ◌*◌, ◌/◌, ◌^◌, ◌<◌, ◌≤◌, lt_of_lt_of_le, lt_of_le_of_lt, arith}
+use Rattle.std.proofs.Common.{ℕ, ◌+◌, ◌/◌, ◌^◌, ◌<◌, ◌≤◌, lt_of_lt_of_le, lt_of_le_of_lt, arith}
 use Rattle.spec_angles.proofs.Powers.{square_mono, square_reflects}
 use Rattle.spec_angles.proofs.WholeRoot.{whole_root_lem, whole_root_unique}
 use Rattle.angles.proofs.root.whole_root.Invariants.{Between}

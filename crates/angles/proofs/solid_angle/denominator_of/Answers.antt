@@ -1,7 +1,6 @@
 -- `angles::solid_angle::denominator_of` meets its contract: one and the three dots, from the left.
 use lib.Ieee.{of_bits}
 use Rattle.spec_angles.specs.Winding.{denominator}
-use Rattle.std.proofs.Common.{rules}
 use Rattle.angles.proofs.solid_angle.denominator_of.Goals as goal
 
 pub returns : goal.returns

@@ -1,6 +1,5 @@
 -- `angles::solid_angle::numerator_of` meets its contract: the dot of a corner and the cross of two sides.
 use Rattle.spec_angles.specs.Winding.{numerator}
-use Rattle.std.proofs.Common.{rules}
 use Rattle.angles.proofs.solid_angle.numerator_of.Goals as goal
 
 pub returns : goal.returns

@@ -1,5 +1,5 @@
 -- `angles::solid_angle::origin_angle` meets its contract: the lengths, their test, and the angle of the directions.
-use Rattle.std.proofs.Common.{◌≡◌, true, false, ◌||◌, rules}
+use Rattle.std.proofs.Common.{◌≡◌, true, false, ◌||◌}
 use lib.Ieee.{Float, binary32, eq, of_bits}
 use Rattle.spec_numbers.specs.Values.{zero}
 use Rattle.spec_shapes.specs.Points.{Point, divided_by}

@@ -1,6 +1,5 @@
 -- `angles::solid_angle::seen_from` meets its contract, corner by corner.
 use Rattle.spec_angles.specs.Winding.{seen_from}
-use Rattle.std.proofs.Common.{rules}
 use Rattle.angles.proofs.solid_angle.seen_from.Goals as goal
 
 pub returns : goal.returns

@@ -1,7 +1,6 @@
 -- `angles::solid_angle::unit_angle` meets its contract: its test is that of the definition.
 use lib.Ieee.{of_bits}
 use Rattle.spec_angles.specs.Winding.{unit_angle}
-use Rattle.std.proofs.Common.{rules}
 use Rattle.angles.proofs.solid_angle.unit_angle.Goals as goal
 
 pub returns-then-numerator : goal.returns-then-numerator

@@ -1,6 +1,6 @@
 -- `angles::winding::winding` meets its contract: a refusal leaves the list as it was, and otherwise the list is written.
 use lib.Ieee.{binary32}
-use Rattle.std.proofs.Common.{sym, ◌∙◌, rules}
+use Rattle.std.proofs.Common.{sym, ◌∙◌}
 use Rattle.spec_lists.proofs.Verdicts.{did_pass}
 use Rattle.spec_angles.proofs.Windings.{as_it_was, room_for_all, is_written}
 use Rattle.angles.proofs.winding.winding.Goals as goal

@@ -1,10 +1,10 @@
 -- `angles::winding::winding_number_by` meets its contract. The invariant: `sum` is that of the first t solid angles.
 -- The measure is the number of triangles that remain.
-use Rattle.std.proofs.Common.{◌-◌, ◌∙◌, arith, rules}
-use lib.Ieee.{binary32, of_bits}
+use Rattle.std.proofs.Common.{◌-◌}
+use lib.Ieee.{binary32}
 use Rattle.shapes.specs.Values.{as_point}
-use Rattle.spec_lists.specs.Reading.{triangle_at, triangle_count}
-use Rattle.spec_angles.proofs.Windings.{Summed, sum_start, sum_more, sum_end, number_about}
+use Rattle.spec_lists.specs.Reading.{triangle_at}
+use Rattle.spec_angles.proofs.Windings.{Summed}
 use Rattle.angles.proofs.winding.winding_number_by.Given as goal
 
 abbrev pub invariant-loop-t : goal.invariant-loop-t

@@ -1,7 +1,6 @@
 -- `angles::winding::winding_refusal` meets its contract: three tests in a row.
 use Rattle.spec_lists.proofs.Verdicts.{ends, or_test}
 use Rattle.spec_angles.specs.Windings.{winding_refusal}
-use Rattle.std.proofs.Common.{rules}
 use Rattle.angles.proofs.winding.winding_refusal.Goals as goal
 
 pub returns : goal.returns

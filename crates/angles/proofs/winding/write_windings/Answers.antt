@@ -1,10 +1,8 @@
 -- `angles::winding::write_windings` meets its contract. The invariant: the first k winding numbers stand in `out`.
 -- The measure is the number of points that remain.
-use Rattle.std.proofs.Common.{◌-◌, arith, rules}
-use lib.Ieee.{binary32}
+use Rattle.std.proofs.Common.{◌-◌, arith}
 use Rattle.spec_lists.proofs.Reading.{point_inside}
-use Rattle.spec_angles.specs.Windings.{winding_about}
-use Rattle.spec_angles.proofs.Windings.{AboutPut, about_start, about_more, windings_end}
+use Rattle.spec_angles.proofs.Windings.{about_start, about_more, windings_end}
 use Rattle.angles.proofs.winding.write_windings.Goals as goal
 
 pub loop-k-init : goal.loop-k-init

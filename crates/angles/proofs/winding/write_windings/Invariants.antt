@@ -1,10 +1,9 @@
 -- `angles::winding::write_windings` meets its contract. The invariant: the first k winding numbers stand in `out`.
 -- The measure is the number of points that remain.
-use Rattle.std.proofs.Common.{◌-◌, arith, rules}
+use Rattle.std.proofs.Common.{◌-◌}
 use lib.Ieee.{binary32}
-use Rattle.spec_lists.proofs.Reading.{point_inside}
 use Rattle.spec_angles.specs.Windings.{winding_about}
-use Rattle.spec_angles.proofs.Windings.{AboutPut, about_start, about_more, windings_end}
+use Rattle.spec_angles.proofs.Windings.{AboutPut}
 use Rattle.angles.proofs.winding.write_windings.Given as goal
 
 abbrev pub invariant-loop-k : goal.invariant-loop-k

@@ -3,7 +3,6 @@ use mathlib.Core.Path.{sym, ap, ◌∙◌}
 use lib.Ieee.{binary32}
 use Rattle.lists.specs.Values.{as_verdict}
 use Rattle.spec_build.proofs.Building.{refusal_gives}
-use borrow.Author.Rules.{rules}
 use Rattle.build.proofs.calls.build.Goals as goal
 
 pub returns-in-Refused : goal.returns-in-Refused

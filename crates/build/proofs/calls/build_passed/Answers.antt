@@ -4,7 +4,6 @@ use native.Mathlib.Omega.{arith}
 use lib.Ieee.{binary32}
 use Rattle.spec_build.proofs.Build.{build_passed}
 use Rattle.spec_build.proofs.Building.{fronts_lent, front_within, front_cleared, passed_gives}
-use borrow.Author.Rules.{rules}
 use Rattle.build.proofs.calls.build_passed.Goals as goal
 
 pub overflow_mul-count : goal.overflow_mul-count

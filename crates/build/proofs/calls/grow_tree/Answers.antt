@@ -3,7 +3,6 @@ use mathlib.Core.Path.{sym}
 use native.Mathlib.Omega.{arith}
 use lib.Ieee.{binary32}
 use Rattle.spec_build.proofs.Building.{bounds_needs, order_needs, centres_needs, count_within, front_long, grow_needs, root_few, tree_left}
-use borrow.Author.Rules.{rules}
 use Rattle.build.proofs.calls.grow_tree.Goals as goal
 
 pub put_bounds-requires : goal.put_bounds-requires

@@ -3,7 +3,6 @@ use native.Mathlib.Omega.{arith}
 use Rattle.spec_lists.proofs.Verdicts.{ends, or_test, row_stops, row_goes_on, row_passed}
 use Rattle.spec_lists.proofs.Passed.{triangles_passed}
 use Rattle.spec_build.specs.Build.{build_refusal}
-use borrow.Author.Rules.{rules}
 use Rattle.build.proofs.tests.build_refusal.Goals as goal
 
 pub returns-then-refuses : goal.returns-then-refuses

@@ -1,6 +1,5 @@
 -- `build::tests::lists_refusal` meets its contract: six lengths in a row.
 use Rattle.spec_lists.proofs.Verdicts.{ends, or_test}
-use borrow.Author.Rules.{rules}
 use Rattle.build.proofs.tests.lists_refusal.Goals as goal
 
 pub returns : goal.returns

@@ -3,7 +3,6 @@ use lib.Ieee.{binary32}
 use mathlib.Core.Path.{◌∙◌, sym}
 use Rattle.spec_lists.proofs.Verdicts.{did_pass}
 use Rattle.spec_dipoles.proofs.FastCall.{fast_as_it_was, fast_room, fast_root, fast_written}
-use borrow.Author.Rules.{rules}
 use Rattle.dipoles.proofs.calls.fast_winding.Goals as goal
 
 pub returns-then-refuses : goal.returns-then-refuses

@@ -1,7 +1,6 @@
 -- `dipoles::calls::fast_winding_by` meets its contract: the walk from the root.
 use Rattle.spec_dipoles.specs.Calls.{fast_about}
 use Rattle.spec_dipoles.proofs.Fast.{root_in}
-use borrow.Author.Rules.{rules}
 use Rattle.dipoles.proofs.calls.fast_winding_by.Goals as goal
 
 pub walk-requires : goal.walk-requires

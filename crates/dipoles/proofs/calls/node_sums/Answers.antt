@@ -4,7 +4,6 @@ use native.Mathlib.Omega.{arith}
 use lib.Ieee.{binary32}
 use Rattle.spec_lists.proofs.Verdicts.{did_pass}
 use Rattle.spec_dipoles.proofs.Storing.{sums_refused, sums_room, sums_readable, sums_boxed, sums_written, sums_between}
-use borrow.Author.Rules.{rules}
 use Rattle.dipoles.proofs.calls.node_sums.Goals as goal
 
 pub returns-then-refuses : goal.returns-then-refuses

@@ -2,11 +2,8 @@
 -- The measure is the number of points that remain.
 use Prim.Native.Nat.{◌-◌}
 use native.Mathlib.Omega.{arith}
-use lib.Ieee.{binary32}
-use borrow.Author.Rules.{rules}
 use Rattle.spec_lists.proofs.Reading.{point_inside}
-use Rattle.spec_angles.proofs.Windings.{AboutPut, about_start, about_more}
-use Rattle.spec_dipoles.specs.Calls.{fast_about}
+use Rattle.spec_angles.proofs.Windings.{about_start, about_more}
 use Rattle.spec_dipoles.proofs.Windings.{fast_end}
 use Rattle.dipoles.proofs.calls.write_windings.Goals as goal
 

@@ -1,6 +1,5 @@
 -- `dipoles::dipole::dipole_at` meets its contract: each part is what its reader ensures.
 use Rattle.spec_dipoles.specs.Calls.{dipole_at}
-use borrow.Author.Rules.{rules}
 use Rattle.dipoles.proofs.dipole.dipole_at.Goals as goal
 
 pub returns : goal.returns

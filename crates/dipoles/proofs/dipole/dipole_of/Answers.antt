@@ -1,6 +1,5 @@
 -- `dipoles::dipole::dipole_of` meets its contract: what each call ensures, put in.
 use Rattle.spec_dipoles.specs.Sums.{dipole_of}
-use borrow.Author.Rules.{rules}
 use Rattle.dipoles.proofs.dipole.dipole_of.Goals as goal
 
 pub returns : goal.returns

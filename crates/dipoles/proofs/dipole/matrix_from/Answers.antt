@@ -1,5 +1,4 @@
 -- `dipoles::dipole::matrix_from` meets its contract: each column is what `point_from` ensures.
-use borrow.Author.Rules.{rules}
 use Rattle.dipoles.proofs.dipole.matrix_from.Goals as goal
 
 pub returns : goal.returns

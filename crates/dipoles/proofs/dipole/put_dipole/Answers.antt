@@ -2,7 +2,6 @@
 use native.Mathlib.Omega.{arith}
 use lib.ListN.{length-set}
 use Rattle.spec_tables.proofs.Tables.{put_then, put_store, put_long}
-use borrow.Author.Rules.{rules}
 use Rattle.dipoles.proofs.dipole.put_dipole.Goals as goal
 
 pub put_point-requires : goal.put_point-requires

@@ -1,6 +1,5 @@
 -- `dipoles::dipole::put_matrix` meets its contract: three points, one behind the other.
 use Rattle.spec_tables.proofs.Tables.{put_then}
-use borrow.Author.Rules.{rules}
 use Rattle.dipoles.proofs.dipole.put_matrix.Goals as goal
 
 pub returns : goal.returns

@@ -1,7 +1,6 @@
 -- `dipoles::far::second_by` meets its contract: what each call ensures, put in.
 use lib.Ieee.{of_bits}
 use Rattle.spec_dipoles.specs.Far.{second_by}
-use borrow.Author.Rules.{rules}
 use Rattle.dipoles.proofs.far.second_by.Goals as goal
 
 pub returns : goal.returns

@@ -1,7 +1,6 @@
 -- `dipoles::far::term_or_nan` meets its contract: the length that is compared is that of the difference either way round.
 use lib.Ieee.{of_bits, div}
 use Rattle.spec_dipoles.proofs.Far.{far_taken, far_left}
-use borrow.Author.Rules.{rules}
 use Rattle.dipoles.proofs.far.term_or_nan.Goals as goal
 
 pub returns-then-d-accuracy : goal.returns-then-d-accuracy

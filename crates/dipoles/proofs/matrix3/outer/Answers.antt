@@ -1,6 +1,5 @@
 -- `dipoles::matrix3::outer` meets its contract: each column is what `scale` ensures.
 use Rattle.spec_dipoles.specs.Matrices.{outer}
-use borrow.Author.Rules.{rules}
 use Rattle.dipoles.proofs.matrix3.outer.Goals as goal
 
 pub returns : goal.returns

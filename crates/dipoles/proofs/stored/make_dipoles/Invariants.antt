@@ -1,9 +1,7 @@
 -- `dipoles::stored::make_dipoles` meets its contract: before each turn the dipoles of the nodes before it stand in the list, and behind them the sums.
 use Prim.Native.Nat.{◌-◌}
-use native.Mathlib.Omega.{arith}
 use lib.Ieee.{binary32}
-use Rattle.spec_dipoles.proofs.Storing.{DipolesMade, make_start, make_more, make_end}
-use borrow.Author.Rules.{rules}
+use Rattle.spec_dipoles.proofs.Storing.{DipolesMade}
 use Rattle.dipoles.proofs.stored.make_dipoles.Given as goal
 
 abbrev pub invariant-loop-k : goal.invariant-loop-k

@@ -1,7 +1,6 @@
 -- `dipoles::stored::range_sums` meets its contract: what `leaf_sums` ensures of the part.
 use Prim.Native.Nat.{◌-◌}
 use Rattle.spec_tree.proofs.Order.{slice_entries}
-use borrow.Author.Rules.{rules}
 use Rattle.dipoles.proofs.stored.range_sums.Goals as goal
 
 pub leaf_sums-requires : goal.leaf_sums-requires

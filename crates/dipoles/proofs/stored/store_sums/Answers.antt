@@ -1,9 +1,7 @@
 -- `dipoles::stored::store_sums` meets its contract: before each turn the sums of the nodes before it stand in the list.
 use Prim.Native.Nat.{◌-◌}
 use native.Mathlib.Omega.{arith}
-use lib.Ieee.{binary32}
-use Rattle.spec_dipoles.proofs.Storing.{SumsStored, store_start, store_more, store_end}
-use borrow.Author.Rules.{rules}
+use Rattle.spec_dipoles.proofs.Storing.{store_start, store_more, store_end}
 use Rattle.dipoles.proofs.stored.store_sums.Goals as goal
 
 pub loop-node-init : goal.loop-node-init

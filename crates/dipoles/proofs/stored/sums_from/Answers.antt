@@ -2,7 +2,6 @@
 use mathlib.Core.Path.{◌∙◌, sym}
 use Rattle.spec_dipoles.proofs.Fast.{node_sums_lem, node_links, leaf_range, left_in, right_in}
 use Rattle.spec_dipoles.proofs.Storing.{from_leaf, from_branch}
-use borrow.Author.Rules.{rules}
 use Rattle.dipoles.proofs.stored.sums_from.Goals as goal
 
 pub left_at-left-requires : goal.left_at-left-requires

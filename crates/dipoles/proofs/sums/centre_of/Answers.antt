@@ -1,7 +1,6 @@
 -- `dipoles::sums::centre_of` meets its contract: what `plus` and `over` ensure.
 use lib.Ieee.{of_bits}
 use Rattle.spec_dipoles.specs.Sums.{centre_of}
-use borrow.Author.Rules.{rules}
 use Rattle.dipoles.proofs.sums.centre_of.Goals as goal
 
 pub returns : goal.returns

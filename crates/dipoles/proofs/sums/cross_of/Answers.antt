@@ -1,6 +1,5 @@
 -- `dipoles::sums::cross_of` meets its contract: what `minus` and `cross` ensure.
 use Rattle.spec_dipoles.specs.Sums.{cross_of}
-use borrow.Author.Rules.{rules}
 use Rattle.dipoles.proofs.sums.cross_of.Goals as goal
 
 pub returns : goal.returns

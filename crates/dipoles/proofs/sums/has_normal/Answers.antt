@@ -1,7 +1,6 @@
 -- `dipoles::sums::has_normal` meets its contract: the square of what `cross_of` ensures, compared with zero.
 use lib.Ieee.{of_bits}
 use Rattle.spec_dipoles.specs.Sums.{has_normal}
-use borrow.Author.Rules.{rules}
 use Rattle.dipoles.proofs.sums.has_normal.Goals as goal
 
 pub returns : goal.returns

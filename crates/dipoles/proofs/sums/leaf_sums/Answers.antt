@@ -1,12 +1,8 @@
 -- `dipoles::sums::leaf_sums` meets its contract: before turn i the sums, with the rest of the slice, are those of the whole leaf.
 use Prim.Native.Nat.{◌-◌}
-use lib.ListN.{length}
-use lib.Ieee.{binary32}
-use Rattle.spec_lists.specs.Reading.{triangle_at}
 use Rattle.spec_lists.proofs.Reading.{triangle_inside}
-use Rattle.spec_dipoles.proofs.Leaves.{Summing, summing_starts, summing_goes_on, summing_ends}
+use Rattle.spec_dipoles.proofs.Leaves.{summing_starts, summing_goes_on, summing_ends}
 use Rattle.dipoles.specs.Values.{as_sums}
-use borrow.Author.Rules.{rules}
 use Rattle.dipoles.proofs.sums.leaf_sums.Goals as goal
 
 pub loop-i-init : goal.loop-i-init

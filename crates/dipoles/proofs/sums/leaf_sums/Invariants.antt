@@ -3,10 +3,8 @@ use Prim.Native.Nat.{◌-◌}
 use lib.ListN.{length}
 use lib.Ieee.{binary32}
 use Rattle.spec_lists.specs.Reading.{triangle_at}
-use Rattle.spec_lists.proofs.Reading.{triangle_inside}
-use Rattle.spec_dipoles.proofs.Leaves.{Summing, summing_starts, summing_goes_on, summing_ends}
+use Rattle.spec_dipoles.proofs.Leaves.{Summing}
 use Rattle.dipoles.specs.Values.{as_sums}
-use borrow.Author.Rules.{rules}
 use Rattle.dipoles.proofs.sums.leaf_sums.Given as goal
 
 abbrev pub invariant-loop-i : goal.invariant-loop-i

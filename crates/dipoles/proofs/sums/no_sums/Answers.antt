@@ -1,7 +1,6 @@
 -- `dipoles::sums::no_sums` meets its contract: zeros everywhere.
 use lib.Ieee.{of_bits}
 use Rattle.spec_dipoles.specs.Sums.{no_sums}
-use borrow.Author.Rules.{rules}
 use Rattle.dipoles.proofs.sums.no_sums.Goals as goal
 
 pub returns : goal.returns

@@ -2,7 +2,6 @@
 use mathlib.Core.Path.{◌∙◌, ap}
 use Rattle.spec_dipoles.specs.Sums.{with_next}
 use Rattle.spec_lists.specs.Reading.{triangle_at}
-use borrow.Author.Rules.{rules}
 use Rattle.dipoles.proofs.sums.with_next.Goals as goal
 
 pub returns-then-has_normal : goal.returns-then-has_normal

@@ -2,7 +2,6 @@
 use Rattle.spec_lists.proofs.Verdicts.{ends, or_test, row_stops, row_goes_on, row_passed}
 use Rattle.spec_lists.proofs.Passed.{triangles_passed}
 use Rattle.spec_dipoles.specs.Calls.{sums_refusal}
-use borrow.Author.Rules.{rules}
 use Rattle.dipoles.proofs.tests.sums_refusal.Goals as goal
 
 pub returns-then-refuses : goal.returns-then-refuses

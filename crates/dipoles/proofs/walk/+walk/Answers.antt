@@ -1,7 +1,6 @@
 -- `dipoles::walk::walk` meets its contract. The measure is the number of levels that it may look at.
 use mathlib.Core.Path.{sym, ◌∙◌}
 use native.Mathlib.Omega.{arith}
-use Prim.Native.Nat.{ℕ, ◌<◌}
 use lib.Ieee.{of_bits}
 use Rattle.spec_dipoles.proofs.Fast.{none_left, used_far, near_leaf, near_branch, node_sums_lem, node_links, leaf_range, left_in, right_in}
 use Rattle.dipoles.proofs.walk.+walk.Goals as goal

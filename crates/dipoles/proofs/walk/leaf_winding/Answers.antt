@@ -1,7 +1,6 @@
 -- `dipoles::walk::leaf_winding` meets its contract: what each call ensures, put in.
 use Prim.Native.Nat.{◌-◌}
 use Rattle.spec_tree.proofs.Order.{slice_entries}
-use borrow.Author.Rules.{rules}
 use Rattle.dipoles.proofs.walk.leaf_winding.Goals as goal
 
 pub slice_winding-requires : goal.slice_winding-requires

@@ -3,12 +3,9 @@
 use mathlib.Core.Path.{ap, ◌∙◌}
 use Prim.Native.Nat.{◌-◌}
 use native.Mathlib.Omega.{arith}
-use lib.ListN.{length, get_or}
-use lib.Ieee.{binary32, of_bits}
-use borrow.Author.Rules.{rules}
-use Rattle.shapes.specs.Values.{as_point}
+use lib.Ieee.{of_bits}
 use Rattle.spec_lists.specs.Reading.{triangle_at, triangle_count}
-use Rattle.spec_angles.proofs.Windings.{Summed, sum_start, sum_more}
+use Rattle.spec_angles.proofs.Windings.{sum_start, sum_more}
 use Rattle.spec_dipoles.proofs.Windings.{slice_end}
 use Rattle.dipoles.proofs.walk.slice_winding.Goals as goal
 

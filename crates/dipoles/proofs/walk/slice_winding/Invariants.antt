@@ -1,15 +1,11 @@
 -- `dipoles::walk::slice_winding` meets its contract. The invariant: `sum` is that of the first i solid angles.
 -- The measure is the number of triangles that remain.
-use mathlib.Core.Path.{ap, ◌∙◌}
 use Prim.Native.Nat.{◌-◌}
-use native.Mathlib.Omega.{arith}
 use lib.ListN.{length, get_or}
-use lib.Ieee.{binary32, of_bits}
-use borrow.Author.Rules.{rules}
+use lib.Ieee.{binary32}
 use Rattle.shapes.specs.Values.{as_point}
-use Rattle.spec_lists.specs.Reading.{triangle_at, triangle_count}
-use Rattle.spec_angles.proofs.Windings.{Summed, sum_start, sum_more}
-use Rattle.spec_dipoles.proofs.Windings.{slice_end}
+use Rattle.spec_lists.specs.Reading.{triangle_at}
+use Rattle.spec_angles.proofs.Windings.{Summed}
 use Rattle.dipoles.proofs.walk.slice_winding.Given as goal
 
 abbrev pub invariant-loop-i : goal.invariant-loop-i

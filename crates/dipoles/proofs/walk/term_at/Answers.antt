@@ -1,5 +1,4 @@
 -- `dipoles::walk::term_at` meets its contract: what each call ensures, put in.
-use borrow.Author.Rules.{rules}
 use Rattle.dipoles.proofs.walk.term_at.Goals as goal
 
 pub returns : goal.returns

@@ -2,7 +2,6 @@
 use native.Mathlib.Omega.{arith}
 use Rattle.spec_tables.proofs.Tables.{put_same}
 use Rattle.spec_gauge.proofs.Lines.{nothing_words, found_words}
-use borrow.Author.Rules.{rules}
 use Rattle.gauge_run.proofs.answer_lines.put_answer_line.Goals as goal
 
 pub returns-then-answers-first-eq0 : goal.returns-then-answers-first-eq0

@@ -2,7 +2,7 @@
 use Prim.Native.Nat.{◌-◌}
 use native.Mathlib.Omega.{arith}
 use Rattle.spec_gauge.specs.Lines.{words_line}
-use Rattle.spec_gauge.proofs.Lines.{Lined, lined_start, lined_more, lined_end}
+use Rattle.spec_gauge.proofs.Lines.{lined_start, lined_more, lined_end}
 use Rattle.gauge_run.proofs.answer_lines.put_answer_lines.Goals as goal
 
 pub loop-k-init : goal.loop-k-init

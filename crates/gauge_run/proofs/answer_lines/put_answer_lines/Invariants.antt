@@ -1,8 +1,7 @@
 -- `gauge_run::answer_lines::put_answer_lines` meets its contract. The invariant: the first k lines stand one behind the other.
 use Prim.Native.Nat.{◌-◌}
-use native.Mathlib.Omega.{arith}
 use Rattle.spec_gauge.specs.Lines.{words_line}
-use Rattle.spec_gauge.proofs.Lines.{Lined, lined_start, lined_more, lined_end}
+use Rattle.spec_gauge.proofs.Lines.{Lined}
 use Rattle.gauge_run.proofs.answer_lines.put_answer_lines.Given as goal
 
 abbrev pub invariant-loop-k : goal.invariant-loop-k

@@ -1,7 +1,6 @@
 -- `gauge_run::request::request_refusal` meets its contract: six tests in a row.
 use Rattle.spec_gauge.specs.Printed.{request_refusal}
 use Rattle.spec_lists.proofs.Verdicts.{ends, or_test}
-use borrow.Author.Rules.{rules}
 use Rattle.gauge_run.proofs.request.request_refusal.Goals as goal
 
 pub returns : goal.returns

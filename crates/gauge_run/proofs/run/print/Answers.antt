@@ -3,7 +3,6 @@ use mathlib.Core.Path.{sym, ap, ◌∙◌}
 use Rattle.spec_tables.proofs.Tables.{put_same}
 use Rattle.records.specs.Values.{gauge_laid}
 use Rattle.spec_gauge.proofs.Printed.{gauge_long, too_long, wrong_printed, right_printed}
-use borrow.Author.Rules.{rules}
 use Rattle.gauge_run.proofs.run.print.Goals as goal
 
 pub returns-then-input-gt32768 : goal.returns-then-input-gt32768

@@ -3,7 +3,6 @@ use mathlib.Core.Path.{sym, ap, ◌∙◌}
 use Rattle.spec_tables.proofs.Tables.{put_same}
 use Rattle.lists.specs.Values.{as_verdict}
 use Rattle.spec_gauge.proofs.Printed.{refused_printed, passed_printed}
-use borrow.Author.Rules.{rules}
 use Rattle.gauge_run.proofs.run.print_request.Goals as goal
 
 pub returns-in-Refused : goal.returns-in-Refused

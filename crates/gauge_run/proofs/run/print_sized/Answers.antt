@@ -6,7 +6,6 @@ use lib.Ieee.{binary32, of_bits}
 use Rattle.spec_tables.proofs.Tables.{put_same}
 use Rattle.spec_gauge.specs.Printed.{printed_run}
 use Rattle.spec_gauge.proofs.Runs.{fits, request_is}
-use borrow.Author.Rules.{rules}
 use Rattle.gauge_run.proofs.run.print_sized.Goals as goal
 
 pub slice_bounds-print_request-end : goal.slice_bounds-print_request-end

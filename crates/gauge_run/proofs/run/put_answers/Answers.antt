@@ -7,7 +7,6 @@ use Rattle.spec_search.proofs.Calls.{query_passed}
 use Rattle.spec_gauge.specs.Printed.{max_points}
 use Rattle.spec_gauge.proofs.Lines.{sure_lines}
 use Rattle.spec_gauge.proofs.Runs.{is_answered}
-use borrow.Author.Rules.{rules}
 use Rattle.gauge_run.proofs.run.put_answers.Goals as goal
 
 pub put_answer_lines-requires : goal.put_answer_lines-requires

@@ -7,7 +7,6 @@ use Rattle.lists.specs.Values.{as_settings}
 use Rattle.spec_gauge.specs.Printed.{Request}
 use Rattle.spec_gauge.proofs.Printed.{all_passed}
 use Rattle.spec_gauge.proofs.Runs.{is_built, tree_line_lem, query_passes}
-use borrow.Author.Rules.{rules}
 use Rattle.gauge_run.proofs.run.put_run.Goals as goal
 
 pub returns-in_default : goal.returns-in_default

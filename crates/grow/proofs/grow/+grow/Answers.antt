@@ -1,11 +1,9 @@
 -- `grow::grow::grow` meets its contract. The measure is the number of levels that remain.
 use mathlib.Core.Path.{sym, ap, ◌∙◌}
 use native.Mathlib.Omega.{arith}
-use borrow.Author.Rules.{rules}
 use lib.Ieee.{binary32}
 use Rattle.splits.specs.Values.{as_split}
 use Rattle.spec_build.proofs.Growing.{leaf_needs, limit_gives, some_remaining, try_needs, uncut_needs, uncut_gives, cut_within, cut_ends, left_long, left_needs, cut_within_now, left_root_few, right_needs, branch_needs, order_long, branch_gives}
-use Prim.Native.Nat.{ℕ, ◌<◌}
 use Rattle.grow.proofs.grow.+grow.Goals as goal
 
 pub put_leaf-requires : goal.put_leaf-requires

@@ -4,7 +4,6 @@ use Prim.Native.Nat.{ℕ, ◌+◌, ◌*◌}
 use Rattle.spec_tables.specs.Tables.{overwrite}
 use Rattle.spec_shapes.specs.Boxes.{Box}
 use Rattle.spec_tree.specs.Trees.{six_of}
-use borrow.Author.Rules.{rules}
 use Rattle.grow.proofs.nodes.put_branch.Goals as goal
 
 pub returns : goal.returns

@@ -1,7 +1,6 @@
 -- `grow::nodes::put_leaf` meets its contract: what `union_of`, `put_links` and `put_box` ensure.
 use lib.Ieee.{binary32}
 use Rattle.spec_build.proofs.Writing.{leaf_written}
-use borrow.Author.Rules.{rules}
 use Rattle.grow.proofs.nodes.put_leaf.Goals as goal
 
 pub returns : goal.returns

@@ -1,6 +1,5 @@
 -- `grow::tables::first_key` meets its contract, in each arm.
 use native.Mathlib.Omega.{arith}
-use borrow.Author.Rules.{rules}
 use Rattle.grow.proofs.tables.first_key.Goals as goal
 
 pub returns-in-X : goal.returns-in-X

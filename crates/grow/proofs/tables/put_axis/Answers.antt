@@ -6,7 +6,6 @@ use lib.Ieee.{binary32}
 use Rattle.shapes.specs.Values.{as_axis}
 use Rattle.spec_build.specs.Growing.{rows}
 use Rattle.spec_build.proofs.Tabling.{rows_within, keys_long, centres_put}
-use borrow.Author.Rules.{rules}
 use Rattle.grow.proofs.tables.put_axis.Goals as goal
 
 pub overflow_add-first : goal.overflow_add-first

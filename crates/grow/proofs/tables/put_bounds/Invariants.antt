@@ -1,12 +1,7 @@
 -- `grow::tables::put_bounds` meets its contract: a turn writes one box behind those that stand there.
-use borrow.Author.Rules.{rules}
-use mathlib.Core.Path.{refl, ◌∙◌, ap}
-use Prim.Native.Nat.{◌-◌, ◌*◌}
-use native.Mathlib.Omega.{arith}
-use Rattle.spec_tables.specs.Tables.{overwrite}
-use Rattle.spec_tables.proofs.Runs.{Run, run_start, run_front, run_end}
+use Prim.Native.Nat.{◌-◌}
+use Rattle.spec_tables.proofs.Runs.{Run}
 use Rattle.spec_lists.specs.Reading.{box_at}
-use Rattle.spec_shapes.specs.Boxes.{Box}
 use Rattle.spec_tree.specs.Trees.{six_of}
 use Rattle.grow.proofs.tables.put_bounds.Given as goal
 

@@ -1,6 +1,5 @@
 -- `grow::tables::put_centres` meets its contract: what `put_axis` ensures of each axis.
 use Rattle.spec_build.proofs.Tabling.{all_centred}
-use borrow.Author.Rules.{rules}
 use Rattle.grow.proofs.tables.put_centres.Goals as goal
 
 pub returns : goal.returns

@@ -1,14 +1,11 @@
 -- `grow::tables::put_keys` meets its contract: a turn stores one centre behind those that stand there.
 use Prim.Native.Nat.{◌-◌}
 use mathlib.Core.List.{[], ◌∷◌}
-use native.Mathlib.Omega.{arith}
 use lib.Ieee.{binary32}
 use Rattle.shapes.specs.Values.{as_axis}
-use Rattle.spec_tables.proofs.Runs.{Run, run_start, run_end}
+use Rattle.spec_tables.proofs.Runs.{Run}
 use Rattle.spec_splits.specs.Splits.{box_in}
 use Rattle.spec_build.specs.Tries.{centre_on}
-use Rattle.spec_tables.proofs.Stores.{run_store_front}
-use borrow.Author.Rules.{rules}
 use Rattle.grow.proofs.tables.put_keys.Given as goal
 
 abbrev pub invariant-loop-t : goal.invariant-loop-t

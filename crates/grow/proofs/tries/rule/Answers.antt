@@ -1,7 +1,6 @@
 -- `grow::tries::rule` meets its contract: what the two rules ensure.
 use borrow.Author.Tests.{eq-eqb, ne_eqb}
 use Rattle.spec_build.specs.Tries.{rule}
-use borrow.Author.Rules.{rules}
 use Rattle.grow.proofs.tries.rule.Goals as goal
 
 pub returns-then-strategy-eq1 : goal.returns-then-strategy-eq1

@@ -5,7 +5,6 @@ use Rattle.shapes.specs.Values.{as_axis}
 use Rattle.spec_build.specs.Growing.{rows}
 use Rattle.spec_build.proofs.Tabling.{rows_within}
 use Rattle.grow.proofs.Sorting.{sort_needs, sort_gives}
-use borrow.Author.Rules.{rules}
 use Rattle.grow.proofs.tries.sort_on.Goals as goal
 
 pub overflow_add-first : goal.overflow_add-first

@@ -5,7 +5,6 @@ use Rattle.splits.specs.Values.{as_split}
 use Rattle.spec_shapes.specs.Points.{Point, at}
 use Rattle.spec_build.specs.Tries.{axes_by_size}
 use Rattle.spec_build.proofs.Trying.{next_needs, stays_cut, tries_next, tries_last, in_turn_lem}
-use borrow.Author.Rules.{rules}
 use Rattle.grow.proofs.tries.try_axes.Goals as goal
 
 pub returns-in-At : goal.returns-in-At

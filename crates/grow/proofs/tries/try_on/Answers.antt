@@ -2,7 +2,6 @@
 use lib.Ieee.{binary32}
 use Rattle.shapes.specs.Values.{as_axis, as_box}
 use Rattle.spec_build.proofs.Trying.{try_sort_needs, try_sorted, try_rule_needs, try_gives}
-use borrow.Author.Rules.{rules}
 use Rattle.grow.proofs.tries.try_on.Goals as goal
 
 pub sort_on-requires : goal.sort_on-requires

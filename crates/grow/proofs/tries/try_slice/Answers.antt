@@ -2,7 +2,6 @@
 use native.Mathlib.Omega.{arith}
 use lib.Ieee.{binary32}
 use Rattle.spec_build.proofs.Trying.{try_rule_needs, tried_is}
-use borrow.Author.Rules.{rules}
 use Rattle.grow.proofs.tries.try_slice.Goals as goal
 
 pub union_of-parent-requires : goal.union_of-parent-requires

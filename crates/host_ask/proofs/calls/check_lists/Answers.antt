@@ -2,7 +2,6 @@
 use mathlib.Core.Path.{◌∙◌}
 use Rattle.spec_host.specs.Status.{status}
 use Rattle.spec_host.proofs.Requests.{check_encodable}
-use borrow.Author.Rules.{rules}
 use Rattle.host_ask.proofs.calls.check_lists.Goals as goal
 
 pub encode-requires : goal.encode-requires

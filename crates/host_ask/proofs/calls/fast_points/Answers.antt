@@ -7,7 +7,6 @@ use Rattle.spec_lists.specs.Refusals.{Verdict}
 use Rattle.spec_host.specs.Status.{status}
 use Rattle.spec_host.specs.PointBytes.{fast_bytes, after_bytes}
 use Rattle.spec_host.proofs.Requests.{fast_encodable}
-use borrow.Author.Rules.{rules}
 use Rattle.host_ask.proofs.calls.fast_points.Goals as goal
 
 pub encode-requires : goal.encode-requires

@@ -10,7 +10,6 @@ use Rattle.walks.specs.Values.{as_query}
 use Rattle.spec_host.specs.Status.{status}
 use Rattle.spec_host.specs.PointBytes.{answer_bytes, after_bytes}
 use Rattle.spec_host.proofs.Requests.{query_encodable}
-use borrow.Author.Rules.{rules}
 use Rattle.host_ask.proofs.calls.query_points.Goals as goal
 
 pub encode-requires : goal.encode-requires

@@ -4,7 +4,6 @@ use lib.ListN.{length}
 use Rattle.spec_lists.specs.Refusals.{Verdict}
 use Rattle.spec_host.specs.Status.{status}
 use Rattle.spec_host.proofs.Requests.{sums_encodable}
-use borrow.Author.Rules.{rules}
 use Rattle.host_ask.proofs.calls.sums_lists.Goals as goal
 
 pub encode-requires : goal.encode-requires

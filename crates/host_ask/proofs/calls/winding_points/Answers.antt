@@ -7,7 +7,6 @@ use Rattle.spec_lists.specs.Refusals.{Verdict}
 use Rattle.spec_host.specs.Status.{status}
 use Rattle.spec_host.specs.PointBytes.{winding_bytes, after_bytes}
 use Rattle.spec_host.proofs.Requests.{winding_encodable}
-use borrow.Author.Rules.{rules}
 use Rattle.host_ask.proofs.calls.winding_points.Goals as goal
 
 pub encode-requires : goal.encode-requires

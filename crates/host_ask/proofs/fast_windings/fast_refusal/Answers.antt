@@ -2,7 +2,6 @@
 use Rattle.spec_lists.proofs.Verdicts.{ends, or_test, row_stops, row_goes_on, row_passed}
 use Rattle.spec_lists.proofs.Passed.{triangles_passed}
 use Rattle.spec_host.specs.Requests.{fast_bytes_refusal}
-use borrow.Author.Rules.{rules}
 use Rattle.host_ask.proofs.fast_windings.fast_refusal.Goals as goal
 
 pub returns-then-refuses : goal.returns-then-refuses

@@ -1,14 +1,11 @@
 -- `host_ask::fast_windings::put_fast` meets its contract: a turn writes the winding number by dipoles about one point more (`NumbersPut`).
 use mathlib.Core.Path.{refl, ap, ◌∙◌}
-use mathlib.Core.List.{List}
-use Prim.Native.Nat.{ℕ, ◌-◌, ◌*◌}
+use Prim.Native.Nat.{◌-◌}
 use native.Mathlib.Omega.{arith}
-use lib.Ieee.{Float, binary32, to_bits}
-use Rattle.spec_lists.specs.Reading.{point_at}
+use lib.Ieee.{binary32, to_bits}
 use Rattle.spec_dipoles.specs.Calls.{fast_about, fast_windings}
-use Rattle.spec_host.specs.PointBytes.{numbers_of, fast_bytes}
-use Rattle.spec_host.proofs.PointBytes.{NumbersPut, numbers_start, numbers_more, numbers_end}
-use borrow.Author.Rules.{rules}
+use Rattle.spec_host.specs.PointBytes.{fast_bytes}
+use Rattle.spec_host.proofs.PointBytes.{numbers_start, numbers_more, numbers_end}
 use Rattle.host_ask.proofs.fast_windings.put_fast.Goals as goal
 use Rattle.host_ask.proofs.fast_windings.put_fast.Invariants.{number}
 

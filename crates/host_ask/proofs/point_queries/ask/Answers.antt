@@ -5,7 +5,6 @@ use Rattle.spec_lists.proofs.Verdicts.{did_pass}
 use Rattle.spec_host.proofs.PointBytes.{as_it_was, as_written}
 use Rattle.spec_host.proofs.Requests.{query_passed}
 use Rattle.walks.specs.Values.{as_query}
-use borrow.Author.Rules.{rules}
 use Rattle.host_ask.proofs.point_queries.ask.Goals as goal
 
 pub returns-then-refuses : goal.returns-then-refuses

@@ -8,7 +8,6 @@ use Rattle.spec_tables.specs.Tables.{overwrite}
 use Rattle.spec_search.specs.Rules.{rule_of}
 use Rattle.spec_search.proofs.Calls.{one_is_sure}
 use Rattle.spec_host.proofs.PointBytes.{answer_bytes_same}
-use borrow.Author.Rules.{rules}
 use Rattle.host_ask.proofs.point_queries.put_answers.Goals as goal
 
 pub put_few-requires : goal.put_few-requires

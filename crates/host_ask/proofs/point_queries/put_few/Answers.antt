@@ -17,7 +17,7 @@ use Rattle.spec_search.proofs.Calls.{point_words_same}
 use Rattle.spec_host.specs.PointBytes.{numbers_of, answer_size}
 use Rattle.spec_host.proofs.PointBytes.{numbers_long, Answered, answered_start, answered_more, answers_room, answered_end}
 use Rattle.walks.specs.Places as Places
-use Rattle.walks.specs.Places.{Lent, most_of, answer_of}
+use Rattle.walks.specs.Places.{most_of, answer_of}
 use Rattle.host_ask.proofs.point_queries.put_few.Goals as goal
 
 -- what stands before something within a lent list's length fits its index

@@ -7,7 +7,7 @@ use Rattle.spec_shapes.specs.Points.{Point}
 use Rattle.spec_search.specs.Answers.{words_of}
 use Rattle.spec_search.specs.Calls.{source_answer}
 use Rattle.spec_search.proofs.Calls.{one_place}
-use Rattle.spec_host.proofs.PointBytes.{Answered, answered_start, answered_more, answered_end}
+use Rattle.spec_host.proofs.PointBytes.{answered_start, answered_more, answered_end}
 use Rattle.host_ask.proofs.point_queries.put_source.Goals as goal
 
 pub loop-k-init : goal.loop-k-init

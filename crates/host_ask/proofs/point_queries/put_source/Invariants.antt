@@ -1,13 +1,8 @@
 -- `host_ask::point_queries::put_source` meets its contract: a turn writes the answer at one point more (`Answered`).
-use mathlib.Core.Path.{refl, sym, ap, ◌∙◌}
-use Prim.Native.Nat.{ℕ, ◌-◌}
-use native.Mathlib.Omega.{arith}
+use Prim.Native.Nat.{◌-◌}
 use lib.Ieee.{binary32}
-use Rattle.spec_shapes.specs.Points.{Point}
-use Rattle.spec_search.specs.Answers.{words_of}
 use Rattle.spec_search.specs.Calls.{source_answer}
-use Rattle.spec_search.proofs.Calls.{one_place}
-use Rattle.spec_host.proofs.PointBytes.{Answered, answered_start, answered_more, answered_end}
+use Rattle.spec_host.proofs.PointBytes.{Answered}
 use Rattle.host_ask.proofs.point_queries.put_source.Given as goal
 
 abbrev pub invariant-loop-k : goal.invariant-loop-k

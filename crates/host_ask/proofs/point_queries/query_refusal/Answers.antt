@@ -6,7 +6,6 @@ use Rattle.spec_lists.proofs.Passed.{triangles_passed}
 use Rattle.spec_search.proofs.Calls.{choice_passed}
 use Rattle.spec_host.specs.Requests.{query_bytes_refusal}
 use Rattle.walks.specs.Values.{as_query}
-use borrow.Author.Rules.{rules}
 use Rattle.host_ask.proofs.point_queries.query_refusal.Goals as goal
 
 pub returns-then-refuses : goal.returns-then-refuses

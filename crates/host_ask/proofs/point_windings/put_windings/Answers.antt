@@ -5,8 +5,7 @@ use native.Mathlib.Omega.{arith}
 use lib.Ieee.{binary32, to_bits}
 use Rattle.spec_angles.specs.Windings.{winding_about, winding_at}
 use Rattle.spec_host.specs.PointBytes.{numbers_of, windings, winding_bytes}
-use Rattle.spec_host.proofs.PointBytes.{NumbersPut, numbers_start, numbers_more, numbers_end}
-use borrow.Author.Rules.{rules}
+use Rattle.spec_host.proofs.PointBytes.{numbers_start, numbers_more, numbers_end}
 use Rattle.host_ask.proofs.point_windings.put_windings.Goals as goal
 
 pub loop-k-init : goal.loop-k-init

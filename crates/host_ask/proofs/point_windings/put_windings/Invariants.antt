@@ -1,12 +1,9 @@
 -- `host_ask::point_windings::put_windings` meets its contract: a turn writes the winding number about one point more (`NumbersPut`).
-use mathlib.Core.Path.{refl, ap, ◌∙◌}
 use Prim.Native.Nat.{◌-◌}
-use native.Mathlib.Omega.{arith}
-use lib.Ieee.{binary32, to_bits}
-use Rattle.spec_angles.specs.Windings.{winding_about, winding_at}
-use Rattle.spec_host.specs.PointBytes.{numbers_of, windings, winding_bytes}
-use Rattle.spec_host.proofs.PointBytes.{NumbersPut, numbers_start, numbers_more, numbers_end}
-use borrow.Author.Rules.{rules}
+use lib.Ieee.{binary32}
+use Rattle.spec_angles.specs.Windings.{winding_at}
+use Rattle.spec_host.specs.PointBytes.{numbers_of}
+use Rattle.spec_host.proofs.PointBytes.{NumbersPut}
 use Rattle.host_ask.proofs.point_windings.put_windings.Given as goal
 
 abbrev pub invariant-loop-k : goal.invariant-loop-k

@@ -4,7 +4,6 @@ use lib.ListN.{length}
 use Rattle.spec_lists.proofs.Verdicts.{did_pass}
 use Rattle.spec_host.proofs.PointBytes.{as_it_was, as_written}
 use Rattle.spec_host.proofs.Requests.{winding_passed}
-use borrow.Author.Rules.{rules}
 use Rattle.host_ask.proofs.point_windings.winding.Goals as goal
 
 pub returns-then-refuses : goal.returns-then-refuses

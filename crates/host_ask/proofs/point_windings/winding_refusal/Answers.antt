@@ -1,7 +1,6 @@
 -- `host_ask::point_windings::winding_refusal` meets its contract: three tests in a row.
 use Rattle.spec_lists.proofs.Verdicts.{ends, or_test}
 use Rattle.spec_host.specs.Requests.{winding_bytes_refusal}
-use borrow.Author.Rules.{rules}
 use Rattle.host_ask.proofs.point_windings.winding_refusal.Goals as goal
 
 pub returns : goal.returns

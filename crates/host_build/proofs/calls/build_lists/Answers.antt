@@ -1,6 +1,5 @@
 -- `host_build::calls::build_lists` meets its contract: the build's answer as a status, and its lists.
 use Rattle.spec_host.proofs.Build.{built_placed, build_put}
-use borrow.Author.Rules.{rules}
 use Rattle.host_build.proofs.calls.build_lists.Goals as goal
 
 pub encode_built-requires : goal.encode_built-requires

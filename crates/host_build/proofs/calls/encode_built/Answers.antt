@@ -1,5 +1,4 @@
 -- `host_build::calls::encode_built` meets its contract, case by case.
-use borrow.Author.Rules.{rules}
 use Rattle.host_build.proofs.calls.encode_built.Goals as goal
 
 pub encode_refusal-requires : goal.encode_refusal-requires

@@ -7,7 +7,6 @@ use Rattle.spec_records.specs.Entries.{number_bytes}
 use Rattle.spec_search.specs.Answers.{answer_width}
 use Rattle.spec_host.proofs.PointBytes.{words_bytes}
 use Rattle.walks.specs.Values.{as_answer}
-use borrow.Author.Rules.{rules}
 use Rattle.host_bytes.proofs.answers.put_answer_bytes.Goals as goal
 
 pub returns : goal.returns

@@ -3,14 +3,13 @@ use mathlib.Core.Path.{ap, ◌∙◌}
 use mathlib.Core.List.{List}
 use Prim.Native.Nat.{ℕ, ◌+◌, ◌-◌, ◌*◌}
 use native.Mathlib.Omega.{arith}
-use lib.Ieee.{Float, binary32}
+use lib.Ieee.{binary32}
 use Rattle.spec_tables.specs.Tables.{overwrite, concat_map}
-use Rattle.spec_tables.proofs.Runs.{Run, run_start, run_more, run_end}
+use Rattle.spec_tables.proofs.Runs.{run_start, run_more, run_end}
 use Rattle.spec_search.specs.Answers.{Answer, words_of}
 use Rattle.spec_host.specs.PointBytes.{word_bytes, answer_size}
 use Rattle.spec_host.proofs.PointBytes.{answer_long, point_bytes}
 use Rattle.walks.specs.Places.{most_of, answer_of}
-use borrow.Author.Rules.{rules}
 use Rattle.host_bytes.proofs.answers.put_places_bytes.Goals as goal
 use Rattle.host_bytes.proofs.answers.put_places_bytes.Invariants.{piece}
 

@@ -1,16 +1,11 @@
 -- `host_bytes::answers::put_places_bytes` meets its contract. The invariant: the bytes of the first j answers stand from `at` on.
-use mathlib.Core.Path.{ap, ◌∙◌}
 use mathlib.Core.List.{List}
-use Prim.Native.Nat.{ℕ, ◌+◌, ◌-◌, ◌*◌}
-use native.Mathlib.Omega.{arith}
+use Prim.Native.Nat.{ℕ, ◌-◌}
 use lib.Ieee.{Float, binary32}
-use Rattle.spec_tables.specs.Tables.{overwrite, concat_map}
-use Rattle.spec_tables.proofs.Runs.{Run, run_start, run_more, run_end}
-use Rattle.spec_search.specs.Answers.{Answer, words_of}
-use Rattle.spec_host.specs.PointBytes.{word_bytes, answer_size}
-use Rattle.spec_host.proofs.PointBytes.{answer_long, point_bytes}
-use Rattle.walks.specs.Places.{most_of, answer_of}
-use borrow.Author.Rules.{rules}
+use Rattle.spec_tables.proofs.Runs.{Run}
+use Rattle.spec_search.specs.Answers.{words_of}
+use Rattle.spec_host.specs.PointBytes.{word_bytes}
+use Rattle.walks.specs.Places.{answer_of}
 use Rattle.host_bytes.proofs.answers.put_places_bytes.Given as goal
 
 abbrev pub piece : List Float → List ℕ → ℕ → List ℕ

@@ -3,7 +3,6 @@ use mathlib.Core.Path.{ap, ◌∙◌}
 use Prim.Native.Nat.{ℕ}
 use Rattle.spec_tables.specs.Tables.{overwrite}
 use Rattle.spec_records.specs.Little.{little}
-use borrow.Author.Rules.{rules}
 use Rattle.host_bytes.proofs.answers.put_winding_bytes.Goals as goal
 
 pub returns : goal.returns

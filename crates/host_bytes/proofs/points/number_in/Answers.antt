@@ -2,7 +2,6 @@
 use mathlib.Core.Path.{sym, ◌∙◌}
 use native.Mathlib.Omega.{arith}
 use Rattle.spec_host.proofs.PointBytes.{number_is}
-use borrow.Author.Rules.{rules}
 use Rattle.host_bytes.proofs.points.number_in.Goals as goal
 
 pub returns : goal.returns

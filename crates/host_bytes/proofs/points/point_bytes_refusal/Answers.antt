@@ -4,7 +4,6 @@ use Rattle.spec_lists.specs.Refusals.{coordinate_refusal}
 use Rattle.spec_lists.proofs.Verdicts.{ends, or_test}
 use Rattle.spec_host.specs.PointBytes.{point_bytes_refusal}
 use Rattle.spec_host.proofs.PointBytes.{numbers_long}
-use borrow.Author.Rules.{rules}
 use Rattle.host_bytes.proofs.points.point_bytes_refusal.Goals as goal
 
 pub returns : goal.returns

@@ -2,7 +2,6 @@
 use mathlib.Core.Path.{ap, ◌∙◌}
 use Rattle.spec_numbers.specs.Values.{plus_zero}
 use Rattle.spec_lists.specs.Reading.{number_at, point_at}
-use borrow.Author.Rules.{rules}
 use Rattle.host_bytes.proofs.points.point_in.Goals as goal
 
 pub returns : goal.returns

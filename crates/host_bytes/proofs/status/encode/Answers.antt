@@ -1,5 +1,4 @@
 -- `host_bytes::status::encode` meets its contract, case by case.
-use borrow.Author.Rules.{rules}
 use Rattle.host_bytes.proofs.status.encode.Goals as goal
 
 pub encode_refusal-requires : goal.encode_refusal-requires

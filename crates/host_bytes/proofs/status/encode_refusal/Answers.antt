@@ -3,7 +3,6 @@ use native.Mathlib.Omega.{arith}
 use borrow.Author.Tests.{ne_eqb}
 use Prim.Native.Nat.{◌<◌, ◌^◌}
 use Rattle.spec_host.specs.Status.{refusal_status}
-use borrow.Author.Rules.{rules}
 use Rattle.host_bytes.proofs.status.encode_refusal.Goals as goal
 
 pub overflow_add-result : goal.overflow_add-result

@@ -2,7 +2,6 @@
 use borrow.Author.Tests.{le-leb, lt-leb}
 use Rattle.spec_lists.specs.Limits.{max_triangles}
 use Rattle.spec_host.specs.Images.{image_max}
-use borrow.Author.Rules.{rules}
 use Rattle.host_image.proofs.calls.image_max.Goals as goal
 
 pub returns-then-triangles-lt1 : goal.returns-then-triangles-lt1

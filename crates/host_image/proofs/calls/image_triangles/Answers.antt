@@ -3,7 +3,6 @@ use mathlib.Core.Path.{sym, ap, ◌∙◌}
 use native.Mathlib.Omega.{arith}
 use Rattle.spec_host.proofs.Images.{wrong_refused, right_passes, right_triangles, wrong_placed}
 use Rattle.records.specs.Values.{image_laid}
-use borrow.Author.Rules.{rules}
 use Rattle.host_image.proofs.calls.image_triangles.Goals as goal
 
 pub encode_refusal-requires : goal.encode_refusal-requires

@@ -4,7 +4,6 @@ use Prim.Native.Nat.{◌≤◌}
 use native.Mathlib.Omega.{arith}
 use lib.ListN.{length}
 use Rattle.spec_host.proofs.Images.{read_short, read_put, read_placed}
-use borrow.Author.Rules.{rules}
 use Rattle.host_image.proofs.calls.read_lists.Goals as goal
 
 pub returns-then-settings-lt3 : goal.returns-then-settings-lt3

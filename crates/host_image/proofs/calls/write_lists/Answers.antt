@@ -1,6 +1,5 @@
 -- `host_image::calls::write_lists` meets its contract: the writer's answer as a status, and its bytes.
 use Rattle.spec_host.proofs.Images.{written_placed, write_put}
-use borrow.Author.Rules.{rules}
 use Rattle.host_image.proofs.calls.write_lists.Goals as goal
 
 pub encode_written-requires : goal.encode_written-requires

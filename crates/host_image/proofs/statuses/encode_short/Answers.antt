@@ -5,7 +5,6 @@ use Rattle.spec_lists.specs.Refusals.{first_refusal}
 use Rattle.spec_host.specs.Images.{short_refusal}
 use Rattle.spec_host.proofs.Images.{wrong_refused, right_passes, wrong_placed}
 use Rattle.records.specs.Values.{image_laid}
-use borrow.Author.Rules.{rules}
 use Rattle.host_image.proofs.statuses.encode_short.Goals as goal
 
 pub encode_refusal-requires : goal.encode_refusal-requires

@@ -1,5 +1,4 @@
 -- `host_image::statuses::encode_written` meets its contract, case by case.
-use borrow.Author.Rules.{rules}
 use Rattle.host_image.proofs.statuses.encode_written.Goals as goal
 
 pub encode_refusal-requires : goal.encode_refusal-requires

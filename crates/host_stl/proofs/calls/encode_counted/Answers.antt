@@ -1,5 +1,4 @@
 -- `host_stl::calls::encode_counted` meets its contract, case by case: a refusal's place as it is told.
-use borrow.Author.Rules.{rules}
 use Rattle.host_stl.proofs.calls.encode_counted.Goals as goal
 
 pub encode_refusal-requires : goal.encode_refusal-requires

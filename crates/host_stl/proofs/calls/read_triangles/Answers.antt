@@ -1,6 +1,5 @@
 -- `host_stl::calls::read_triangles` meets its contract: the reader's answer as a status, and its triangles.
 use Rattle.spec_host.proofs.Stls.{read_stl_placed, read_stl_put}
-use borrow.Author.Rules.{rules}
 use Rattle.host_stl.proofs.calls.read_triangles.Goals as goal
 
 pub encode_counted-requires : goal.encode_counted-requires

@@ -1,6 +1,5 @@
 -- `host_stl::calls::write_triangles` meets its contract: the writer's answer as a status, and its bytes.
 use Rattle.spec_host.proofs.Stls.{write_stl_placed, write_stl_put}
-use borrow.Author.Rules.{rules}
 use Rattle.host_stl.proofs.calls.write_triangles.Goals as goal
 
 pub encode_counted-requires : goal.encode_counted-requires

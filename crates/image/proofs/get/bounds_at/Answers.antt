@@ -1,5 +1,4 @@
 -- `image::get::bounds_at` meets its contract: left and right take four bytes each where the image is wide, else two.
-use borrow.Author.Rules.{rules}
 use Rattle.image.proofs.get.bounds_at.Goals as goal
 
 pub returns-then-wide : goal.returns-then-wide

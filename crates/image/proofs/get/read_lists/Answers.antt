@@ -2,7 +2,6 @@
 use native.Mathlib.Omega.{arith}
 use Rattle.spec_image.specs.Image.{image_in}
 use Rattle.image.proofs.Wide.{wide_float, strides}
-use borrow.Author.Rules.{rules}
 use Rattle.image.proofs.get.read_lists.Goals as goal
 
 pub read_f32s-requires : goal.read_f32s-requires

@@ -5,7 +5,6 @@ use Prim.Native.Nat.{ℕ, ◌+◌}
 use Rattle.spec_records.specs.Layouts.{shape_by}
 use Rattle.image.proofs.Links.{links_overwrite, box_overwrite}
 use Rattle.image.proofs.Wide.{strides}
-use borrow.Author.Rules.{rules}
 use Rattle.image.proofs.get.read_node.Goals as goal
 
 pub nodes_size-requires : goal.nodes_size-requires

@@ -2,7 +2,6 @@
 use native.Mathlib.Omega.{arith}
 use Rattle.spec_image.specs.Image.{image_in}
 use Rattle.image.proofs.Wide.{strides}
-use borrow.Author.Rules.{rules}
 use Rattle.image.proofs.get.read_tree.Goals as goal
 
 pub overflow_mul-third : goal.overflow_mul-third

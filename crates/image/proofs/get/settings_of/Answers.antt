@@ -2,7 +2,6 @@
 use mathlib.Core.Path.{ap, ◌∙◌}
 use Rattle.spec_records.specs.Layouts.{shape_by}
 use Rattle.spec_image.specs.Image.{leaf_in, settings_in}
-use borrow.Author.Rules.{rules}
 use Rattle.image.proofs.get.settings_of.Goals as goal
 
 pub returns : goal.returns

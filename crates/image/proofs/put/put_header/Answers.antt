@@ -2,7 +2,6 @@
 use native.Mathlib.Omega.{arith}
 use Rattle.spec_tables.proofs.Tables.{put_then}
 use Rattle.spec_records.specs.Records.{header}
-use borrow.Author.Rules.{rules}
 use Rattle.image.proofs.put.put_header.Goals as goal
 
 pub returns : goal.returns

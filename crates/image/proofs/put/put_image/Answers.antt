@@ -10,7 +10,6 @@ use Rattle.spec_records.specs.Layouts.{shape_by}
 use Rattle.spec_image.specs.Image.{triangles_body, image_bytes}
 use Rattle.image.specs.Values.{image_of}
 use Rattle.image.proofs.Wide.{wide_float, strides}
-use borrow.Author.Rules.{rules}
 use Rattle.image.proofs.put.put_image.Goals as goal
 
 pub put_triangles-third-requires : goal.put_triangles-third-requires

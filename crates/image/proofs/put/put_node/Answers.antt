@@ -3,7 +3,6 @@ use native.Mathlib.Omega.{arith}
 use Rattle.spec_tables.proofs.Tables.{put_then}
 use Rattle.spec_image.specs.Image.{node_bytes}
 use Rattle.image.proofs.Wide.{wide_float, strides}
-use borrow.Author.Rules.{rules}
 use Rattle.image.proofs.put.put_node.Goals as goal
 
 pub put_u16s-sides-requires : goal.put_u16s-sides-requires

@@ -2,10 +2,9 @@
 use Prim.Native.Nat.{◌-◌}
 use native.Mathlib.Omega.{arith}
 use Rattle.spec_tables.proofs.Pieces.{piece_within}
-use Rattle.spec_tables.proofs.Runs.{Puts, puts_start, puts_more, puts_end}
+use Rattle.spec_tables.proofs.Runs.{puts_start, puts_more, puts_end}
 use Rattle.spec_records.specs.Layouts.{shape_by, node_size}
 use Rattle.spec_image.specs.Image.{node_bytes}
-use borrow.Author.Rules.{rules}
 use Rattle.image.proofs.put.put_nodes.Goals as goal
 
 pub loop-i-init : goal.loop-i-init

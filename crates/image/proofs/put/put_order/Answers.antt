@@ -6,7 +6,6 @@ use Rattle.spec_records.specs.Layouts.{shape_by}
 use Rattle.spec_records.proofs.Entries.{length_numbers}
 use Rattle.spec_records.proofs.Records.{record_put}
 use Rattle.image.proofs.Wide.{strides}
-use borrow.Author.Rules.{rules}
 use Rattle.image.proofs.put.put_order.Goals as goal
 
 pub order_size-requires : goal.order_size-requires

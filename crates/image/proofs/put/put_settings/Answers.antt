@@ -9,7 +9,6 @@ use Rattle.spec_image.specs.Image.{settings_bytes}
 use Rattle.spec_image.proofs.Sizes.{length_settings}
 use Rattle.lists.specs.Values.{as_settings}
 use Rattle.image.proofs.Wide.{wide_version}
-use borrow.Author.Rules.{rules}
 use Rattle.image.proofs.put.put_settings.Goals as goal
 
 pub overflow_cast-version : goal.overflow_cast-version

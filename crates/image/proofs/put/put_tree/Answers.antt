@@ -6,7 +6,6 @@ use Rattle.spec_records.specs.Layouts.{shape_by, node_size}
 use Rattle.spec_records.proofs.Records.{record_put}
 use Rattle.spec_image.specs.Image.{node_bytes}
 use Rattle.spec_image.proofs.Sizes.{length_node}
-use borrow.Author.Rules.{rules}
 use Rattle.image.proofs.put.put_tree.Goals as goal
 
 pub nodes_size-requires : goal.nodes_size-requires

@@ -5,7 +5,6 @@ use lib.ListN.{length}
 use lib.Ieee.{binary32}
 use Rattle.spec_records.proofs.Entries.{length_floats}
 use Rattle.spec_records.proofs.Records.{record_put}
-use borrow.Author.Rules.{rules}
 use Rattle.image.proofs.put.put_triangles.Goals as goal
 
 pub returns : goal.returns

@@ -5,7 +5,6 @@ use Rattle.spec_image.proofs.Versions.{size_least}
 use Rattle.image.specs.Values.{rooms_in}
 use Rattle.image.proofs.Wide.{version_picked}
 use Rattle.image.proofs.Taken.{unchanged, answer_wrong, image_long, answer_by_room, enough}
-use borrow.Author.Rules.{rules}
 use Rattle.image.proofs.read.read_image.Goals as goal
 
 pub has_room-requires : goal.has_room-requires

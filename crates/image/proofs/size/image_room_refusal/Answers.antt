@@ -1,6 +1,5 @@
 -- `image::size::image_room_refusal` meets its contract: it refuses where the room is short.
 use Rattle.spec_lists.specs.Refusals.{room_refusal}
-use borrow.Author.Rules.{rules}
 use Rattle.image.proofs.size.image_room_refusal.Goals as goal
 
 pub returns : goal.returns

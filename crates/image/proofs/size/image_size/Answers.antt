@@ -2,7 +2,6 @@
 use mathlib.Core.Path.{sym, ◌∙◌}
 use native.Mathlib.Omega.{arith}
 use Rattle.spec_records.proofs.Layouts.{version_by}
-use borrow.Author.Rules.{rules}
 use Rattle.image.proofs.size.image_size.Goals as goal
 
 pub returns-then-is_wide : goal.returns-then-is_wide

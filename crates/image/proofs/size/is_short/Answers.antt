@@ -4,7 +4,6 @@ use mathlib.Core.Path.{sym}
 use borrow.Author.Tests.{lt-ltb}
 use Rattle.spec_records.specs.Layouts.{version_for, image_size}
 use Rattle.spec_image.proofs.Versions.{size_least}
-use borrow.Author.Rules.{rules}
 use Rattle.image.proofs.size.is_short.Goals as goal
 
 pub returns-then-nodes-given : goal.returns-then-nodes-given

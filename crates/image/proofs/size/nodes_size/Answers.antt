@@ -1,5 +1,4 @@
 -- `image::size::nodes_size` meets its contract: 34 bytes a node where the image is wide, else 30.
-use borrow.Author.Rules.{rules}
 use Rattle.image.proofs.size.nodes_size.Goals as goal
 
 pub returns-then-wide : goal.returns-then-wide

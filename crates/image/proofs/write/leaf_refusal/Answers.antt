@@ -1,6 +1,5 @@
 -- `image::write::leaf_refusal` meets its contract: it refuses where the leaf minimum is above the max.
 use Rattle.spec_image.specs.Writing.{leaf_refusal}
-use borrow.Author.Rules.{rules}
 use Rattle.image.proofs.write.leaf_refusal.Goals as goal
 
 pub returns : goal.returns

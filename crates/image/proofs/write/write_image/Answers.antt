@@ -4,7 +4,6 @@ use Rattle.spec_records.specs.Layouts.{version_for}
 use Rattle.image.specs.Values.{image_from}
 use Rattle.image.proofs.Wide.{version_picked}
 use Rattle.image.proofs.Wrote.{wrote_nothing, can_put, wrote_image}
-use borrow.Author.Rules.{rules}
 use Rattle.image.proofs.write.write_image.Goals as goal
 
 pub put_image-requires : goal.put_image-requires

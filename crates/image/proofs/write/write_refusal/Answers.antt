@@ -5,7 +5,6 @@ use Rattle.spec_lists.proofs.Verdicts.{ends, or_test, row_stops, row_goes_on, ro
 use Rattle.spec_lists.proofs.Passed.{triangles_passed}
 use Rattle.spec_image.specs.Writing.{write_refusal}
 use Rattle.image.proofs.Wide.{version_picked}
-use borrow.Author.Rules.{rules}
 use Rattle.image.proofs.write.write_refusal.Goals as goal
 
 pub returns-then-refuses : goal.returns-then-refuses

@@ -2,7 +2,6 @@
 use mathlib.Core.Path.{sym, ap, ◌∙◌}
 use Rattle.lists.specs.Values.{as_verdict}
 use Rattle.spec_tree.proofs.Leaves.{passed_there, leaf_refused, leaf_sought}
-use borrow.Author.Rules.{rules}
 use Rattle.leaves.proofs.calls.leaf.Goals as goal
 
 pub leaf_from-requires : goal.leaf_from-requires

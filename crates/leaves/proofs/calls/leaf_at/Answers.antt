@@ -1,6 +1,5 @@
 -- `leaves::calls::leaf_at` meets its contract: each number and the box are what the reads ensure.
 use Rattle.spec_tree.specs.Leaves as Leaves
-use borrow.Author.Rules.{rules}
 use Rattle.leaves.proofs.calls.leaf_at.Goals as goal
 
 pub returns : goal.returns

@@ -1,9 +1,8 @@
 -- `leaves::calls::leaf_count` meets its contract. The invariant: the leaves counted and those that remain are all leaves.
 use mathlib.Core.Path.{sym, ◌∙◌}
-use Prim.Native.Nat.{◌-◌, ◌≤◌}
+use Prim.Native.Nat.{◌-◌}
 use native.Mathlib.Omega.{arith}
-use borrow.Author.Rules.{rules}
-use Rattle.spec_tree.proofs.Seeking.{Counts, counting_starts, counting_leaf, counting_other, counting_ends}
+use Rattle.spec_tree.proofs.Seeking.{counting_starts, counting_leaf, counting_other, counting_ends}
 use Rattle.leaves.proofs.calls.leaf_count.Goals as goal
 use Rattle.leaves.proofs.calls.leaf_count.Goals.{then-kind_at-eq1, else-kind_at-eq1}
 

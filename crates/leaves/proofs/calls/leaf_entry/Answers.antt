@@ -2,7 +2,6 @@
 use mathlib.Core.Path.{sym, ap, ◌∙◌}
 use Rattle.spec_tree.proofs.Leaves.{entry_none, entry_read, entry_refused_lem}
 use Rattle.leaves.specs.Values.{as_leaf_found}
-use borrow.Author.Rules.{rules}
 use Rattle.leaves.proofs.calls.leaf_entry.Goals as goal
 
 pub returns-in-Nothing : goal.returns-in-Nothing

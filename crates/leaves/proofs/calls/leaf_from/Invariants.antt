@@ -1,11 +1,7 @@
 -- `leaves::calls::leaf_from` meets its contract. The invariant: the leaf that is sought is found from this node on.
-use mathlib.Core.Path.{◌≡◌, refl, sym, ap, ◌∙◌}
-use mathlib.Core.Logic.{⊎_elim}
+use mathlib.Core.Path.{◌≡◌}
 use Prim.Native.Nat.{◌-◌}
-use native.Mathlib.Omega.{arith}
-use borrow.Author.Rules.{rules}
 use Rattle.spec_tree.specs.Leaves.{leaf_from}
-use Rattle.spec_tree.proofs.Seeking.{seek_here, seek_past, seek_on, seek_ends}
 use Rattle.leaves.proofs.calls.leaf_from.Given as goal
 
 abbrev pub invariant-loop-node : goal.invariant-loop-node

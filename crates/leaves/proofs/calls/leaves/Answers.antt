@@ -2,7 +2,6 @@
 use mathlib.Core.Path.{sym, ap, ◌∙◌}
 use Rattle.lists.specs.Values.{as_verdict}
 use Rattle.spec_tree.proofs.Leaves.{passed_there, count_refused, count_made}
-use borrow.Author.Rules.{rules}
 use Rattle.leaves.proofs.calls.leaves.Goals as goal
 
 pub leaf_count-requires : goal.leaf_count-requires

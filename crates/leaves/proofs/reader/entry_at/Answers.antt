@@ -1,6 +1,5 @@
 -- `leaves::reader::entry_at` meets its contract: within the slice the triangle's number, past its end nothing.
 use borrow.Author.Tests.{lt-ltb, le-ltb}
-use borrow.Author.Rules.{rules}
 use Rattle.spec_tree.specs.Leaves.{entry_at}
 use Rattle.leaves.proofs.reader.entry_at.Goals as goal
 

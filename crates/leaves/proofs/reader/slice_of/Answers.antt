@@ -1,5 +1,4 @@
 -- `leaves::reader::slice_of` meets its contract: what of the slice is there.
-use borrow.Author.Rules.{rules}
 use Rattle.leaves.proofs.Slices.{slice_there}
 use Rattle.leaves.proofs.reader.slice_of.Goals as goal
 

@@ -1,6 +1,5 @@
 -- `lists::coordinates::coordinate_refusal` meets its contract: what `first_bad` and `refused_if` ensure.
 use Rattle.spec_lists.specs.Refusals.{coordinate_refusal}
-use borrow.Author.Rules.{rules}
 use Rattle.lists.proofs.coordinates.coordinate_refusal.Goals as goal
 
 pub returns : goal.returns

@@ -1,11 +1,7 @@
 -- `lists::coordinates::first_bad` meets its contract. The invariant: the answer is the index and the number of coordinates from there on.
-use mathlib.Core.Path.{◌≡◌, sym, ◌∙◌}
-use Prim.Native.Nat.{◌+◌, ◌-◌}
+use mathlib.Core.Path.{sym, ◌∙◌}
+use Prim.Native.Nat.{◌-◌}
 use native.Mathlib.Omega.{arith}
-use borrow.Author.Rules.{rules}
-use borrow.Author.Tests.{not-true, not-false}
-use lib.ListN.{length, drop}
-use Rattle.spec_lists.specs.Refusals.{first_bad}
 use Rattle.spec_lists.proofs.Coordinates.{bad_here, good_here, none_remaining}
 use Rattle.lists.proofs.coordinates.first_bad.Goals as goal
 

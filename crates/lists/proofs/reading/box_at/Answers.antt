@@ -1,6 +1,5 @@
 -- `lists::reading::box_at` meets its contract: what `triangle_at` and `bbox` ensure.
 use Rattle.spec_lists.specs.Reading.{box_at}
-use borrow.Author.Rules.{rules}
 use Rattle.lists.proofs.reading.box_at.Goals as goal
 
 pub returns : goal.returns

@@ -1,6 +1,5 @@
 -- `lists::reading::point_at` meets its contract: what `number_at` ensures, on each axis.
 use Rattle.spec_lists.specs.Reading.{point_at}
-use borrow.Author.Rules.{rules}
 use Rattle.lists.proofs.reading.point_at.Goals as goal
 
 pub returns : goal.returns

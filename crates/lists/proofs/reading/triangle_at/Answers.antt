@@ -1,6 +1,5 @@
 -- `lists::reading::triangle_at` meets its contract: what `point_at` ensures, of each corner.
 use Rattle.spec_lists.specs.Reading.{triangle_at}
-use borrow.Author.Rules.{rules}
 use Rattle.lists.proofs.reading.triangle_at.Goals as goal
 
 pub returns : goal.returns

@@ -1,6 +1,5 @@
 -- `lists::settings::settings_refusal` meets its contract: what `are_settings` and `refused_if` ensure.
 use Rattle.spec_lists.specs.Refusals.{settings_refusal}
-use borrow.Author.Rules.{rules}
 use Rattle.lists.proofs.settings.settings_refusal.Goals as goal
 
 pub returns : goal.returns

@@ -1,6 +1,5 @@
 -- `lists::tests::none_refusal` meets its contract: what `triangle_count` and `refused_if` ensure.
 use Rattle.spec_lists.specs.Refusals.{none_refusal}
-use borrow.Author.Rules.{rules}
 use Rattle.lists.proofs.tests.none_refusal.Goals as goal
 
 pub returns : goal.returns

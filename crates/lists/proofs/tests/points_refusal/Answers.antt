@@ -1,7 +1,6 @@
 -- `lists::tests::points_refusal` meets its contract: two tests in a row.
 use Rattle.spec_lists.specs.Refusals.{points_refusal}
 use Rattle.spec_lists.proofs.Verdicts.{ends, or_test}
-use borrow.Author.Rules.{rules}
 use Rattle.lists.proofs.tests.points_refusal.Goals as goal
 
 pub returns : goal.returns

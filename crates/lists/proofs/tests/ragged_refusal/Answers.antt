@@ -1,6 +1,5 @@
 -- `lists::tests::ragged_refusal` meets its contract: what `refused_if` ensures.
 use Rattle.spec_lists.specs.Refusals.{ragged_refusal}
-use borrow.Author.Rules.{rules}
 use Rattle.lists.proofs.tests.ragged_refusal.Goals as goal
 
 pub returns : goal.returns

@@ -1,7 +1,6 @@
 -- `lists::tests::scale_refusal` meets its contract: what `is_within` and `refused_if` ensure.
 use lib.Ieee.{of_bits}
 use Rattle.spec_lists.specs.Refusals.{is_scale, scale_refusal}
-use borrow.Author.Rules.{rules}
 use Rattle.lists.proofs.tests.scale_refusal.Goals as goal
 
 pub returns : goal.returns

@@ -1,6 +1,5 @@
 -- `lists::tests::too_many_refusal` meets its contract: what `triangle_count` and `refused_if` ensure.
 use Rattle.spec_lists.specs.Refusals.{too_many_refusal}
-use borrow.Author.Rules.{rules}
 use Rattle.lists.proofs.tests.too_many_refusal.Goals as goal
 
 pub returns : goal.returns

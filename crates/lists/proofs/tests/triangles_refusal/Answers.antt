@@ -1,7 +1,6 @@
 -- `lists::tests::triangles_refusal` meets its contract: the tests of the length, then that of the coordinates.
 use Rattle.spec_lists.specs.Refusals.{triangles_refusal}
 use Rattle.spec_lists.proofs.Verdicts.{ends, or_test, row_stops, row_goes_on}
-use borrow.Author.Rules.{rules}
 use Rattle.lists.proofs.tests.triangles_refusal.Goals as goal
 
 pub returns-then-refuses : goal.returns-then-refuses

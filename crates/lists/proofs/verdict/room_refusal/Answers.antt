@@ -1,6 +1,5 @@
 -- `lists::verdict::room_refusal` meets its contract: what `refused_if` ensures.
 use Rattle.spec_lists.specs.Refusals.{room_refusal}
-use borrow.Author.Rules.{rules}
 use Rattle.lists.proofs.verdict.room_refusal.Goals as goal
 
 pub returns : goal.returns

@@ -2,7 +2,6 @@
 use mathlib.Core.Path.{refl}
 use native.Mathlib.Omega.{arith}
 use Rattle.spec_tables.proofs.Tables.{put_store}
-use borrow.Author.Rules.{rules}
 use Rattle.printing.proofs.lines.put_byte.Goals as goal
 
 pub returns : goal.returns

@@ -2,7 +2,6 @@
 use native.Mathlib.Omega.{arith}
 use Rattle.spec_tables.proofs.Tables.{put_then}
 use Rattle.spec_printing.specs.Printed.{triangles_word, nodes_word, depth_word, counts_line}
-use borrow.Author.Rules.{rules}
 use Rattle.printing.proofs.lines.put_counts.Goals as goal
 
 pub returns : goal.returns

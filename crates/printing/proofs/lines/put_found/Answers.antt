@@ -2,7 +2,6 @@
 use native.Mathlib.Omega.{arith}
 use Rattle.spec_tables.proofs.Tables.{put_then}
 use Rattle.spec_printing.specs.Printed.{found_word, found_line}
-use borrow.Author.Rules.{rules}
 use Rattle.printing.proofs.lines.put_found.Goals as goal
 
 pub returns : goal.returns

@@ -2,7 +2,6 @@
 use native.Mathlib.Omega.{arith}
 use Rattle.spec_tables.proofs.Tables.{put_then}
 use Rattle.spec_printing.specs.Printed.{named}
-use borrow.Author.Rules.{rules}
 use Rattle.printing.proofs.lines.put_named.Goals as goal
 
 pub returns : goal.returns

@@ -2,7 +2,6 @@
 use native.Mathlib.Omega.{arith}
 use Rattle.spec_tables.proofs.Tables.{put_then}
 use Rattle.spec_printing.specs.Printed.{refused_word, refused_line}
-use borrow.Author.Rules.{rules}
 use Rattle.printing.proofs.lines.put_refused.Goals as goal
 
 pub returns : goal.returns

@@ -3,8 +3,7 @@ use mathlib.Core.Path.{refl}
 use mathlib.Core.List.{[], ◌∷◌}
 use Prim.Native.Nat.{◌-◌}
 use lib.ListN.{length, get_or}
-use Rattle.spec_tables.proofs.Runs.{Run, run_start, run_store, copy_end}
-use borrow.Author.Rules.{rules}
+use Rattle.spec_tables.proofs.Runs.{run_start, run_store, copy_end}
 use Rattle.printing.proofs.lines.put_word.Goals as goal
 
 pub loop-i-init : goal.loop-i-init

@@ -1,10 +1,8 @@
 -- `printing::lines::put_word` meets its contract: a turn stores one byte more (`Run`).
-use mathlib.Core.Path.{refl}
 use mathlib.Core.List.{[], ◌∷◌}
 use Prim.Native.Nat.{◌-◌}
 use lib.ListN.{length, get_or}
-use Rattle.spec_tables.proofs.Runs.{Run, run_start, run_store, copy_end}
-use borrow.Author.Rules.{rules}
+use Rattle.spec_tables.proofs.Runs.{Run}
 use Rattle.printing.proofs.lines.put_word.Given as goal
 
 abbrev pub invariant-loop-i : goal.invariant-loop-i

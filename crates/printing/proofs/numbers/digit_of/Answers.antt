@@ -1,7 +1,6 @@
 -- `printing::numbers::digit_of` meets its contract, by the two cases of `digit`.
 use mathlib.Core.Path.{sym}
 use Rattle.spec_printing.proofs.Numbers.{digit_low, digit_high}
-use borrow.Author.Rules.{rules}
 use Rattle.printing.proofs.numbers.digit_of.Goals as goal
 
 pub returns-then-d-lt10 : goal.returns-then-d-lt10

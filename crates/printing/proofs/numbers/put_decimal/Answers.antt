@@ -4,7 +4,6 @@ use Prim.Native.Nat.{ℕ}
 use native.Mathlib.Omega.{arith}
 use Rattle.spec_tables.proofs.Tables.{put_same}
 use Rattle.spec_printing.specs.Printed.{digits, decimal}
-use borrow.Author.Rules.{rules}
 use Rattle.printing.proofs.numbers.put_decimal.Goals as goal
 
 pub returns : goal.returns

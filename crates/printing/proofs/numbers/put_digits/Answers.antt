@@ -3,8 +3,7 @@ use mathlib.Core.Path.{refl}
 use native.Mathlib.Omega.{arith}
 use Prim.Native.Nat.{◌-◌}
 use native.Mathlib.Nat.{mod-lt}
-use Rattle.spec_printing.proofs.Backwards.{Backwards, back_start, back_more, back_end}
-use borrow.Author.Rules.{rules}
+use Rattle.spec_printing.proofs.Backwards.{back_start, back_more, back_end}
 use Rattle.printing.proofs.numbers.put_digits.Goals as goal
 
 pub loop-remaining-init : goal.loop-remaining-init

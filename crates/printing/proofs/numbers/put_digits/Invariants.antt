@@ -1,10 +1,6 @@
 -- `printing::numbers::put_digits` meets its contract: a turn stores one digit more, right in front of the others (`Backwards`).
-use mathlib.Core.Path.{refl}
-use native.Mathlib.Omega.{arith}
 use Prim.Native.Nat.{◌-◌}
-use native.Mathlib.Nat.{mod-lt}
-use Rattle.spec_printing.proofs.Backwards.{Backwards, back_start, back_more, back_end}
-use borrow.Author.Rules.{rules}
+use Rattle.spec_printing.proofs.Backwards.{Backwards}
 use Rattle.printing.proofs.numbers.put_digits.Given as goal
 
 abbrev pub invariant-loop-remaining : goal.invariant-loop-remaining

@@ -1,7 +1,6 @@
 -- `printing::numbers::put_hex` meets its contract: eight digits.
 use native.Mathlib.Omega.{arith}
 use Rattle.spec_printing.specs.Printed.{hex}
-use borrow.Author.Rules.{rules}
 use Rattle.printing.proofs.numbers.put_hex.Goals as goal
 
 pub returns : goal.returns

@@ -1,10 +1,8 @@
 -- `printing::numbers::width_of` meets its contract. The invariant: the digits counted and the width of what remains are one more than the width.
 use mathlib.Core.Path.{◌≡◌}
-use Prim.Native.Nat.{◌+◌}
 use native.Mathlib.Omega.{arith}
 use Rattle.spec_printing.specs.Printed.{width}
 use Rattle.spec_printing.proofs.Numbers.{width_one, width_more, width_pos, width_most}
-use borrow.Author.Rules.{rules}
 use Rattle.printing.proofs.numbers.width_of.Goals as goal
 
 pub overflow_add-count : goal.overflow_add-count

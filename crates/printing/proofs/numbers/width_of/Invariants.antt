@@ -1,10 +1,7 @@
 -- `printing::numbers::width_of` meets its contract. The invariant: the digits counted and the width of what remains are one more than the width.
 use mathlib.Core.Path.{◌≡◌}
 use Prim.Native.Nat.{◌+◌}
-use native.Mathlib.Omega.{arith}
 use Rattle.spec_printing.specs.Printed.{width}
-use Rattle.spec_printing.proofs.Numbers.{width_one, width_more, width_pos, width_most}
-use borrow.Author.Rules.{rules}
 use Rattle.printing.proofs.numbers.width_of.Given as goal
 
 abbrev pub invariant-loop-rest : goal.invariant-loop-rest

@@ -6,7 +6,6 @@ use Rattle.spec_lists.proofs.Verdicts.{did_pass}
 use Rattle.spec_search.specs.Calls.{most_by, answer_by}
 use Rattle.spec_search.proofs.Calls.{query_passed, as_it_was, is_answered}
 use Rattle.walks.specs.Values.{as_query}
-use borrow.Author.Rules.{rules}
 use Rattle.queries.proofs.calls.ask.Goals as goal
 
 pub returns-then-refuses : goal.returns-then-refuses

@@ -7,7 +7,6 @@ use lib.Ieee.{binary32}
 use Rattle.spec_tables.specs.Tables.{overwrite}
 use Rattle.spec_search.specs.Rules.{rule_of}
 use Rattle.spec_search.proofs.Calls.{few_words_same, one_is_sure}
-use borrow.Author.Rules.{rules}
 use Rattle.queries.proofs.calls.put_answers.Goals as goal
 
 pub put_few-requires : goal.put_few-requires

@@ -13,9 +13,8 @@ use Rattle.spec_lists.proofs.Reading.{point_inside, point_finite}
 use Rattle.spec_search.specs.Answers.{answer_width}
 use Rattle.spec_search.specs.Rules.{rule_of}
 use Rattle.spec_search.specs.Calls.{point_words, few_answer}
-use Rattle.spec_search.proofs.Calls.{point_words_same, Answered, answered_start, answered_more, answers_room, answered_end}
-use Rattle.walks.specs.Places.{Lent, most_of, answer_of}
-use borrow.Author.Rules.{rules}
+use Rattle.spec_search.proofs.Calls.{point_words_same, answered_start, answered_more, answers_room, answered_end}
+use Rattle.walks.specs.Places.{answer_of}
 use Rattle.queries.proofs.calls.put_few.Goals as goal
 
 -- what is within a lent list's length fits its index

@@ -5,10 +5,9 @@ use native.Mathlib.Omega.{arith}
 use lib.Ieee.{binary32}
 use Rattle.spec_shapes.specs.Points.{Point}
 use Rattle.spec_lists.proofs.Reading.{point_inside}
-use Rattle.spec_search.specs.Answers.{Answer, words_of}
+use Rattle.spec_search.specs.Answers.{words_of}
 use Rattle.spec_search.specs.Calls.{source_answer}
-use Rattle.spec_search.proofs.Calls.{one_place, Answered, answered_start, answered_more, answered_end}
-use borrow.Author.Rules.{rules}
+use Rattle.spec_search.proofs.Calls.{one_place, answered_start, answered_more, answered_end}
 use Rattle.queries.proofs.calls.put_source.Goals as goal
 
 pub loop-k-init : goal.loop-k-init

@@ -1,14 +1,8 @@
 -- `queries::calls::put_source` meets its contract. The invariant: the answers to the first k points stand at the front of the list.
-use mathlib.Core.Path.{sym, ap, ◌∙◌}
-use Prim.Native.Nat.{ℕ, ◌-◌}
-use native.Mathlib.Omega.{arith}
+use Prim.Native.Nat.{◌-◌}
 use lib.Ieee.{binary32}
-use Rattle.spec_shapes.specs.Points.{Point}
-use Rattle.spec_lists.proofs.Reading.{point_inside}
-use Rattle.spec_search.specs.Answers.{Answer, words_of}
 use Rattle.spec_search.specs.Calls.{source_answer}
-use Rattle.spec_search.proofs.Calls.{one_place, Answered, answered_start, answered_more, answered_end}
-use borrow.Author.Rules.{rules}
+use Rattle.spec_search.proofs.Calls.{Answered}
 use Rattle.queries.proofs.calls.put_source.Given as goal
 
 abbrev pub invariant-loop-k : goal.invariant-loop-k

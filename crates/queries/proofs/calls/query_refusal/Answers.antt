@@ -5,7 +5,6 @@ use Rattle.spec_lists.proofs.Passed.{triangles_passed}
 use Rattle.spec_search.specs.Calls.{query_refusal}
 use Rattle.spec_search.proofs.Calls.{choice_passed}
 use Rattle.walks.specs.Values.{as_query}
-use borrow.Author.Rules.{rules}
 use Rattle.queries.proofs.calls.query_refusal.Goals as goal
 
 pub returns-then-refuses : goal.returns-then-refuses

@@ -3,7 +3,6 @@ use mathlib.Core.Path.{◌∙◌}
 use lib.Ieee.{binary32}
 use Rattle.spec_search.specs.Calls.{source_answer}
 use Rattle.spec_search.proofs.Calls.{after_one}
-use borrow.Author.Rules.{rules}
 use Rattle.queries.proofs.calls.source_query.Goals as goal
 
 pub returns : goal.returns

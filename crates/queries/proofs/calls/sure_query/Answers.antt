@@ -4,7 +4,6 @@ use lib.Ieee.{binary32}
 use Rattle.spec_search.specs.Rules.{rule_of}
 use Rattle.spec_search.specs.Calls.{sure_answer}
 use Rattle.spec_search.proofs.Calls.{after_one}
-use borrow.Author.Rules.{rules}
 use Rattle.queries.proofs.calls.sure_query.Goals as goal
 
 pub returns : goal.returns

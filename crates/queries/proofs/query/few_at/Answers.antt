@@ -13,7 +13,6 @@ use Rattle.spec_search.proofs.Few.{walk_is_scan}
 use Rattle.spec_search.proofs.Calls.{entries_below, numbers_low}
 use Rattle.spec_search.proofs.Marked.{marked_answers}
 use Rattle.walks.proofs.Reached.{reached_answers}
-use borrow.Author.Rules.{rules}
 use Rattle.queries.proofs.query.few_at.Goals as goal
 
 pub search-requires : goal.search-requires

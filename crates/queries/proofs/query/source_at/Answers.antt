@@ -4,7 +4,6 @@ use Rattle.spec_search.specs.Answers.{Answer}
 use Rattle.spec_search.specs.Walk.{Sought}
 use Rattle.spec_search.specs.Rules.{limit_squared}
 use Rattle.spec_search.specs.Calls.{source_answer}
-use borrow.Author.Rules.{rules}
 use Rattle.queries.proofs.query.source_at.Goals as goal
 
 pub returns : goal.returns

@@ -1,6 +1,5 @@
 -- `queries::rules::choice_refusal` meets its contract: the sure query's rule is tested, then how many are asked for, and the source query has neither.
 use Rattle.spec_lists.proofs.Verdicts.{ends, or_test}
-use borrow.Author.Rules.{rules}
 use Rattle.queries.proofs.rules.choice_refusal.Goals as goal
 
 pub returns-in-Sure : goal.returns-in-Sure

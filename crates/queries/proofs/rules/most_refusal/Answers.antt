@@ -1,6 +1,5 @@
 -- `queries::rules::most_refusal` meets its contract: the test is the definition's.
 use Rattle.spec_search.specs.Calls.{most_refusal}
-use borrow.Author.Rules.{rules}
 use Rattle.queries.proofs.rules.most_refusal.Goals as goal
 
 pub returns : goal.returns

@@ -1,6 +1,5 @@
 -- `queries::rules::rule_refusal` meets its contract: the test is the definition's.
 use Rattle.spec_search.specs.Rules.{rule_refusal}
-use borrow.Author.Rules.{rules}
 use Rattle.queries.proofs.rules.rule_refusal.Goals as goal
 
 pub returns : goal.returns

@@ -2,7 +2,6 @@
 use mathlib.Core.Path.{sym, ◌∙◌}
 use native.Mathlib.Omega.{arith}
 use Rattle.spec_records.proofs.Records.{record_there, record_past, record_other}
-use borrow.Author.Rules.{rules}
 use Rattle.records.proofs.bodies.body_at.Goals as goal
 
 pub returns-then-bytes-lt6 : goal.returns-then-bytes-lt6

@@ -4,7 +4,6 @@ use Rattle.spec_records.specs.Records.{exactly}
 use Rattle.spec_records.proofs.Records.{none_there}
 use Rattle.spec_records.proofs.Layouts.{exactly_decides}
 use Rattle.records.proofs.Answers.{is_there, is_missing}
-use borrow.Author.Rules.{rules}
 use Rattle.records.proofs.bodies.has_body.Goals as goal
 
 pub returns-in_default : goal.returns-in_default

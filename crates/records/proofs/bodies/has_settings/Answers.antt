@@ -4,7 +4,6 @@ use native.Mathlib.Omega.{arith}
 use Rattle.spec_records.specs.Layouts.{is_known}
 use Rattle.spec_records.proofs.Records.{right_within}
 use Rattle.spec_records.proofs.Layouts.{exactly_right, settings_missing, version_decides}
-use borrow.Author.Rules.{rules}
 use Rattle.records.proofs.bodies.has_settings.Goals as goal
 
 pub u16_at-requires : goal.u16_at-requires

@@ -9,7 +9,6 @@ use Rattle.spec_records.specs.Layouts.{Shape, version_for}
 use Rattle.spec_records.proofs.Records.{right_within}
 use Rattle.spec_records.proofs.Layouts.{version_picked, triangles_missing, count_decides}
 use Rattle.records.proofs.Answers.{is_right_lem, is_wrong}
-use borrow.Author.Rules.{rules}
 use Rattle.records.proofs.bodies.triangles_body.Goals as goal
 
 pub returns-in_default : goal.returns-in_default

@@ -5,7 +5,6 @@ use Rattle.spec_records.specs.Records.{whole}
 use Rattle.spec_records.proofs.Records.{none_there}
 use Rattle.spec_records.proofs.Layouts.{whole_decides}
 use Rattle.records.proofs.Answers.{is_there, is_missing}
-use borrow.Author.Rules.{rules}
 use Rattle.records.proofs.bodies.whole_body.Goals as goal
 
 pub returns-in_default : goal.returns-in_default

@@ -4,14 +4,12 @@ use mathlib.Core.Path.{◌≡◌, sym, ap, ◌∙◌}
 use mathlib.Core.List.{List}
 use Prim.Native.Nat.{ℕ, ◌+◌, ◌-◌, ◌*◌, ◌<◌}
 use native.Mathlib.Omega.{arith}
-use borrow.Author.Rules.{rules}
-use borrow.Author.Tests.{not-true, not-false}
-use lib.ListN.{drop, get_or, length}
+use lib.ListN.{get_or, length}
 use lib.Ieee.{binary32, nan, of_bits}
 use Rattle.spec_tables.proofs.Pieces.{length_singles, get_d_concat_map}
 use Rattle.spec_records.specs.Little.{little_at}
 use Rattle.spec_records.specs.Entries.{floats_in}
-use Rattle.spec_lists.specs.Refusals.{is_coordinate, first_bad}
+use Rattle.spec_lists.specs.Refusals.{is_coordinate}
 use Rattle.spec_lists.proofs.Coordinates.{bad_here, good_here, none_remaining}
 use Rattle.records.proofs.coordinates.first_bad_in.Goals as goal
 

@@ -1,5 +1,4 @@
 -- `records::entries::put_entries` meets its contract: the version says which of the two functions it is.
-use borrow.Author.Rules.{rules}
 use Rattle.records.proofs.entries.put_entries.Goals as goal
 
 pub put_u32s-requires : goal.put_u32s-requires

@@ -1,12 +1,9 @@
 -- `records::entries::put_f32s` meets its contract: a turn puts one entry more (`Puts`).
 use mathlib.Core.Path.{ap, ◌∙◌}
-use Prim.Native.Nat.{◌+◌, ◌-◌}
-use lib.ListN.{get_or}
-use lib.Ieee.{nan, to_bits, binary32}
+use Prim.Native.Nat.{◌-◌}
 use Rattle.spec_tables.proofs.Tables.{put_same}
-use Rattle.spec_tables.proofs.Runs.{Puts, puts_start, puts_more, puts_end}
+use Rattle.spec_tables.proofs.Runs.{puts_start, puts_more, puts_end}
 use Rattle.spec_records.specs.Little.{little}
-use borrow.Author.Rules.{rules}
 use Rattle.records.proofs.entries.put_f32s.Goals as goal
 
 pub loop-i-init : goal.loop-i-init

@@ -1,11 +1,8 @@
 -- `records::entries::put_u32s` meets its contract: a turn puts one entry more (`Puts`).
-use mathlib.Core.Path.{ap}
 use Prim.Native.Nat.{◌+◌, ◌-◌}
 use lib.ListN.{get_or}
-use Rattle.spec_tables.proofs.Tables.{put_same}
-use Rattle.spec_tables.proofs.Runs.{Puts, puts_start, puts_more, puts_end}
+use Rattle.spec_tables.proofs.Runs.{Puts}
 use Rattle.spec_records.specs.Little.{little}
-use borrow.Author.Rules.{rules}
 use Rattle.records.proofs.entries.put_u32s.Given as goal
 
 abbrev pub invariant-loop-i : goal.invariant-loop-i

@@ -1,5 +1,4 @@
 -- `records::entries::read_entries` meets its contract: the version says which of the two functions it is.
-use borrow.Author.Rules.{rules}
 use Rattle.records.proofs.entries.read_entries.Goals as goal
 
 pub read_u32s-requires : goal.read_u32s-requires

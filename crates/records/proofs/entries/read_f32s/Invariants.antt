@@ -2,9 +2,8 @@
 use mathlib.Core.List.{[], ◌∷◌}
 use Prim.Native.Nat.{◌+◌, ◌-◌, ◌*◌}
 use lib.Ieee.{of_bits, binary32}
-use Rattle.spec_tables.proofs.Runs.{Run, run_start, run_store, run_end}
+use Rattle.spec_tables.proofs.Runs.{Run}
 use Rattle.spec_records.specs.Little.{little_at}
-use borrow.Author.Rules.{rules}
 use Rattle.records.proofs.entries.read_f32s.Given as goal
 
 abbrev pub invariant-loop-i : goal.invariant-loop-i

@@ -1,9 +1,8 @@
 -- `records::entries::read_u16s` meets its contract: a turn stores one entry more (`Run`).
 use mathlib.Core.List.{[], ◌∷◌}
 use Prim.Native.Nat.{◌+◌, ◌-◌, ◌*◌}
-use Rattle.spec_tables.proofs.Runs.{Run, run_start, run_store, run_end}
+use Rattle.spec_tables.proofs.Runs.{Run}
 use Rattle.spec_records.specs.Little.{little_at}
-use borrow.Author.Rules.{rules}
 use Rattle.records.proofs.entries.read_u16s.Given as goal
 
 abbrev pub invariant-loop-i : goal.invariant-loop-i

@@ -1,9 +1,6 @@
 -- `records::entries::read_u32s` meets its contract: a turn stores one entry more (`Run`).
-use mathlib.Core.List.{[], ◌∷◌}
-use Prim.Native.Nat.{◌+◌, ◌-◌, ◌*◌}
-use Rattle.spec_tables.proofs.Runs.{Run, run_start, run_store, run_end}
-use Rattle.spec_records.specs.Little.{little_at}
-use borrow.Author.Rules.{rules}
+use Prim.Native.Nat.{◌-◌}
+use Rattle.spec_tables.proofs.Runs.{run_start, run_store, run_end}
 use Rattle.records.proofs.entries.read_u32s.Goals as goal
 
 pub loop-i-init : goal.loop-i-init

@@ -2,7 +2,6 @@
 use mathlib.Core.Path.{sym, ◌∙◌}
 use Rattle.spec_records.specs.Layouts.{query_wants}
 use Rattle.records.proofs.Answers.{not_opened}
-use borrow.Author.Rules.{rules}
 use Rattle.records.proofs.layout.gauge_layout.Goals as goal
 
 pub query_layout-requires : goal.query_layout-requires

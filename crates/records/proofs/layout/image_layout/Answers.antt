@@ -4,7 +4,6 @@ use Prim.Native.Nat.{◌*◌, ◌/◌}
 use Rattle.spec_records.specs.Layouts.{Shape, node_size}
 use Rattle.spec_records.proofs.Layouts.{version_picked}
 use Rattle.records.proofs.Answers.{not_opened}
-use borrow.Author.Rules.{rules}
 use Rattle.records.proofs.layout.image_layout.Goals as goal
 
 pub tree_layout-requires : goal.tree_layout-requires

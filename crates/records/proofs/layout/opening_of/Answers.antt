@@ -1,12 +1,10 @@
 -- `records::layout::opening_of` meets its contract: each return is a case of the two tests.
 use mathlib.Core.Path.{sym, ◌∙◌}
 use mathlib.Core.Bool.{true}
-use borrow.Author.Tests.{not-true, not-false}
 use Rattle.spec_records.specs.Little.{little_at}
 use Rattle.spec_records.specs.Layouts.{triangles_right}
 use Rattle.spec_records.proofs.Records.{test_decides}
 use Rattle.records.proofs.Answers.{is_right_lem, is_wrong}
-use borrow.Author.Rules.{rules}
 use Rattle.records.proofs.layout.opening_of.Goals as goal
 
 pub returns-then-not-has_settings : goal.returns-then-not-has_settings

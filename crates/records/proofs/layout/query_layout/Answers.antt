@@ -1,14 +1,12 @@
 -- `records::layout::query_layout` meets its contract: each return is a place that the definition reaches (`Reached`).
 use mathlib.Core.Path.{sym, ap, ◌∙◌}
 use native.Mathlib.Omega.{arith}
-use borrow.Author.Tests.{not-true, not-false}
 use Rattle.spec_records.specs.Records.{bodies, whole}
 use Prim.Native.Nat.{◌+◌}
 use Rattle.spec_records.specs.Layouts.{query_wants}
 use Rattle.spec_records.proofs.Records.{right_within, reach_on, reach_wrong, reach_end, reach_extra, reach_left_out, reach_wanted}
 use Rattle.spec_records.proofs.Layouts.{exactly_right, whole_size, triangles_whole, opened, gauge_spans_lem, ruled_spans}
 use Rattle.records.proofs.Answers.{is_right_lem, is_wrong, is_opened, rule_next}
-use borrow.Author.Rules.{rules}
 use Rattle.records.proofs.layout.query_layout.Goals as goal
 
 pub overflow_add-third : goal.overflow_add-third

@@ -3,7 +3,6 @@ use native.Mathlib.Omega.{arith}
 use mathlib.Core.Path.{refl}
 use lib.ListN.{length-set}
 use Rattle.spec_records.proofs.Little.{two_put}
-use borrow.Author.Rules.{rules}
 use Rattle.records.proofs.numbers.put_u16.Goals as goal
 
 pub returns : goal.returns

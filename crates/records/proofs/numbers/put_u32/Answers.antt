@@ -1,7 +1,6 @@
 -- `records::numbers::put_u32` meets its contract: two bytes, and two behind them.
 use native.Mathlib.Omega.{arith}
 use Rattle.spec_records.proofs.Little.{four_put}
-use borrow.Author.Rules.{rules}
 use Rattle.records.proofs.numbers.put_u32.Goals as goal
 
 pub returns : goal.returns

@@ -4,7 +4,6 @@ use mathlib.Core.Path.{◌≡◌}
 use lib.ListN.{get_or}
 use Prim.Native.Nat.{◌+◌, ◌*◌}
 use Rattle.spec_records.proofs.Little.{two_at}
-use borrow.Author.Rules.{rules}
 use Rattle.records.proofs.numbers.u16_at.Goals as goal
 
 pub overflow_mul-result : goal.overflow_mul-result

@@ -1,7 +1,6 @@
 -- `records::numbers::u32_at` meets its contract: two numbers of two bytes, the upper one times 65,536.
 use native.Mathlib.Omega.{arith}
 use Rattle.spec_records.proofs.Little.{four_at}
-use borrow.Author.Rules.{rules}
 use Rattle.records.proofs.numbers.u32_at.Goals as goal
 
 pub returns : goal.returns

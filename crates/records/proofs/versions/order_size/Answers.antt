@@ -1,5 +1,4 @@
 -- `records::versions::order_size` meets its contract: four bytes an entry where it is wide, else two.
-use borrow.Author.Rules.{rules}
 use Rattle.records.proofs.versions.order_size.Goals as goal
 
 pub returns-then-wide : goal.returns-then-wide

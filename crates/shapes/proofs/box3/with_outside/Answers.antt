@@ -1,6 +1,5 @@
 -- `shapes::box3::with_outside` meets its contract: what `with_excess` ensures, twice.
 use Rattle.spec_shapes.specs.Boxes.{with_outside}
-use borrow.Author.Rules.{rules}
 use Rattle.shapes.proofs.box3.with_outside.Goals as goal
 
 pub returns : goal.returns

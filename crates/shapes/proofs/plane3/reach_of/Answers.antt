@@ -1,6 +1,5 @@
 -- `shapes::plane3::reach_of` meets its contract: what `absolute` ensures, on each axis.
 use Rattle.spec_shapes.specs.Planes.{reach}
-use borrow.Author.Rules.{rules}
 use Rattle.shapes.proofs.plane3.reach_of.Goals as goal
 
 pub returns : goal.returns

@@ -1,7 +1,6 @@
 -- `shapes::plane3::unit_of` meets its contract, in each arm.
 use lib.Ieee.{of_bits}
 use Rattle.spec_shapes.specs.Planes.{unit}
-use borrow.Author.Rules.{rules}
 use Rattle.shapes.proofs.plane3.unit_of.Goals as goal
 
 pub returns-in-X : goal.returns-in-X

@@ -1,6 +1,5 @@
 -- `shapes::triangle3::along` meets its contract: what `scale` and then `plus` ensure.
 use Rattle.spec_shapes.specs.Triangles.{along}
-use borrow.Author.Rules.{rules}
 use Rattle.shapes.proofs.triangle3.along.Goals as goal
 
 pub returns : goal.returns

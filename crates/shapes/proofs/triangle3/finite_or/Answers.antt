@@ -1,6 +1,5 @@
 -- `shapes::triangle3::finite_or` meets its contract: each arm returns what the test picks.
 use Rattle.spec_shapes.specs.Triangles.{finite_or}
-use borrow.Author.Rules.{rules}
 use Rattle.shapes.proofs.triangle3.finite_or.Goals as goal
 
 pub returns-then-is_finite : goal.returns-then-is_finite

@@ -1,7 +1,6 @@
 -- `shapes::triangle3::foot` meets its contract: the start where the edge has no length, else the point along it.
 use lib.Ieee.{of_bits}
 use Rattle.spec_shapes.specs.Triangles.{foot}
-use borrow.Author.Rules.{rules}
 use Rattle.shapes.proofs.triangle3.foot.Goals as goal
 
 pub returns-then-size : goal.returns-then-size

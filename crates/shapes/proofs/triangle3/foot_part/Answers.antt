@@ -1,7 +1,6 @@
 -- `shapes::triangle3::foot_part` meets its contract: each arm returns what the test picks.
 use lib.Ieee.{of_bits}
 use Rattle.spec_shapes.specs.Triangles.{foot_part}
-use borrow.Author.Rules.{rules}
 use Rattle.shapes.proofs.triangle3.foot_part.Goals as goal
 
 pub returns-then-dot : goal.returns-then-dot

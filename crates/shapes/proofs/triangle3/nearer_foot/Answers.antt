@@ -1,6 +1,5 @@
 -- `shapes::triangle3::nearer_foot` meets its contract: each arm returns what the test picks.
 use Rattle.spec_shapes.specs.Triangles.{nearer_foot}
-use borrow.Author.Rules.{rules}
 use Rattle.shapes.proofs.triangle3.nearer_foot.Goals as goal
 
 pub returns-then-squared_distance : goal.returns-then-squared_distance

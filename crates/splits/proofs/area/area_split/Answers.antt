@@ -7,7 +7,6 @@ use Rattle.spec_splits.specs.Splits.{box_in, boxes_in}
 use Rattle.spec_splits.specs.Area.{area_split}
 use Rattle.spec_splits.proofs.Buckets.{filled_small, filled_plain}
 use Rattle.spec_splits.proofs.Area.{bucket_on_axis}
-use Rattle.std.proofs.Common.{rules}
 use Rattle.splits.proofs.area.area_split.Goals as goal
 
 pub costs_of-requires : goal.costs_of-requires

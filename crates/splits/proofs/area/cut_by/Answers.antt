@@ -1,7 +1,6 @@
 -- `splits::area::cut_by` meets its contract: each arm returns what the test picks.
 use lib.ListN.{length-map}
 use Rattle.spec_splits.specs.Area.{cut_by}
-use Rattle.std.proofs.Common.{rules}
 use Rattle.splits.proofs.area.cut_by.Goals as goal
 
 pub returns-then-best-leaf_cost : goal.returns-then-best-leaf_cost

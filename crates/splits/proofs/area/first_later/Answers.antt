@@ -1,9 +1,9 @@
 -- `splits::area::first_later` meets its contract. The invariant: what remains gives the answer of the whole slice.
-use Rattle.std.proofs.Common.{◌≡◌, ◌-◌, ltb, length, drop, sym, refl, ap, ◌∙◌, arith, rules, le-ltb, lt-ltb}
+use Rattle.std.proofs.Common.{◌-◌, ltb, sym, refl, ap, ◌∙◌, arith, le-ltb, lt-ltb}
 use lib.Ieee.{binary32}
 use Rattle.shapes.specs.Values.{as_axis}
-use Rattle.spec_splits.specs.Splits.{box_in, boxes_in}
-use Rattle.spec_splits.specs.Area.{bucket_between, first_later}
+use Rattle.spec_splits.specs.Splits.{box_in}
+use Rattle.spec_splits.specs.Area.{bucket_between}
 use Rattle.spec_splits.proofs.Area.{looking_finds, looking_goes_on, looking_ends}
 use Rattle.splits.proofs.area.first_later.Goals as goal
 

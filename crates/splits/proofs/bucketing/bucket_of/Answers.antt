@@ -1,6 +1,5 @@
 -- `splits::bucketing::bucket_of` meets its contract: what each call ensures, put in.
 use Rattle.spec_splits.specs.Area.{bucket_between}
-use Rattle.std.proofs.Common.{rules}
 use Rattle.splits.proofs.bucketing.bucket_of.Goals as goal
 
 pub returns : goal.returns

@@ -1,7 +1,6 @@
 -- `splits::bucketing::centre_span` meets its contract.
 -- The invariant: from the two ends so far, the centres that remain give the ends of the whole slice.
-use Rattle.std.proofs.Common.{◌≡◌, ◌-◌, length, drop, ap, ◌∙◌, arith, rules}
-use mathlib.Core.List.{foldl}
+use Rattle.std.proofs.Common.{◌≡◌, ◌-◌, ap, ◌∙◌, arith}
 use lib.Ieee.{binary32}
 use Rattle.spec_numbers.specs.Values as Values
 use Rattle.spec_numbers.specs.Hold.{smaller, larger}

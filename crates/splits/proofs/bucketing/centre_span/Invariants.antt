@@ -1,15 +1,12 @@
 -- `splits::bucketing::centre_span` meets its contract.
 -- The invariant: from the two ends so far, the centres that remain give the ends of the whole slice.
-use Rattle.std.proofs.Common.{◌≡◌, ◌-◌, length, drop, ap, ◌∙◌, arith, rules}
+use Rattle.std.proofs.Common.{◌≡◌, ◌-◌, length, drop}
 use mathlib.Core.List.{foldl}
 use lib.Ieee.{binary32}
 use Rattle.spec_numbers.specs.Values as Values
-use Rattle.spec_numbers.specs.Hold.{smaller, larger}
-use Rattle.spec_shapes.specs.Boxes.{Box, empty}
 use Rattle.shapes.specs.Values.{as_axis}
-use Rattle.spec_splits.specs.Splits.{box_in, boxes_in}
-use Rattle.spec_splits.proofs.Area.{lower_end_lem, upper_end_lem, lower_end, upper_end}
-use Rattle.spec_splits.proofs.Turns.{fold_on_named, fold_ended_named}
+use Rattle.spec_splits.specs.Splits.{boxes_in}
+use Rattle.spec_splits.proofs.Area.{lower_end_lem, upper_end_lem}
 use Rattle.splits.proofs.bucketing.centre_span.Given as goal
 
 abbrev pub invariant-loop-i : goal.invariant-loop-i

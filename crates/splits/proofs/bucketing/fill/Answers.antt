@@ -1,11 +1,11 @@
 -- `splits::bucketing::fill` meets its contract.
 -- The invariant: the boxes that remain, put into the buckets as they are, give what the whole slice gives, and no count exceeds the boxes put.
-use Rattle.std.proofs.Common.{◌-◌, length, arith, rules}
+use Rattle.std.proofs.Common.{◌-◌, arith}
 use lib.Ieee.{binary32}
 use Rattle.shapes.specs.Values.{as_axis, as_box}
 use Rattle.spec_splits.specs.Splits.{box_in}
 use Rattle.spec_splits.specs.Area.{bucket_between}
-use Rattle.spec_splits.proofs.Buckets.{Filling, filling_starts, filling_small, filling_goes_on, filling_ends}
+use Rattle.spec_splits.proofs.Buckets.{filling_starts, filling_small, filling_goes_on, filling_ends}
 use Rattle.spec_splits.proofs.Area.{between_below}
 use Rattle.splits.specs.Values.{as_bucket}
 use Rattle.splits.proofs.Stored.{no_bucket}

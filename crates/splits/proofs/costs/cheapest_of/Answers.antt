@@ -1,5 +1,5 @@
 -- `splits::costs::cheapest_of` meets its contract. The invariant: the costs that remain, from the best so far, give what all give.
-use Rattle.std.proofs.Common.{◌≡◌, ◌-◌, ◌≤◌, length, drop, ap, arith, rules}
+use Rattle.std.proofs.Common.{◌≡◌, ◌-◌, length, ap, arith, rules}
 use mathlib.Core.List.{foldl}
 use lib.Ieee.{nan}
 use Rattle.spec_splits.specs.Area.{Cheapest, none_yet, with_cost, cheapest_of}

@@ -1,10 +1,7 @@
 -- `splits::costs::cheapest_of` meets its contract. The invariant: the costs that remain, from the best so far, give what all give.
-use Rattle.std.proofs.Common.{◌≡◌, ◌-◌, ◌≤◌, length, drop, ap, arith, rules}
+use Rattle.std.proofs.Common.{◌≡◌, ◌-◌, ◌≤◌, drop}
 use mathlib.Core.List.{foldl}
-use lib.Ieee.{nan}
-use Rattle.spec_splits.specs.Area.{Cheapest, none_yet, with_cost, cheapest_of}
-use Rattle.spec_splits.proofs.Turns.{fold_on, fold_ended}
-use Rattle.spec_splits.proofs.Area.{seen_goes_on}
+use Rattle.spec_splits.specs.Area.{with_cost, cheapest_of}
 use Rattle.splits.specs.Values.{as_cheapest}
 use Rattle.splits.proofs.costs.cheapest_of.Given as goal
 

@@ -1,7 +1,6 @@
 -- `splits::costs::cost_of` meets its contract: infinite where a side is empty, else the weights over the area of the parent.
 use lib.Ieee.{of_bits, div}
 use Rattle.spec_splits.specs.Area.{cost}
-use Rattle.std.proofs.Common.{rules}
 use Rattle.splits.proofs.costs.cost_of.Goals as goal
 
 pub returns-then-left-right : goal.returns-then-left-right

@@ -1,15 +1,10 @@
 -- `splits::costs::costs_of` meets its contract. The invariant: `left` is the side before bucket i, and the costs stored so far are those of the cuts.
-use Rattle.std.proofs.Common.{◌≡◌, ℕ, ◌+◌, ◌-◌, ◌<◌, List, length, get_or, sym, refl, ap, ◌∙◌, arith, length-set, rules}
-use lib.ListN.{length-map}
+use Rattle.std.proofs.Common.{◌≡◌, ℕ, ◌-◌, ◌<◌, length, get_or}
 use lib.Ieee.{binary32, nan}
 use Rattle.shapes.specs.Values.{as_box}
-use Rattle.spec_splits.specs.Buckets.{Bucket, empty_bucket, bucket_at}
 use Rattle.spec_splits.specs.Area.{cost_at, costs}
-use Rattle.spec_splits.proofs.Table.{at_map}
-use Rattle.spec_splits.proofs.Sweeps.{right_side, Up, up_starts, up_fits, left_side, up_goes_on}
-use Rattle.spec_splits.proofs.Area.{stored_on, stored_all}
+use Rattle.spec_splits.proofs.Sweeps.{Up}
 use Rattle.splits.specs.Values.{as_bucket, as_buckets}
-use Rattle.splits.proofs.Stored.{unmapped, no_bucket}
 use Rattle.splits.proofs.costs.costs_of.Given as goal
 
 abbrev pub invariant-loop-i : goal.invariant-loop-i

@@ -1,7 +1,7 @@
 -- `splits::costs::right_sides` meets its contract. The invariant: `right` is the side behind bucket i, and the sides from there on are stored.
-use Rattle.std.proofs.Common.{◌≡◌, ◌-◌, length, arith, rules}
+use Rattle.std.proofs.Common.{◌-◌, arith}
 use lib.Ieee.{binary32}
-use Rattle.spec_splits.proofs.Sweeps.{Down, down_starts, down_fits, down_goes_on, down_ends}
+use Rattle.spec_splits.proofs.Sweeps.{down_starts, down_fits, down_goes_on, down_ends}
 use Rattle.splits.specs.Values.{as_bucket}
 use Rattle.splits.proofs.Stored.{unmapped, no_bucket}
 use Rattle.splits.proofs.costs.right_sides.Goals as goal

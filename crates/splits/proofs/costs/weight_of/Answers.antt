@@ -1,6 +1,5 @@
 -- `splits::costs::weight_of` meets its contract: what the two calls ensure.
 use Rattle.spec_splits.specs.Area.{weight}
-use Rattle.std.proofs.Common.{rules}
 use Rattle.splits.proofs.costs.weight_of.Goals as goal
 
 pub returns : goal.returns

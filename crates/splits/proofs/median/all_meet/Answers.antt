@@ -1,11 +1,10 @@
 -- `splits::median::all_meet` meets its contract. The invariant: the boxes that remain give the answer of the whole slice.
-use Rattle.std.proofs.Common.{◌≡◌, ◌-◌, length, drop, sym, refl, ap, ◌∙◌, arith, rules}
+use Rattle.std.proofs.Common.{◌-◌, sym, refl, ap, ◌∙◌, arith}
 use lib.Ieee.{binary32}
 use Rattle.spec_shapes.specs.Planes.{meets_box}
 use Rattle.shapes.specs.Values.{as_plane}
-use Rattle.spec_splits.specs.Splits.{box_in, boxes_in}
-use Rattle.spec_splits.specs.Median.{all_meet}
-use Rattle.spec_splits.proofs.Median.{not_true, not_false, meeting_stops, meeting_goes_on, meeting_ends}
+use Rattle.spec_splits.specs.Splits.{box_in}
+use Rattle.spec_splits.proofs.Median.{meeting_stops, meeting_goes_on, meeting_ends}
 use Rattle.splits.proofs.median.all_meet.Goals as goal
 
 pub loop-i-init : goal.loop-i-init

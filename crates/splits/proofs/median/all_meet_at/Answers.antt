@@ -1,5 +1,5 @@
 -- `splits::median::all_meet_at` meets its contract: what each call ensures, put in. The two neighbours are the list's.
-use Rattle.std.proofs.Common.{◌-◌, arith, rules}
+use Rattle.std.proofs.Common.{◌-◌, arith}
 use lib.Ieee.{binary32}
 use Rattle.spec_shapes.specs.Boxes.{empty}
 use Rattle.spec_splits.specs.Splits.{box_in}

@@ -1,5 +1,5 @@
 -- `splits::median::are_both_large` meets its contract: what `is_large` ensures of each half.
-use Rattle.std.proofs.Common.{sym, ◌∙◌, arith, length-drop, length-take, rules}
+use Rattle.std.proofs.Common.{sym, ◌∙◌, arith, length-drop, length-take}
 use Rattle.spec_splits.specs.Splits.{box_in}
 use Rattle.spec_splits.specs.Median.{are_both_large}
 use Rattle.spec_splits.proofs.Table.{map_take, map_drop, to_the_end, in_table_before, in_table_after}

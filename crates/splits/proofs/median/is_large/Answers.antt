@@ -1,7 +1,6 @@
 -- `splits::median::is_large` meets its contract: what each call ensures, put in.
 use lib.Ieee.{of_bits, div}
 use Rattle.spec_splits.specs.Median.{is_large}
-use Rattle.std.proofs.Common.{rules}
 use Rattle.splits.proofs.median.is_large.Goals as goal
 
 pub returns : goal.returns

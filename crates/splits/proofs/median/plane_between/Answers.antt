@@ -1,7 +1,6 @@
 -- `splits::median::plane_between` meets its contract: what each call ensures, put in.
 use lib.Ieee.{of_bits}
 use Rattle.spec_splits.specs.Median.{plane_between}
-use Rattle.std.proofs.Common.{rules}
 use Rattle.splits.proofs.median.plane_between.Goals as goal
 
 pub returns : goal.returns

@@ -1,6 +1,5 @@
 -- `splits::table::box_at` meets its contract: what `point_at` ensures of each corner.
 use Rattle.spec_splits.specs.Splits.{box_in}
-use Rattle.std.proofs.Common.{rules}
 use Rattle.splits.proofs.table.box_at.Goals as goal
 
 pub returns : goal.returns

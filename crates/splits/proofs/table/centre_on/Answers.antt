@@ -1,5 +1,5 @@
 -- `splits::table::centre_on` meets its contract: the two numbers of the axis stand at its place in the box.
-use Rattle.std.proofs.Common.{arith, rules}
+use Rattle.std.proofs.Common.{arith}
 use lib.Ieee.{binary32, of_bits}
 use Rattle.shapes.specs.Values.{as_axis}
 use Rattle.spec_splits.proofs.Table.{place_below, centre_in}

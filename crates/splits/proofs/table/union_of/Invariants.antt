@@ -1,12 +1,10 @@
 -- `splits::table::union_of` meets its contract. The invariant: the boxes that remain, joined to the box so far, give the union of the whole slice.
-use Rattle.std.proofs.Common.{◌≡◌, ◌-◌, length, drop, ap, ◌∙◌, arith, rules}
+use Rattle.std.proofs.Common.{◌≡◌, ◌-◌, length, drop}
 use mathlib.Core.List.{foldl}
 use lib.Ieee.{binary32}
-use Rattle.spec_shapes.specs.Boxes.{Box, union}
+use Rattle.spec_shapes.specs.Boxes.{union}
 use Rattle.shapes.specs.Values.{as_box}
-use Rattle.spec_splits.specs.Splits.{box_in, boxes_in, union_of}
-use Rattle.spec_splits.proofs.Table.{union_from_first}
-use Rattle.spec_splits.proofs.Turns.{fold_on_named, fold_ended_named}
+use Rattle.spec_splits.specs.Splits.{boxes_in, union_of}
 use Rattle.splits.proofs.table.union_of.Given as goal
 
 abbrev pub invariant-loop-i : goal.invariant-loop-i

@@ -3,7 +3,6 @@ use native.Mathlib.Omega.{arith}
 use Rattle.spec_lists.proofs.Verdicts.{ends, stops, goes_on, did_pass, or_test}
 use Rattle.spec_stl.specs.Calls.{read_refusal}
 use Rattle.spec_stl.proofs.Refused.{size_passed}
-use borrow.Author.Rules.{rules}
 use Rattle.stl.proofs.calls.read_refusal.Goals as goal
 
 pub returns-then-refuses : goal.returns-then-refuses

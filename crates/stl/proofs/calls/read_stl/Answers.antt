@@ -5,7 +5,6 @@ use Rattle.spec_stl.specs.Stl.{stl_triangles}
 use Rattle.spec_stl.specs.Calls.{triangles_after}
 use Rattle.spec_stl.proofs.Kept.{read_passed}
 use Rattle.lists.specs.Values.{as_verdict}
-use borrow.Author.Rules.{rules}
 use Rattle.stl.proofs.calls.read_stl.Goals as goal
 
 pub count_of-count-requires : goal.count_of-count-requires

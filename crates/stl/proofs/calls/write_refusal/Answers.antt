@@ -4,7 +4,6 @@ use native.Mathlib.Omega.{arith}
 use Rattle.spec_lists.proofs.Verdicts.{ends, stops, goes_on, did_pass}
 use Rattle.spec_lists.proofs.Passed.{triangles_passed}
 use Rattle.spec_stl.specs.Calls.{write_refusal}
-use borrow.Author.Rules.{rules}
 use Rattle.stl.proofs.calls.write_refusal.Goals as goal
 
 pub returns-then-refuses : goal.returns-then-refuses

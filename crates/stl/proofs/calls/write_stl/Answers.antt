@@ -3,7 +3,6 @@ use mathlib.Core.Path.{sym, ap, ◌∙◌}
 use Rattle.spec_stl.specs.Calls.{bytes_after}
 use Rattle.spec_stl.proofs.Kept.{write_passed}
 use Rattle.lists.specs.Values.{as_verdict}
-use borrow.Author.Rules.{rules}
 use Rattle.stl.proofs.calls.write_stl.Goals as goal
 
 pub put_stl-requires : goal.put_stl-requires

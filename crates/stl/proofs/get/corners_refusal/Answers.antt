@@ -2,7 +2,6 @@
 use Rattle.spec_stl.specs.Stl.{stl_triangles}
 use Rattle.spec_stl.proofs.Refused.{triangles_by_count}
 use Rattle.spec_lists.proofs.Verdicts.{ends, or_test, row_stops, row_goes_on}
-use borrow.Author.Rules.{rules}
 use Rattle.stl.proofs.get.corners_refusal.Goals as goal
 
 pub returns-then-refuses : goal.returns-then-refuses

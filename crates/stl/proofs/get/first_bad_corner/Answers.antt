@@ -1,12 +1,11 @@
 -- `stl::get::first_bad_corner` meets its contract. The invariant: the corners of the facets so far are coordinates.
 use mathlib.Core.Path.{◌≡◌, refl, sym}
-use Prim.Native.Nat.{◌-◌, ◌*◌, ◌≤◌}
+use Prim.Native.Nat.{◌-◌}
 use native.Mathlib.Omega.{arith}
 use Rattle.spec_tables.specs.Tables.{concat_map}
 use Rattle.spec_lists.specs.Refusals.{first_bad}
 use Rattle.spec_stl.specs.Stl.{corners_in}
 use Rattle.spec_stl.proofs.Refused.{corners_good, corners_bad}
-use borrow.Author.Rules.{rules}
 use Rattle.stl.proofs.get.first_bad_corner.Goals as goal
 
 pub loop-i-init : goal.loop-i-init

@@ -1,12 +1,9 @@
 -- `stl::get::first_bad_corner` meets its contract. The invariant: the corners of the facets so far are coordinates.
-use mathlib.Core.Path.{◌≡◌, refl, sym}
+use mathlib.Core.Path.{◌≡◌}
 use Prim.Native.Nat.{◌-◌, ◌*◌, ◌≤◌}
-use native.Mathlib.Omega.{arith}
 use Rattle.spec_tables.specs.Tables.{concat_map}
 use Rattle.spec_lists.specs.Refusals.{first_bad}
 use Rattle.spec_stl.specs.Stl.{corners_in}
-use Rattle.spec_stl.proofs.Refused.{corners_good, corners_bad}
-use borrow.Author.Rules.{rules}
 use Rattle.stl.proofs.get.first_bad_corner.Given as goal
 
 abbrev pub invariant-loop-i : goal.invariant-loop-i

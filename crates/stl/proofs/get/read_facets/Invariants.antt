@@ -1,9 +1,7 @@
 -- `stl::get::read_facets` meets its contract: a turn reads one triangle more (`Run`).
 use Prim.Native.Nat.{◌-◌}
-use Rattle.spec_tables.proofs.Runs.{Run, run_start, run_front, run_end}
+use Rattle.spec_tables.proofs.Runs.{Run}
 use Rattle.spec_stl.specs.Stl.{corners_in}
-use Rattle.spec_stl.proofs.Facets.{length_corners}
-use borrow.Author.Rules.{rules}
 use Rattle.stl.proofs.get.read_facets.Given as goal
 
 abbrev pub invariant-loop-i : goal.invariant-loop-i

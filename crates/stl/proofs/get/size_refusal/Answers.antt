@@ -5,7 +5,6 @@ use mathlib.Core.Path.{◌≡◌}
 use lib.ListN.{length}
 use Rattle.spec_stl.specs.Stl.{stl_count, stl_size}
 use Rattle.spec_stl.specs.Calls.{size_refusal}
-use borrow.Author.Rules.{rules}
 use Rattle.stl.proofs.get.size_refusal.Goals as goal
 
 pub returns-then-size-lt84 : goal.returns-then-size-lt84

@@ -2,7 +2,6 @@
 use native.Mathlib.Omega.{arith}
 use Rattle.spec_tables.proofs.Tables.{put_then}
 use Rattle.spec_stl.specs.Stl.{facet_bytes}
-use borrow.Author.Rules.{rules}
 use Rattle.stl.proofs.put.put_facet.Goals as goal
 
 pub returns : goal.returns

@@ -1,8 +1,6 @@
 -- `stl::put::put_facets` meets its contract: a turn puts one facet more (`Puts`).
 use Prim.Native.Nat.{◌-◌}
-use Rattle.spec_tables.proofs.Runs.{Puts, puts_start, puts_more, puts_end}
-use Rattle.spec_stl.specs.Stl.{facet_bytes}
-use borrow.Author.Rules.{rules}
+use Rattle.spec_tables.proofs.Runs.{puts_start, puts_more, puts_end}
 use Rattle.stl.proofs.put.put_facets.Goals as goal
 
 pub loop-i-init : goal.loop-i-init

@@ -1,8 +1,7 @@
 -- `stl::put::put_facets` meets its contract: a turn puts one facet more (`Puts`).
 use Prim.Native.Nat.{◌-◌}
-use Rattle.spec_tables.proofs.Runs.{Puts, puts_start, puts_more, puts_end}
+use Rattle.spec_tables.proofs.Runs.{Puts}
 use Rattle.spec_stl.specs.Stl.{facet_bytes}
-use borrow.Author.Rules.{rules}
 use Rattle.stl.proofs.put.put_facets.Given as goal
 
 abbrev pub invariant-loop-i : goal.invariant-loop-i

@@ -3,7 +3,6 @@ use native.Mathlib.Omega.{arith}
 use Rattle.spec_tables.proofs.Tables.{put_then}
 use Rattle.spec_lists.specs.Reading.{triangle_count}
 use Rattle.spec_stl.specs.Stl.{stl_bytes}
-use borrow.Author.Rules.{rules}
 use Rattle.stl.proofs.put.put_stl.Goals as goal
 
 pub put_facets-requires : goal.put_facets-requires

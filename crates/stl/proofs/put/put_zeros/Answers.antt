@@ -1,10 +1,8 @@
 -- `stl::put::put_zeros` meets its contract: a turn stores one zero more (`Run`).
-use mathlib.Core.List.{[], ◌∷◌}
 use mathlib.Core.Path.{refl}
 use Prim.Native.Nat.{◌-◌}
-use Rattle.spec_tables.proofs.Runs.{Run, run_start, run_store}
+use Rattle.spec_tables.proofs.Runs.{run_start, run_store}
 use Rattle.spec_stl.proofs.Facets.{zeros_end}
-use borrow.Author.Rules.{rules}
 use Rattle.stl.proofs.put.put_zeros.Goals as goal
 
 pub loop-i-init : goal.loop-i-init

@@ -1,10 +1,7 @@
 -- `stl::put::put_zeros` meets its contract: a turn stores one zero more (`Run`).
 use mathlib.Core.List.{[], ◌∷◌}
-use mathlib.Core.Path.{refl}
 use Prim.Native.Nat.{◌-◌}
-use Rattle.spec_tables.proofs.Runs.{Run, run_start, run_store}
-use Rattle.spec_stl.proofs.Facets.{zeros_end}
-use borrow.Author.Rules.{rules}
+use Rattle.spec_tables.proofs.Runs.{Run}
 use Rattle.stl.proofs.put.put_zeros.Given as goal
 
 abbrev pub invariant-loop-i : goal.invariant-loop-i

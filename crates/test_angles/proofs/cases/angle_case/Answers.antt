@@ -1,6 +1,5 @@
 -- `test_angles::cases::angle_case` meets its contract: what each call ensures, put in.
 use Rattle.test_angles.specs.Cases.{angle_case}
-use Rattle.std.proofs.Common.{rules}
 use Rattle.test_angles.proofs.cases.angle_case.Goals as goal
 
 pub returns : goal.returns

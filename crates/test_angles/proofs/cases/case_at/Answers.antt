@@ -1,5 +1,5 @@
 -- `test_angles::cases::case_at` meets its contract: its tests are those of the definition.
-use Rattle.std.proofs.Common.{rules, eq-eqb, ne_eqb}
+use Rattle.std.proofs.Common.{eq-eqb, ne_eqb}
 use Rattle.test_angles.specs.Cases.{case_at}
 use Rattle.test_angles.proofs.cases.case_at.Goals as goal
 

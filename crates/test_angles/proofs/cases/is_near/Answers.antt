@@ -1,6 +1,5 @@
 -- `test_angles::cases::is_near` meets its contract: its tests are those of the definition.
 use Rattle.test_angles.specs.Cases.{near}
-use Rattle.std.proofs.Common.{rules}
 use Rattle.test_angles.proofs.cases.is_near.Goals as goal
 
 pub returns : goal.returns

@@ -1,5 +1,5 @@
 -- `test_angles::cases::is_near_units` meets its contract: its tests are those of the definition.
-use Rattle.std.proofs.Common.{◌≡◌, ℕ, ◌+◌, ◌/◌, ◌<◌, ◌≤◌, false, ◌&&◌, eqb, leb, rules, le-ltb, lt-ltb}
+use Rattle.std.proofs.Common.{◌≡◌, ℕ, ◌+◌, ◌/◌, ◌<◌, ◌≤◌, false, ◌&&◌, eqb, leb, le-ltb, lt-ltb}
 use lib.Ieee.{Float, binary32, of_bits, to_bits, mul}
 use Rattle.spec_numbers.specs.Values.{abs, cut}
 use Rattle.test_angles.specs.Cases.{near_units}

@@ -1,6 +1,5 @@
 -- `test_angles::cases::solid_case` meets its contract: what each call ensures, put in.
 use Rattle.test_angles.specs.Cases.{solid_case}
-use Rattle.std.proofs.Common.{rules}
 use Rattle.test_angles.proofs.cases.solid_case.Goals as goal
 
 pub returns : goal.returns

@@ -1,6 +1,5 @@
 -- `test_angles::cases::triangle_of` meets its contract, corner by corner.
 use Rattle.test_angles.specs.Cases.{triangle_of}
-use Rattle.std.proofs.Common.{rules}
 use Rattle.test_angles.proofs.cases.triangle_of.Goals as goal
 
 pub returns : goal.returns

@@ -1,6 +1,5 @@
 -- `test_angles::words::mesh_words` meets its contract: what each call ensures, put in.
 use Rattle.test_angles.specs.Words.{mesh_words}
-use Rattle.std.proofs.Common.{rules}
 use Rattle.test_angles.proofs.words.mesh_words.Goals as goal
 
 pub returns : goal.returns

@@ -1,6 +1,5 @@
 -- `test_angles::words::number_at` meets its contract: the number of the word.
 use Rattle.test_angles.specs.Words.{number_at}
-use Rattle.std.proofs.Common.{rules}
 use Rattle.test_angles.proofs.words.number_at.Goals as goal
 
 pub returns : goal.returns

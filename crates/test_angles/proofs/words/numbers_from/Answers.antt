@@ -1,7 +1,7 @@
 -- `test_angles::words::numbers_from` meets its contract. The invariant: the first i numbers stand in the array.
 -- The measure is the number of those that remain.
-use Rattle.std.proofs.Common.{◌-◌, [], ◌∷◌, arith, rules}
-use Rattle.spec_tables.proofs.Runs.{Run, run_start}
+use Rattle.std.proofs.Common.{◌-◌, arith}
+use Rattle.spec_tables.proofs.Runs.{run_start}
 use Rattle.spec_tables.proofs.Stores.{run_store_front, run_whole}
 use Rattle.test_angles.specs.Words.{number_at, place, numbers_from}
 use Rattle.test_angles.proofs.words.numbers_from.Goals as goal

@@ -1,9 +1,8 @@
 -- `test_angles::words::numbers_from` meets its contract. The invariant: the first i numbers stand in the array.
 -- The measure is the number of those that remain.
-use Rattle.std.proofs.Common.{◌-◌, [], ◌∷◌, arith, rules}
-use Rattle.spec_tables.proofs.Runs.{Run, run_start}
-use Rattle.spec_tables.proofs.Stores.{run_store_front, run_whole}
-use Rattle.test_angles.specs.Words.{number_at, place, numbers_from}
+use Rattle.std.proofs.Common.{◌-◌, [], ◌∷◌}
+use Rattle.spec_tables.proofs.Runs.{Run}
+use Rattle.test_angles.specs.Words.{number_at, place}
 use Rattle.test_angles.proofs.words.numbers_from.Given as goal
 
 abbrev pub invariant-loop-i : goal.invariant-loop-i

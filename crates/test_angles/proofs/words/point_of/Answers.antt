@@ -1,6 +1,5 @@
 -- `test_angles::words::point_of` meets its contract: what `number_at` ensures of each coordinate.
 use Rattle.test_angles.specs.Words.{point_at}
-use Rattle.std.proofs.Common.{rules}
 use Rattle.test_angles.proofs.words.point_of.Goals as goal
 
 pub returns : goal.returns

@@ -1,5 +1,5 @@
 -- `test_angles::words::size_at` meets its contract: its test is that of the definition.
-use Rattle.std.proofs.Common.{◌≡◌, ℕ, ◌<◌, ◌≤◌, cond, ltb, rules, le-ltb, lt-ltb}
+use Rattle.std.proofs.Common.{◌≡◌, ℕ, ◌<◌, ◌≤◌, cond, ltb, le-ltb, lt-ltb}
 use Rattle.test_angles.specs.Words.{size_at}
 use Rattle.test_angles.proofs.words.size_at.Goals as goal
 

@@ -1,5 +1,5 @@
 -- `test_angles::words::word_at` meets its contract: its test is that of the definition.
-use Rattle.std.proofs.Common.{rules, le-ltb, lt-ltb}
+use Rattle.std.proofs.Common.{le-ltb, lt-ltb}
 use Rattle.test_angles.specs.Words.{word_at}
 use Rattle.test_angles.proofs.words.word_at.Goals as goal
 

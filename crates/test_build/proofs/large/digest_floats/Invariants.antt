@@ -1,5 +1,5 @@
 -- `test_build::large::digest_floats` is safe and ends: it goes through the list.
-use Rattle.std.proofs.Common.{◌-◌, ◌≤◌, length, rules}
+use Rattle.std.proofs.Common.{◌-◌, ◌≤◌, length}
 use Rattle.test_build.proofs.large.digest_floats.Given as goal
 
 abbrev pub invariant-loop-i : goal.invariant-loop-i

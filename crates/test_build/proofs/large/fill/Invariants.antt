@@ -1,5 +1,5 @@
 -- `test_build::large::fill` is safe and ends: the list keeps its length.
-use Rattle.std.proofs.Common.{◌≡◌, ◌-◌, ◌≤◌, length, arith, length-set, rules}
+use Rattle.std.proofs.Common.{◌≡◌, ◌-◌, ◌≤◌, length}
 use Rattle.test_build.proofs.large.fill.Given as goal
 
 abbrev pub invariant-loop-i : goal.invariant-loop-i

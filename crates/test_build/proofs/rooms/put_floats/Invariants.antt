@@ -1,5 +1,5 @@
 -- `test_build::rooms::put_floats` is safe and ends: it goes through the list.
-use Rattle.std.proofs.Common.{◌-◌, ◌≤◌, length, rules}
+use Rattle.std.proofs.Common.{◌-◌, ◌≤◌, length}
 use Rattle.test_build.proofs.rooms.put_floats.Given as goal
 
 abbrev pub invariant-loop-i : goal.invariant-loop-i

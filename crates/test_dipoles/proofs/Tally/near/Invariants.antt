@@ -1,5 +1,5 @@
 -- `test_dipoles::Tally::near` is safe and ends: it goes through the list.
-use Rattle.std.proofs.Common.{◌-◌, ◌≤◌, length, rules}
+use Rattle.std.proofs.Common.{◌-◌, ◌≤◌, length}
 use Rattle.test_dipoles.proofs.Tally.near.Given as goal
 
 abbrev pub invariant-loop-i : goal.invariant-loop-i

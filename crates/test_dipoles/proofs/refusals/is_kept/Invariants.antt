@@ -1,5 +1,5 @@
 -- `test_dipoles::refusals::is_kept` is safe and ends: it goes through the list.
-use Rattle.std.proofs.Common.{◌-◌, ◌≤◌, length, rules}
+use Rattle.std.proofs.Common.{◌-◌, ◌≤◌, length}
 use Rattle.test_dipoles.proofs.refusals.is_kept.Given as goal
 
 abbrev pub invariant-loop-i : goal.invariant-loop-i

@@ -1,5 +1,5 @@
 -- `test_image::large::are_boxes` is safe and ends: the two lists are of one length.
-use Rattle.std.proofs.Common.{◌≡◌, ◌-◌, ◌≤◌, length, rules}
+use Rattle.std.proofs.Common.{◌≡◌, ◌-◌, ◌≤◌, length}
 use Rattle.test_image.proofs.large.are_boxes.Given as goal
 
 abbrev pub invariant-loop-i : goal.invariant-loop-i

@@ -1,5 +1,5 @@
 -- `test_image::large::are_triangles` is safe and ends: the index stays within the list.
-use Rattle.std.proofs.Common.{◌-◌, ◌≤◌, length, rules}
+use Rattle.std.proofs.Common.{◌-◌, ◌≤◌, length}
 use Rattle.test_image.proofs.large.are_triangles.Given as goal
 
 abbrev pub invariant-loop-i : goal.invariant-loop-i

@@ -1,5 +1,5 @@
 -- `test_image::large::fill_order` is safe and ends: the list keeps its length.
-use Rattle.std.proofs.Common.{◌≡◌, ◌-◌, ◌≤◌, length, arith, length-set, rules}
+use Rattle.std.proofs.Common.{◌-◌, arith, length-set}
 use Rattle.test_image.proofs.large.fill_order.Goals as goal
 
 pub loop-i-preserved : goal.loop-i-preserved

@@ -1,5 +1,5 @@
 -- `test_image::large::fill_triangles` is safe and ends: the list keeps its length.
-use Rattle.std.proofs.Common.{◌≡◌, ◌-◌, ◌≤◌, length, arith, length-set, rules}
+use Rattle.std.proofs.Common.{◌≡◌, ◌-◌, ◌≤◌, length}
 use Rattle.test_image.proofs.large.fill_triangles.Given as goal
 
 abbrev pub invariant-loop-i : goal.invariant-loop-i

@@ -1,5 +1,5 @@
 -- `test_image::large::is_order` is safe and ends: the index stays within the list.
-use Rattle.std.proofs.Common.{◌-◌, ◌≤◌, length, rules}
+use Rattle.std.proofs.Common.{◌-◌, ◌≤◌, length}
 use Rattle.test_image.proofs.large.is_order.Given as goal
 
 abbrev pub invariant-loop-i : goal.invariant-loop-i

@@ -1,6 +1,6 @@
 -- `test_image::large::put_all` is safe and ends: the length of an array comes from the law of `replicate`, computing it would cost as much as it
 -- is long.
-use Rattle.std.proofs.Common.{ℕ, sym, rules}
+use Rattle.std.proofs.Common.{ℕ, sym}
 use lib.ListN.{length-replicate}
 use lib.Ieee.{Float, binary32, of_bits}
 use Rattle.test_image.proofs.large.put_all.Goals as goal

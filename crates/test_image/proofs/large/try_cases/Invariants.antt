@@ -1,5 +1,5 @@
 -- `test_image::large::try_cases` is safe and ends: the lists keep their lengths, and k is at most 15.
-use Rattle.std.proofs.Common.{◌≡◌, ◌-◌, ◌≤◌, length, rules}
+use Rattle.std.proofs.Common.{◌≡◌, ◌-◌, ◌≤◌, length}
 use Rattle.test_image.proofs.large.try_cases.Given as goal
 
 abbrev pub invariant-loop-k : goal.invariant-loop-k

@@ -1,7 +1,6 @@
 -- `test_trees::Tally::floats` is safe and ends: it goes through the list.
 use Prim.Native.Nat.{◌≤◌, ◌-◌}
 use lib.ListN.{length}
-use borrow.Author.Rules.{rules}
 use Rattle.test_trees.proofs.Tally.floats.Given as goal
 
 abbrev pub invariant-loop-i : goal.invariant-loop-i

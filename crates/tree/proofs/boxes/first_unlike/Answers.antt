@@ -1,7 +1,6 @@
 -- `tree::boxes::first_unlike` meets its contract: what was found before stays the first; where nothing was, the node is looked at.
 use mathlib.Core.Path.{sym, ◌∙◌}
 use Rattle.spec_tree.proofs.Failing.{one_found, one_holds, one_fails}
-use borrow.Author.Rules.{rules}
 use Rattle.tree.proofs.boxes.first_unlike.Goals as goal
 
 pub returns-then-unlike-node : goal.returns-then-unlike-node

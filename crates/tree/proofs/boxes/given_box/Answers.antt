@@ -3,7 +3,6 @@ use mathlib.Core.Path.{sym, ◌∙◌}
 use native.Mathlib.Omega.{arith}
 use borrow.Author.Tests.{ne_eqb}
 use Rattle.spec_tree.proofs.Hangs.{sound_leaf, sound_branch}
-use borrow.Author.Rules.{rules}
 use Rattle.tree.proofs.boxes.given_box.Goals as goal
 
 pub range_box-requires : goal.range_box-requires

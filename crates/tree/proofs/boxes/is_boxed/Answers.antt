@@ -1,6 +1,5 @@
 -- `tree::boxes::is_boxed` meets its contract: the box that is given, beside the one that is stored.
 use Rattle.spec_tree.specs.Reasons.{is_boxed}
-use borrow.Author.Rules.{rules}
 use Rattle.tree.proofs.boxes.is_boxed.Goals as goal
 
 pub returns : goal.returns

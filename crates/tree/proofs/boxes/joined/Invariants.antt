@@ -1,15 +1,10 @@
 -- `tree::boxes::joined` meets its contract: before turn i the box is what joins with the rest to the whole.
-use mathlib.Core.Path.{◌≡◌, ap, ◌∙◌}
+use mathlib.Core.Path.{◌≡◌}
 use Prim.Native.Nat.{◌-◌}
-use native.Mathlib.Omega.{arith}
 use lib.ListN.{length, drop}
 use Rattle.shapes.specs.Values.{as_box}
-use Rattle.spec_shapes.specs.Boxes.{union}
 use Rattle.spec_lists.specs.Reading.{box_at}
-use Rattle.spec_lists.proofs.Reading.{triangle_inside}
 use Rattle.spec_tree.specs.Trees.{joined_to, joined}
-use Rattle.spec_tree.proofs.Joining.{joining_starts, joining_goes_on, joining_ends}
-use borrow.Author.Rules.{rules}
 use Rattle.tree.proofs.boxes.joined.Given as goal
 
 abbrev pub invariant-loop-i : goal.invariant-loop-i

@@ -1,7 +1,6 @@
 -- `tree::boxes::range_box` meets its contract: a range that is not empty gives a slice that is not, of entries below the count.
 use Prim.Native.Nat.{◌-◌}
 use Rattle.spec_tree.proofs.Order.{slice_some, slice_entries}
-use borrow.Author.Rules.{rules}
 use Rattle.tree.proofs.boxes.range_box.Goals as goal
 
 pub joined-requires : goal.joined-requires

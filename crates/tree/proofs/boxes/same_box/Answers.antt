@@ -1,7 +1,6 @@
 -- `tree::boxes::same_box` meets its contract: what `same_point` ensures of both corners.
 use mathlib.Core.Bool.{◌&&◌}
 use Rattle.spec_tree.specs.Accepted.{same_box}
-use borrow.Author.Rules.{rules}
 use Rattle.tree.proofs.boxes.same_box.Goals as goal
 
 pub returns : goal.returns

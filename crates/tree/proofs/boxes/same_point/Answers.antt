@@ -1,6 +1,5 @@
 -- `tree::boxes::same_point` meets its contract: what `same` ensures on each axis.
 use mathlib.Core.Bool.{◌&&◌}
-use borrow.Author.Rules.{rules}
 use Rattle.tree.proofs.boxes.same_point.Goals as goal
 
 pub returns : goal.returns

@@ -2,7 +2,6 @@
 use Rattle.spec_lists.proofs.Verdicts.{stops, goes_on, ends, did_pass}
 use Rattle.spec_lists.proofs.Passed.{triangles_passed}
 use Rattle.spec_tree.specs.Refusals.{check_refusal}
-use borrow.Author.Rules.{rules}
 use Rattle.tree.proofs.calls.check.Goals as goal
 
 pub returns-then-refuses : goal.returns-then-refuses

@@ -4,7 +4,6 @@ use native.Mathlib.Omega.{arith}
 use Rattle.lists.specs.Values.{as_verdict}
 use Rattle.spec_tree.proofs.Leaves.{passed_sound, passed_some}
 use Rattle.spec_tree.proofs.Depth.{sound_descends, depth_refused, depth_read_lem}
-use borrow.Author.Rules.{rules}
 use Rattle.tree.proofs.calls.depth.Goals as goal
 
 pub depth_of-requires : goal.depth_of-requires

@@ -9,7 +9,6 @@ use Rattle.spec_tree.specs.Refusals.{tree_refusal}
 use Rattle.spec_tree.proofs.Order.{test_permutes, permutes_entries, permutes_length}
 use Rattle.spec_tree.proofs.NewEntries.{order_passed}
 use Rattle.spec_tree.proofs.Counted.{count_passed}
-use borrow.Author.Rules.{rules}
 use Rattle.tree.proofs.calls.tree_refusal.Goals as goal
 
 pub returns-then-refuses : goal.returns-then-refuses

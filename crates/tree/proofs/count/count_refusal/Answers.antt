@@ -1,6 +1,5 @@
 -- `tree::count::count_refusal` meets its contract: what `is_present` ensures, and the test of the count.
 use Rattle.spec_tree.specs.Reasons.{count_refusal}
-use borrow.Author.Rules.{rules}
 use Rattle.tree.proofs.count.count_refusal.Goals as goal
 
 pub returns : goal.returns

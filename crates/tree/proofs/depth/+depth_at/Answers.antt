@@ -2,7 +2,7 @@
 use mathlib.Core.Path.{sym, ◌∙◌}
 use native.Mathlib.Omega.{arith}
 use Rattle.spec_tree.proofs.Depth.{depth_most, depth_none, depth_leaf, depth_branch, descends_left, descends_right}
-use Prim.Native.Nat.{ℕ, ◌-◌, ◌<◌}
+use Prim.Native.Nat.{◌-◌}
 use Rattle.tree.proofs.depth.+depth_at.Goals as goal
 
 pub returns-then-most-eq0 : goal.returns-then-most-eq0

@@ -3,7 +3,6 @@ use mathlib.Core.Path.{sym, ◌∙◌}
 use native.Mathlib.Omega.{arith}
 use Rattle.spec_tree.proofs.Depth.{descends_left, descends_right}
 use Rattle.spec_tree.proofs.Down.{deep_all, deep_leaf, deep_left, deep_right, deep_nowhere}
-use Prim.Native.Nat.{ℕ, ◌<◌}
 use Rattle.tree.proofs.depth.+first_deep.Goals as goal
 
 pub first_of-requires : goal.first_of-requires

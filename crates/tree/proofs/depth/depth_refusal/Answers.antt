@@ -2,7 +2,6 @@
 use mathlib.Core.Path.{ap, ◌∙◌}
 use Prim.Native.Nat.{ℕ}
 use native.Mathlib.Omega.{arith}
-use borrow.Author.Rules.{rules}
 use lib.Dec.{ltb}
 use Rattle.spec_lists.specs.Refusals.{refused_if}
 use Rattle.spec_tree.specs.Reasons.{refused_where, depth_refusal}

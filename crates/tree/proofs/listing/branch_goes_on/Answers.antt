@@ -1,8 +1,7 @@
 -- `tree::listing::branch_goes_on` meets its contract: the right child is looked at first, and only then the way down to the left one's place.
 use mathlib.Core.Path.{sym, ◌∙◌}
 use native.Mathlib.Omega.{arith}
-use borrow.Author.Rules.{rules}
-use borrow.Author.Tests.{lt-ltb, le-ltb, not-true, not-false}
+use borrow.Author.Tests.{lt-ltb, le-ltb}
 use Rattle.spec_tree.proofs.Down.{before_descends}
 use Rattle.tree.proofs.listing.branch_goes_on.Goals as goal
 

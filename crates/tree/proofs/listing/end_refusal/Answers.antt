@@ -6,7 +6,6 @@ use lib.Dec.{eqb}
 use Rattle.spec_lists.specs.Refusals.{refused_if}
 use Rattle.spec_tree.proofs.Scanning.{ends_refused}
 use Rattle.spec_tree.proofs.Checks.{scanned_descends}
-use borrow.Author.Rules.{rules}
 use Rattle.tree.proofs.listing.end_refusal.Goals as goal
 
 pub first_of-requires : goal.first_of-requires

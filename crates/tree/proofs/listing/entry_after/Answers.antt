@@ -1,5 +1,4 @@
 -- `tree::listing::entry_after` meets its contract: a leaf's end, and of another node the entry that was reached before it.
-use borrow.Author.Rules.{rules}
 use borrow.Author.Tests.{ne_eqb}
 use Rattle.tree.proofs.listing.entry_after.Goals as goal
 

@@ -1,10 +1,7 @@
 -- `tree::listing::first_of` meets its contract. The invariant: the listing that ends here begins with the same node.
-use mathlib.Core.Path.{◌≡◌, refl, sym, ◌∙◌}
+use mathlib.Core.Path.{◌≡◌}
 use Prim.Native.Nat.{◌≤◌}
-use native.Mathlib.Omega.{arith}
-use Rattle.spec_tree.specs.Trees.{kind_at}
 use Rattle.spec_tree.specs.Ways.{first_of}
-use Rattle.spec_tree.proofs.Down.{first_here, first_below}
 use Rattle.tree.proofs.listing.first_of.Given as goal
 
 abbrev pub invariant-loop-first : goal.invariant-loop-first

@@ -1,5 +1,4 @@
 -- `tree::listing::goes_on` meets its contract, by the node's kind.
-use borrow.Author.Rules.{rules}
 use borrow.Author.Tests.{ne_eqb}
 use Rattle.spec_tree.specs.Ways.{goes_on}
 use Rattle.tree.proofs.listing.goes_on.Goals as goal

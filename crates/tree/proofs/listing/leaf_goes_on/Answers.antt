@@ -1,5 +1,4 @@
 -- `tree::listing::leaf_goes_on` meets its contract: what the two calls ensure.
-use borrow.Author.Rules.{rules}
 use Rattle.tree.proofs.listing.leaf_goes_on.Goals as goal
 
 pub returns : goal.returns

@@ -1,5 +1,4 @@
 -- `tree::nodes::node_box` meets its contract: each corner is what `point_from` ensures.
-use borrow.Author.Rules.{rules}
 use Rattle.tree.proofs.nodes.node_box.Goals as goal
 
 pub returns : goal.returns

@@ -1,6 +1,5 @@
 -- `tree::permutation::first_bad_entry` meets its contract: fresh marks serve, few where few do.
 use Rattle.spec_tree.proofs.Marks.{all_unmarked}
-use borrow.Author.Rules.{rules}
 use Rattle.tree.proofs.permutation.first_bad_entry.Goals as goal
 
 pub mark_all-requires : goal.mark_all-requires

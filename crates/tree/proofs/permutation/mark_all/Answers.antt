@@ -1,10 +1,9 @@
 -- `tree::permutation::mark_all` meets its contract. The invariant: the first i entries are each new, and exactly they are marked.
-use mathlib.Core.Path.{◌≡◌, refl, sym}
+use mathlib.Core.Path.{refl, sym}
 use Prim.Native.Nat.{◌-◌}
 use native.Mathlib.Omega.{arith}
-use lib.ListN.{length, length-set}
-use Rattle.spec_tree.proofs.Marks.{Marked, marked_none, marked_more, marked_large, marked_twice, marked_all}
-use borrow.Author.Rules.{rules}
+use lib.ListN.{length-set}
+use Rattle.spec_tree.proofs.Marks.{marked_none, marked_more, marked_large, marked_twice, marked_all}
 use Rattle.tree.proofs.permutation.mark_all.Goals as goal
 
 pub loop-i-init : goal.loop-i-init

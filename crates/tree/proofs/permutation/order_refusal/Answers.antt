@@ -7,7 +7,6 @@ use lib.ListN.{length}
 use Rattle.spec_lists.specs.Refusals.{refused_if}
 use Rattle.spec_lists.proofs.Verdicts.{ends, or_test}
 use Rattle.spec_tree.specs.Reasons.{refused_where, order_refusal}
-use borrow.Author.Rules.{rules}
 use Rattle.tree.proofs.permutation.order_refusal.Goals as goal
 
 pub returns : goal.returns

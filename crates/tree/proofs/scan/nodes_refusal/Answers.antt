@@ -1,14 +1,10 @@
 -- `tree::scan::nodes_refusal` meets its contract. The invariant: nothing broke before this node, and the first box that differs among those before it is known.
 use mathlib.Core.Path.{◌≡◌, refl, sym, ◌∙◌}
-use Prim.Native.Nat.{◌+◌, ◌-◌, ◌≤◌}
+use Prim.Native.Nat.{◌+◌, ◌-◌}
 use native.Mathlib.Omega.{arith}
-use borrow.Author.Rules.{rules}
-use borrow.Author.Tests.{not-true, not-false}
-use Rattle.spec_lists.specs.Reading.{box_at}
 use Rattle.spec_lists.specs.Refusals.{first_refusal}
 use Rattle.spec_lists.proofs.Verdicts.{stops, goes_on, did_pass, or_test, ends}
-use Rattle.spec_tree.specs.Reasons.{failing_from, first_failing, refused_where, is_boxed, box_refusal}
-use Rattle.spec_tree.specs.Ways.{Scanned}
+use Rattle.spec_tree.specs.Reasons.{failing_from, refused_where, box_refusal}
 use Rattle.spec_tree.proofs.Scanning as Scanning
 use Rattle.tree.proofs.scan.nodes_refusal.Goals as goal
 

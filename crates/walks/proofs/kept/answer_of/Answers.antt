@@ -2,7 +2,6 @@
 use lib.Ieee.{div, of_bits}
 use Rattle.walks.specs.Places.{slot_at}
 use Rattle.spec_search.proofs.Kept.{stands_nothing, stands_found}
-use borrow.Author.Rules.{rules}
 use Rattle.walks.proofs.kept.answer_of.Goals as goal
 
 pub returns-then-best : goal.returns-then-best

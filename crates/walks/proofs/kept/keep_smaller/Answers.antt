@@ -4,7 +4,6 @@ use native.Mathlib.Omega.{arith}
 use Rattle.spec_search.proofs.Kept.{kept_smaller, kept_no_smaller}
 use Rattle.walks.specs.Values.{as_hit}
 use Rattle.walks.specs.Places.{slot_at}
-use borrow.Author.Rules.{rules}
 use Rattle.walks.proofs.kept.keep_smaller.Goals as goal
 
 pub put_slot-requires : goal.put_slot-requires

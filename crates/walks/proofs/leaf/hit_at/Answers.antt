@@ -1,5 +1,4 @@
 -- `walks::leaf::hit_at` meets its contract: the squared distance of the point, and the number of the part.
-use borrow.Author.Rules.{rules}
 use Rattle.walks.proofs.leaf.hit_at.Goals as goal
 
 pub returns : goal.returns

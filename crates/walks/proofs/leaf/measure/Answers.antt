@@ -13,7 +13,6 @@ use Rattle.spec_search.specs.Marked.{below}
 use Rattle.walks.specs.declared.answer.Measures.TheVariants.{Computed}
 use Rattle.walks.specs.Places.{most_of, places_of, kept_in}
 use Rattle.walks.specs.Values.{as_hit, point_of, fourth_of}
-use borrow.Author.Rules.{rules}
 use Rattle.walks.proofs.leaf.measure.Goals as goal
 
 pub offer-requires : goal.offer-requires

@@ -2,7 +2,6 @@
 use Prim.Native.Nat.{◌-◌}
 use Rattle.spec_search.proofs.Steps.{slice_below}
 use Rattle.walks.proofs.Counting.{slice_room}
-use borrow.Author.Rules.{rules}
 use Rattle.walks.proofs.leaf.measure_leaf.Goals as goal
 
 pub measure_slice-requires : goal.measure_slice-requires

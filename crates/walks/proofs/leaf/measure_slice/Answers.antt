@@ -3,9 +3,9 @@
 -- slice gives.
 use mathlib.Core.Path.{◌≡◌, refl, ap, subst}
 use mathlib.Core.List.{List}
-use Prim.Native.Nat.{ℕ, ◌+◌, ◌-◌, ◌≤◌}
+use Prim.Native.Nat.{ℕ, ◌+◌, ◌-◌}
 use native.Mathlib.Omega.{arith}
-use lib.ListN.{length, drop, get_or}
+use lib.ListN.{get_or}
 use lib.Ieee.{Float, binary32}
 use Rattle.spec_lists.proofs.Reading.{triangle_inside}
 use Rattle.spec_search.specs.Marked.{below}
@@ -15,10 +15,9 @@ use Rattle.spec_search.proofs.Turns.{one_more, none_remaining}
 use Rattle.walks.specs.Values.{point_of, fourth_of}
 use Rattle.walks.specs.declared.answer.Measures.{Measures}
 use Rattle.walks.specs.declared.answer.Measures.TheVariants.{Held, Computed}
-use Rattle.walks.specs.Places.{most_of, Lent, Keeps, kept_in, took_by, Ready, sought_of, Holds}
+use Rattle.walks.specs.Places.{most_of, Lent, Keeps, kept_in, Ready, sought_of, Holds}
 use Rattle.walks.proofs.Counting.{none_counted, one_more_counted}
 use Rattle.walks.proofs.Slots.{sound_after}
-use borrow.Author.Rules.{rules}
 use Rattle.walks.proofs.leaf.measure_slice.Invariants.{took}
 use Rattle.walks.proofs.leaf.measure_slice.Goals as goal
 

@@ -1,24 +1,15 @@
 -- `walks::leaf::measure_slice` meets its contract, for either walk.
 -- The invariant: the lists are ready, with as many places as there were, and measuring those that remain, from what is kept now, gives what the whole
 -- slice gives.
-use mathlib.Core.Path.{◌≡◌, refl, ap, subst}
+use mathlib.Core.Path.{◌≡◌}
 use mathlib.Core.List.{List}
 use Prim.Native.Nat.{ℕ, ◌+◌, ◌-◌, ◌≤◌}
-use native.Mathlib.Omega.{arith}
-use lib.ListN.{length, drop, get_or}
+use lib.ListN.{length, drop}
 use lib.Ieee.{Float, binary32}
-use Rattle.spec_lists.proofs.Reading.{triangle_inside}
-use Rattle.spec_search.specs.Marked.{below}
-use Rattle.spec_search.specs.Walk.{Sought, took_all}
-use Rattle.spec_search.proofs.Steps.{few_sorted}
-use Rattle.spec_search.proofs.Turns.{one_more, none_remaining}
+use Rattle.spec_search.specs.Walk.{took_all}
 use Rattle.walks.specs.Values.{point_of, fourth_of}
 use Rattle.walks.specs.declared.answer.Measures.{Measures}
-use Rattle.walks.specs.declared.answer.Measures.TheVariants.{Held, Computed}
-use Rattle.walks.specs.Places.{most_of, Lent, Keeps, kept_in, took_by, Ready, sought_of, Holds}
-use Rattle.walks.proofs.Counting.{none_counted, one_more_counted}
-use Rattle.walks.proofs.Slots.{sound_after}
-use borrow.Author.Rules.{rules}
+use Rattle.walks.specs.Places.{most_of, Keeps, took_by, Ready, sought_of}
 use Rattle.walks.proofs.leaf.measure_slice.Given as goal
 
 abbrev pub took : (by : Measures) → List Float → List Float → ℕ → ℕ → Keeps by → Keeps by

@@ -7,7 +7,6 @@ use Rattle.spec_search.specs.Answers.{Hit, nothing, found}
 use Rattle.spec_search.specs.Marked.{no_triangle, unmarked}
 use Rattle.walks.specs.Values.{as_hit}
 use Rattle.walks.specs.Places.{slot_at}
-use borrow.Author.Rules.{rules}
 use Rattle.walks.proofs.places.answer_at.Goals as goal
 
 marked : (h k : Hit) → h ≡ k → h.triangle ≡ no_triangle → nothing ≡ unmarked k

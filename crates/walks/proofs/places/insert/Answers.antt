@@ -4,9 +4,7 @@ use mathlib.Core.Path.{sym, ◌∙◌}
 use Prim.Native.Nat.{◌-◌}
 use native.Mathlib.Omega.{arith}
 use Rattle.walks.specs.Values.{as_hit}
-use Rattle.walks.proofs.Slots.{Moving, moving_starts, moving_goes_on, moving_ends, moving_ends_nearest}
-use borrow.Author.Rules.{rules}
-use borrow.Author.Tests.{not-true, not-false}
+use Rattle.walks.proofs.Slots.{moving_starts, moving_goes_on, moving_ends, moving_ends_nearest}
 use Rattle.walks.proofs.places.insert.Goals as goal
 
 pub loop-j-init : goal.loop-j-init

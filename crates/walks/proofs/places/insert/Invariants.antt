@@ -1,12 +1,8 @@
 -- `walks::places::insert` meets its contract. The invariant: those that the hit goes before, from the last place on, are moved up by one, and the hit
 -- put among the others is what the whole gives.
-use mathlib.Core.Path.{sym, ◌∙◌}
 use Prim.Native.Nat.{◌-◌}
-use native.Mathlib.Omega.{arith}
 use Rattle.walks.specs.Values.{as_hit}
-use Rattle.walks.proofs.Slots.{Moving, moving_starts, moving_goes_on, moving_ends, moving_ends_nearest}
-use borrow.Author.Rules.{rules}
-use borrow.Author.Tests.{not-true, not-false}
+use Rattle.walks.proofs.Slots.{Moving}
 use Rattle.walks.proofs.places.insert.Given as goal
 
 abbrev pub invariant-loop-j : goal.invariant-loop-j

@@ -3,7 +3,6 @@ use Rattle.spec_search.specs.Marked.{below}
 use Rattle.spec_search.specs.Rules.{counts}
 use Rattle.walks.specs.Places.{slot_at}
 use Rattle.walks.proofs.Slots.{skipped_by_last}
-use borrow.Author.Rules.{rules}
 use Rattle.walks.proofs.places.is_skipped.Goals as goal
 
 pub returns : goal.returns

@@ -8,7 +8,6 @@ use Rattle.spec_search.specs.Rules.{counts}
 use Rattle.walks.specs.Values.{as_hit}
 use Rattle.walks.specs.Places.{most_of}
 use Rattle.walks.proofs.Slots.{offer_inserts, offer_keeps}
-use borrow.Author.Rules.{rules}
 use Rattle.walks.proofs.places.offer.Goals as goal
 
 pub insert-requires : goal.insert-requires

@@ -9,7 +9,6 @@ use lib.Ieee.{Float, nan}
 use Rattle.spec_search.specs.Answers.{Hit}
 use Rattle.walks.specs.Values.{as_hit}
 use Rattle.walks.specs.Places.{slot_at, Lent, PutAt}
-use borrow.Author.Rules.{rules}
 use Rattle.walks.proofs.places.put_slot.Goals as goal
 
 -- ---- stores side by side

@@ -1,7 +1,6 @@
 -- `walks::places::slot_at` meets its contract: the six numbers that were read are the slot's.
 use mathlib.Core.Path.{refl}
 use Rattle.walks.specs.Places.{slot_at}
-use borrow.Author.Rules.{rules}
 use Rattle.walks.proofs.places.slot_at.Goals as goal
 
 pub returns : goal.returns

@@ -1,16 +1,9 @@
 -- `walks::places::start` meets its contract. The invariant: the slots that were passed are markers.
-use mathlib.Core.Path.{◌≡◌, refl, ap, ◌∙◌}
+use mathlib.Core.Path.{◌≡◌}
 use Prim.Native.Nat.{ℕ, ◌-◌, ◌≤◌, ◌<◌}
-use native.Mathlib.Omega.{arith}
-use borrow.Author.Count.{below_more}
-use lib.ListN.{length-set}
-use lib.Seq.{get_or-set_same}
-use lib.Ieee.{of_bits}
 use Rattle.spec_search.specs.Marked.{marker}
 use Rattle.walks.specs.Values.{as_hit}
-use Rattle.walks.specs.Places.{most_of, slot_at, slots_from, Lent}
-use Rattle.walks.proofs.Slots.{marked_places}
-use borrow.Author.Rules.{rules}
+use Rattle.walks.specs.Places.{most_of, slot_at, Lent}
 use Rattle.walks.proofs.places.start.Given as goal
 
 abbrev pub invariant-loop-j : goal.invariant-loop-j

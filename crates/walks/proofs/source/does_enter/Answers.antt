@@ -1,6 +1,5 @@
 -- `walks::source::does_enter` meets its contract: both tests are of the node's box.
 use Rattle.spec_search.specs.Source.{enters}
-use borrow.Author.Rules.{rules}
 use Rattle.walks.proofs.source.does_enter.Goals as goal
 
 pub returns : goal.returns

@@ -6,7 +6,6 @@ use Rattle.spec_search.specs.Source.{source_walk}
 use Rattle.spec_search.proofs.Calls.{root_there, root_safe}
 use Rattle.walks.specs.Places.{slot_at}
 use Rattle.walks.proofs.Reached.{reached_is}
-use borrow.Author.Rules.{rules}
 use Rattle.walks.proofs.source.search.Goals as goal
 
 pub overflow_sub-nodes : goal.overflow_sub-nodes

@@ -12,7 +12,6 @@ use Rattle.spec_search.proofs.Walked.{walk_skipped}
 use Rattle.spec_search.proofs.Steps.{hangs_there, leaf_needs, pair_needs, levels_remaining, leaf_answers, pair_answers, left_needs, right_needs, then_left_needs, then_right_needs, right_answers, left_answers, right_alone, left_alone, skipped_here, right_first_here, few_sorted, few_skipped}
 use Rattle.walks.specs.declared.answer.Measures.TheVariants.{Held}
 use Rattle.walks.proofs.Reached.{reached_is, reached_on, reached_still, walk_sound, few_then}
-use borrow.Author.Rules.{rules}
 use Rattle.walks.proofs.sure.+node_walk_pair_walk.Goals as goal
 
 falls_in : (d t : ℕ) → 0 < d → d + d ≡ t → (d - 1) + (d - 1) + 1 < t

@@ -1,6 +1,5 @@
 -- `walks::sure::node_squared` meets its contract: the node's box, measured.
 use Rattle.spec_search.specs.Few.{node_squared}
-use borrow.Author.Rules.{rules}
 use Rattle.walks.proofs.sure.node_squared.Goals as goal
 
 pub returns : goal.returns

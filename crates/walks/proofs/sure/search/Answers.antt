@@ -1,5 +1,5 @@
 -- `walks::sure::search` meets its contract: an accepted tree is safe to walk from its root, and the walk from markers is that by the rule.
-use mathlib.Core.Path.{refl, ◌∙◌}
+use mathlib.Core.Path.{refl}
 use lib.Ieee.{binary32, inf}
 use mathlib.Core.Bool.{false}
 use Rattle.spec_numbers.proofs.Comparisons.{less_number}
@@ -11,7 +11,6 @@ use Rattle.spec_search.proofs.Steps.{hangs_there}
 use Rattle.spec_search.proofs.Marked.{marked_is_few}
 use Rattle.walks.proofs.Slots.{start_sound}
 use Rattle.walks.proofs.Reached.{reached_on, few_then}
-use borrow.Author.Rules.{rules}
 use Rattle.walks.proofs.sure.search.Goals as goal
 
 pub overflow_sub-root : goal.overflow_sub-root

@@ -1,6 +1,5 @@
 -- `walks::words::put_answer` meets its contract: zeros, or the words of what was found.
 use Rattle.spec_search.specs.Answers.{words_of}
-use borrow.Author.Rules.{rules}
 use Rattle.walks.proofs.words.put_answer.Goals as goal
 
 pub returns-in-Nothing : goal.returns-in-Nothing

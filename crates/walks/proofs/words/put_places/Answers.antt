@@ -4,12 +4,11 @@ use Prim.Native.Nat.{ℕ, ◌+◌, ◌-◌, ◌*◌}
 use native.Mathlib.Omega.{arith}
 use lib.Ieee.{binary32}
 use Rattle.spec_tables.specs.Tables.{overwrite, concat_map}
-use Rattle.spec_tables.proofs.Runs.{Run, run_start, run_more, run_end}
+use Rattle.spec_tables.proofs.Runs.{run_start, run_more, run_end}
 use Rattle.spec_search.specs.Answers.{Answer, answer_width, words_of}
 use Rattle.spec_search.specs.Calls.{point_words}
 use Rattle.spec_search.proofs.Calls.{answer_wide}
 use Rattle.walks.specs.Places.{answer_of}
-use borrow.Author.Rules.{rules}
 use Rattle.walks.proofs.words.put_places.Goals as goal
 
 pub loop-j-init : goal.loop-j-init

@@ -1,15 +1,9 @@
 -- `walks::words::put_places` meets its contract. The invariant: the first j answers stand from `at` on.
-use mathlib.Core.Path.{ap, ◌∙◌}
-use Prim.Native.Nat.{ℕ, ◌+◌, ◌-◌, ◌*◌}
-use native.Mathlib.Omega.{arith}
+use Prim.Native.Nat.{◌-◌}
 use lib.Ieee.{binary32}
-use Rattle.spec_tables.specs.Tables.{overwrite, concat_map}
-use Rattle.spec_tables.proofs.Runs.{Run, run_start, run_more, run_end}
-use Rattle.spec_search.specs.Answers.{Answer, answer_width, words_of}
-use Rattle.spec_search.specs.Calls.{point_words}
-use Rattle.spec_search.proofs.Calls.{answer_wide}
+use Rattle.spec_tables.proofs.Runs.{Run}
+use Rattle.spec_search.specs.Answers.{words_of}
 use Rattle.walks.specs.Places.{answer_of}
-use borrow.Author.Rules.{rules}
 use Rattle.walks.proofs.words.put_places.Given as goal
 
 abbrev pub invariant-loop-j : goal.invariant-loop-j

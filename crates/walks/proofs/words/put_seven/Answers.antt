@@ -2,7 +2,6 @@
 use native.Mathlib.Omega.{arith}
 use lib.ListN.{length-set}
 use Rattle.spec_tables.proofs.Tables.{seven_overwrite}
-use borrow.Author.Rules.{rules}
 use Rattle.walks.proofs.words.put_seven.Goals as goal
 
 pub returns : goal.returns

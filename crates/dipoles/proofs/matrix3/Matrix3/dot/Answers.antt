@@ -1,7 +1,6 @@
 -- `dipoles::matrix3::Matrix3::dot` meets its contract: what `down_column` ensures, three times.
 use lib.Ieee.{of_bits}
 use Rattle.spec_dipoles.specs.Matrices.{dot_of}
-use borrow.Author.Rules.{rules}
 use Rattle.dipoles.proofs.matrix3.Matrix3.dot.Goals as goal
 
 pub returns : goal.returns

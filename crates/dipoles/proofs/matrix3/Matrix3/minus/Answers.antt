@@ -1,6 +1,5 @@
 -- `dipoles::matrix3::Matrix3::minus` meets its contract: each column is what `minus` of points ensures.
 use Rattle.spec_dipoles.specs.Matrices.{less}
-use borrow.Author.Rules.{rules}
 use Rattle.dipoles.proofs.matrix3.Matrix3.minus.Goals as goal
 
 pub returns : goal.returns

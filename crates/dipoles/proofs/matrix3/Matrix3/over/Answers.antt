@@ -1,6 +1,5 @@
 -- `dipoles::matrix3::Matrix3::over` meets its contract: each column is what `over` of points ensures.
 use Rattle.spec_dipoles.specs.Matrices.{over}
-use borrow.Author.Rules.{rules}
 use Rattle.dipoles.proofs.matrix3.Matrix3.over.Goals as goal
 
 pub returns : goal.returns

@@ -1,6 +1,5 @@
 -- `dipoles::matrix3::Matrix3::plus` meets its contract: each column is what `plus` of points ensures.
 use Rattle.spec_dipoles.specs.Matrices.{added}
-use borrow.Author.Rules.{rules}
 use Rattle.dipoles.proofs.matrix3.Matrix3.plus.Goals as goal
 
 pub returns : goal.returns

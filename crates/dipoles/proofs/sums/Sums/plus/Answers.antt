@@ -1,6 +1,5 @@
 -- `dipoles::sums::Sums::plus` meets its contract: each part is what its `plus` ensures.
 use Rattle.spec_dipoles.specs.Sums.{joined_sums}
-use borrow.Author.Rules.{rules}
 use Rattle.dipoles.proofs.sums.Sums.plus.Goals as goal
 
 pub returns : goal.returns

@@ -1,7 +1,6 @@
 -- `dipoles::sums::Sums::with_triangle` meets its contract: what each call ensures, put in.
 use lib.Ieee.{of_bits}
 use Rattle.spec_dipoles.specs.Sums.{area_of, normal_of, with_triangle}
-use borrow.Author.Rules.{rules}
 use Rattle.dipoles.proofs.sums.Sums.with_triangle.Goals as goal
 
 pub returns : goal.returns

@@ -1,6 +1,5 @@
 -- `lists::verdict::Verdict::or` meets its contract: the first of the two that refuses.
 use mathlib.Core.Path.{refl}
-use borrow.Author.Rules.{rules}
 use Rattle.spec_lists.proofs.Verdicts.{stops, goes_on, ends}
 use Rattle.lists.proofs.verdict.Verdict.or.Goals as goal
 

@@ -1,6 +1,5 @@
 -- `shapes::box3::Box3::contains_point` meets its contract: what `is_under` ensures of both corners.
 use Rattle.spec_shapes.specs.Boxes.{contains_point}
-use borrow.Author.Rules.{rules}
 use Rattle.shapes.proofs.box3.Box3.contains_point.Goals as goal
 
 pub returns : goal.returns

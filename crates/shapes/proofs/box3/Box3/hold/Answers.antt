@@ -1,6 +1,5 @@
 -- `shapes::box3::Box3::hold` meets its contract: what `held` ensures, on each axis.
 use Rattle.spec_shapes.specs.Boxes.{held_in}
-use borrow.Author.Rules.{rules}
 use Rattle.shapes.proofs.box3.Box3.hold.Goals as goal
 
 pub returns : goal.returns

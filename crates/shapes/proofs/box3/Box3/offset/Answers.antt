@@ -1,6 +1,5 @@
 -- `shapes::box3::Box3::offset` meets its contract: what `offset_on` ensures, on each axis.
 use Rattle.spec_shapes.specs.Boxes.{offset}
-use borrow.Author.Rules.{rules}
 use Rattle.shapes.proofs.box3.Box3.offset.Goals as goal
 
 pub returns : goal.returns

@@ -1,7 +1,6 @@
 -- `shapes::box3::Box3::squared_distance` meets its contract: what `with_outside` ensures, axis after axis.
 use lib.Ieee.{of_bits}
 use Rattle.spec_shapes.specs.Boxes.{box_squared}
-use borrow.Author.Rules.{rules}
 use Rattle.shapes.proofs.box3.Box3.squared_distance.Goals as goal
 
 pub returns : goal.returns

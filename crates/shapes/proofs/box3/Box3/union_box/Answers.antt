@@ -1,6 +1,5 @@
 -- `shapes::box3::Box3::union_box` meets its contract: what `smallest` and `largest` ensure.
 use Rattle.spec_shapes.specs.Boxes.{union}
-use borrow.Author.Rules.{rules}
 use Rattle.shapes.proofs.box3.Box3.union_box.Goals as goal
 
 pub returns : goal.returns

@@ -1,6 +1,5 @@
 -- `shapes::box3::Box3::union_point` meets its contract: what `smallest` and `largest` ensure.
 use Rattle.spec_shapes.specs.Boxes.{union_point}
-use borrow.Author.Rules.{rules}
 use Rattle.shapes.proofs.box3.Box3.union_point.Goals as goal
 
 pub returns : goal.returns

@@ -1,6 +1,5 @@
 -- `shapes::box3::Box3::volume` meets its contract, of the sizes that `sizes` ensures.
 use Rattle.spec_shapes.specs.Boxes.{volume}
-use borrow.Author.Rules.{rules}
 use Rattle.shapes.proofs.box3.Box3.volume.Goals as goal
 
 pub returns : goal.returns

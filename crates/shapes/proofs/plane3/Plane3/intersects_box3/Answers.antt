@@ -1,6 +1,5 @@
 -- `shapes::plane3::Plane3::intersects_box3` meets its contract: what each call ensures, put in.
 use Rattle.spec_shapes.specs.Planes.{meets_box}
-use borrow.Author.Rules.{rules}
 use Rattle.shapes.proofs.plane3.Plane3.intersects_box3.Goals as goal
 
 pub returns : goal.returns

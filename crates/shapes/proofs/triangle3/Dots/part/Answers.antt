@@ -1,7 +1,6 @@
 -- `shapes::triangle3::Dots::part` meets its contract: at each return the tests before have failed and this one has passed.
 use lib.Ieee.{of_bits}
 use Rattle.spec_shapes.specs.Triangles.{part}
-use borrow.Author.Rules.{rules}
 use Rattle.shapes.proofs.triangle3.Dots.part.Goals as goal
 
 pub returns-then-self : goal.returns-then-self

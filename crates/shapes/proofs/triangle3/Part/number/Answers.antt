@@ -1,6 +1,5 @@
 -- `shapes::triangle3::Part::number` meets its contract, in each arm.
 use Rattle.spec_shapes.specs.Triangles.{part_number}
-use borrow.Author.Rules.{rules}
 use Rattle.shapes.proofs.triangle3.Part.number.Goals as goal
 
 pub returns-in-Face : goal.returns-in-Face

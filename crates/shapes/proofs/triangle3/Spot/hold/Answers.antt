@@ -1,5 +1,4 @@
 -- `shapes::triangle3::Spot::hold` meets its contract: what `Box3::hold` ensures of the point.
-use borrow.Author.Rules.{rules}
 use Rattle.shapes.proofs.triangle3.Spot.hold.Goals as goal
 
 pub returns : goal.returns

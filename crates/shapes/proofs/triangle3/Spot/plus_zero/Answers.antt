@@ -1,5 +1,4 @@
 -- `shapes::triangle3::Spot::plus_zero` meets its contract: what `Vec3::plus_zero` ensures of the point.
-use borrow.Author.Rules.{rules}
 use Rattle.shapes.proofs.triangle3.Spot.plus_zero.Goals as goal
 
 pub returns : goal.returns

@@ -1,6 +1,5 @@
 -- `shapes::triangle3::Triangle3::bbox` meets its contract: what `smallest` and `largest` ensure, twice each.
 use Rattle.spec_shapes.specs.Triangles.{box_of}
-use borrow.Author.Rules.{rules}
 use Rattle.shapes.proofs.triangle3.Triangle3.bbox.Goals as goal
 
 pub returns : goal.returns

@@ -1,6 +1,5 @@
 -- `shapes::triangle3::Triangle3::closest_spot` meets its contract: the dots, the part by them, and the point on that part.
 use Rattle.spec_shapes.specs.Triangles.{closest_spot}
-use borrow.Author.Rules.{rules}
 use Rattle.shapes.proofs.triangle3.Triangle3.closest_spot.Goals as goal
 
 pub returns : goal.returns

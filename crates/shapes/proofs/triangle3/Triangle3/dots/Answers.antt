@@ -1,6 +1,5 @@
 -- `shapes::triangle3::Triangle3::dots` meets its contract: what each `dot` ensures, of the differences that `minus` ensures.
 use Rattle.spec_shapes.specs.Triangles.{dots}
-use borrow.Author.Rules.{rules}
 use Rattle.shapes.proofs.triangle3.Triangle3.dots.Goals as goal
 
 pub returns : goal.returns

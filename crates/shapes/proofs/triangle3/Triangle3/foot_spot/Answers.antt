@@ -1,6 +1,5 @@
 -- `shapes::triangle3::Triangle3::foot_spot` meets its contract: the foot and its part, put together.
 use Rattle.spec_shapes.specs.Triangles.{foot_spot}
-use borrow.Author.Rules.{rules}
 use Rattle.shapes.proofs.triangle3.Triangle3.foot_spot.Goals as goal
 
 pub returns : goal.returns

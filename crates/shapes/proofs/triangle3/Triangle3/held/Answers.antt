@@ -2,7 +2,6 @@
 use mathlib.Core.Path.{ap, ◌∙◌}
 use Rattle.spec_shapes.specs.Points.{plus_zero}
 use Rattle.spec_shapes.specs.Triangles.{moved}
-use borrow.Author.Rules.{rules}
 use Rattle.shapes.proofs.triangle3.Triangle3.held.Goals as goal
 
 pub returns-then-is_finite : goal.returns-then-is_finite

@@ -1,6 +1,5 @@
 -- `shapes::triangle3::Triangle3::held_foot` meets its contract: what each call ensures, put in.
 use Rattle.spec_shapes.specs.Triangles.{held_foot}
-use borrow.Author.Rules.{rules}
 use Rattle.shapes.proofs.triangle3.Triangle3.held_foot.Goals as goal
 
 pub returns : goal.returns

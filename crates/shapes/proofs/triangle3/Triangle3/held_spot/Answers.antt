@@ -2,7 +2,6 @@
 use mathlib.Core.Path.{ap, ◌∙◌}
 use lib.Ieee.{binary32}
 use Rattle.spec_shapes.specs.Triangles.{held_from, held_spot}
-use borrow.Author.Rules.{rules}
 use Rattle.shapes.proofs.triangle3.Triangle3.held_spot.Goals as goal
 
 pub returns : goal.returns

@@ -1,6 +1,5 @@
 -- `shapes::triangle3::Triangle3::nearest_foot` meets its contract: the feet and the nearer of them, put in.
 use Rattle.spec_shapes.specs.Triangles.{nearest_foot}
-use borrow.Author.Rules.{rules}
 use Rattle.shapes.proofs.triangle3.Triangle3.nearest_foot.Goals as goal
 
 pub returns : goal.returns

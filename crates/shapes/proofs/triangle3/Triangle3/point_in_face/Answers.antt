@@ -1,7 +1,6 @@
 -- `shapes::triangle3::Triangle3::point_in_face` meets its contract: what each call ensures, put in.
 use lib.Ieee.{of_bits}
 use Rattle.spec_shapes.specs.Triangles.{face_point}
-use borrow.Author.Rules.{rules}
 use Rattle.shapes.proofs.triangle3.Triangle3.point_in_face.Goals as goal
 
 pub returns : goal.returns

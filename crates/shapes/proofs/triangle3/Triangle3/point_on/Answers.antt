@@ -1,6 +1,5 @@
 -- `shapes::triangle3::Triangle3::point_on` meets its contract, in each arm.
 use Rattle.spec_shapes.specs.Triangles.{point_on}
-use borrow.Author.Rules.{rules}
 use Rattle.shapes.proofs.triangle3.Triangle3.point_on.Goals as goal
 
 pub returns-in-Face : goal.returns-in-Face

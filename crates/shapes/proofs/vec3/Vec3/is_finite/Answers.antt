@@ -1,6 +1,5 @@
 -- `shapes::vec3::Vec3::is_finite` meets its contract: what `is_finite` ensures, on each axis.
 use Rattle.spec_shapes.specs.Points.{is_finite}
-use borrow.Author.Rules.{rules}
 use Rattle.shapes.proofs.vec3.Vec3.is_finite.Goals as goal
 
 pub returns : goal.returns

@@ -1,6 +1,5 @@
 -- `shapes::vec3::Vec3::largest` meets its contract: what `max2` ensures, on each axis.
 use Rattle.spec_shapes.specs.Points.{largest}
-use borrow.Author.Rules.{rules}
 use Rattle.shapes.proofs.vec3.Vec3.largest.Goals as goal
 
 pub returns : goal.returns

@@ -1,6 +1,5 @@
 -- `shapes::vec3::Vec3::plus_zero` meets its contract: what `plus_zero` ensures, on each axis.
 use Rattle.spec_shapes.specs.Points.{plus_zero}
-use borrow.Author.Rules.{rules}
 use Rattle.shapes.proofs.vec3.Vec3.plus_zero.Goals as goal
 
 pub returns : goal.returns

@@ -1,6 +1,5 @@
 -- `shapes::vec3::Vec3::smallest` meets its contract: what `min2` ensures, on each axis.
 use Rattle.spec_shapes.specs.Points.{smallest}
-use borrow.Author.Rules.{rules}
 use Rattle.shapes.proofs.vec3.Vec3.smallest.Goals as goal
 
 pub returns : goal.returns

@@ -1,6 +1,5 @@
 -- `shapes::vec3::Vec3::squared_distance` meets its contract: the dot of the difference that `minus` ensures.
 use Rattle.spec_shapes.specs.Points.{squared_distance}
-use borrow.Author.Rules.{rules}
 use Rattle.shapes.proofs.vec3.Vec3.squared_distance.Goals as goal
 
 pub returns : goal.returns

@@ -1,6 +1,5 @@
 -- `splits::buckets::Bucket::empty` meets its contract: what `Box3::empty` ensures.
 use Rattle.spec_splits.specs.Buckets.{empty_bucket}
-use Rattle.std.proofs.Common.{rules}
 use Rattle.splits.proofs.buckets.Bucket.empty.Goals as goal
 
 pub returns : goal.returns

@@ -1,5 +1,5 @@
 -- `splits::buckets::Bucket::merged` meets its contract: what `union_box` ensures.
-use Rattle.std.proofs.Common.{◌+◌, rules}
+use Rattle.std.proofs.Common.{◌+◌}
 use Rattle.spec_splits.specs.Buckets.{merged}
 use Rattle.splits.proofs.buckets.Bucket.merged.Goals as goal
 

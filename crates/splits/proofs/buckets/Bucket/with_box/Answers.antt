@@ -1,5 +1,5 @@
 -- `splits::buckets::Bucket::with_box` meets its contract: what `union_box` ensures.
-use Rattle.std.proofs.Common.{◌+◌, rules}
+use Rattle.std.proofs.Common.{◌+◌}
 use Rattle.spec_splits.specs.Buckets.{with_box}
 use Rattle.splits.proofs.buckets.Bucket.with_box.Goals as goal
 

@@ -1,7 +1,6 @@
 -- `splits::costs::Cheapest::with_cost` meets its contract: each arm returns what the test picks, and a number is equal to itself.
 use Rattle.spec_splits.specs.Area.{with_cost}
 use Rattle.spec_splits.proofs.Area.{equal_to_itself}
-use Rattle.std.proofs.Common.{rules}
 use Rattle.splits.proofs.costs.Cheapest.with_cost.Goals as goal
 
 pub returns-then-cost-self : goal.returns-then-cost-self
