@@ -4,7 +4,7 @@ use lib.ListN.{length}
 use Rattle.test_stl.proofs.put_bytes.Given as goal
 
 abbrev pub invariant-loop-i : goal.invariant-loop-i
-invariant-loop-i l = i ≤ length l.list
+invariant-loop-i l = l.i ≤ length l.list
 
 abbrev pub decreases-loop-i : goal.decreases-loop-i
-decreases-loop-i l = length l.list - i
+decreases-loop-i l = length l.list - l.i
