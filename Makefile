@@ -4,26 +4,26 @@
 #     make picture     the example's picture, target/host/stock.svg
 #     make test        tests/host/run
 #
-# It needs rt, and a C compiler. On Arm all of it runs under the toolchain's emulator (tools/link, tools/run).
+# It needs rt, and a C compiler, on x86-64 Linux.
 
-LIBRARY = target/staticlib/libhost.a
+LIBRARY = crates/host/out/libhost.a
 
 all: $(LIBRARY) target/host/header target/host/stock
 
-$(LIBRARY): crates.txt $(shell find crates -name '*.rt' -o -name '*.antt')
-	rt staticlib host
+$(LIBRARY): crates.txt $(shell find crates -name out -prune -o \( -name '*.rt' -o -name '*.antt' \) -print)
+	cd crates/host && rt lib
 
 target/host/header: tests/host/header.c include/gauge.h $(LIBRARY)
 	@mkdir -p target/host
 	tools/link $@ -O2 tests/host/header.c
-	tools/run $@
+	$@
 
 target/host/stock: examples/stock.c include/gauge.h $(LIBRARY)
 	@mkdir -p target/host
 	tools/link $@ -O2 examples/stock.c
 
 picture: target/host/stock
-	tools/run target/host/stock examples/flange.stl examples/flange_points.txt target/host/stock.svg
+	target/host/stock examples/flange.stl examples/flange_points.txt target/host/stock.svg
 
 test:
 	tests/host/run

@@ -7,6 +7,7 @@
 # An entry stands only where that cannot move it to another whole number.
 import os
 import sys
+import textwrap
 
 PLACES = 160
 
@@ -28,7 +29,7 @@ def entry(k):
 
 def lines(form, entries):
     if form == "rt":
-        return [f"    {e}," for e in entries]
+        return textwrap.wrap(", ".join(map(str, entries)) + ",", 100, initial_indent="    ", subsequent_indent="    ")  # as rt fmt fills lines
     return ["    " + " ∷ ".join(str(e) for e in entries[i : i + 8]) + " ∷" for i in range(0, 1025, 8)]
 
 

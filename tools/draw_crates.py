@@ -35,6 +35,7 @@ def read_list(text):
                 sections[-1][1].append((line[1:].strip(), []))
         elif line:
             name, _, rest = line.partition(":")
+            name = name.split()[0]  # a static library has its kind behind its name
             on[name] = rest.split()
             sections[-1][1][-1][1].append(name)
     on = {name: [d for d in ds if d in on] for name, ds in on.items()}

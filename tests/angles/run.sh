@@ -1,33 +1,32 @@
 #!/bin/sh
 # Runs root, arc tangent, solid angle and winding number against Rust's own: tests/angles/run.sh [LIST]
 # LIST is a list of the oracle's answers, as tests/oracle/angles.rs writes it. Not part of the gate.
-# The exported functions stand in a copy of the repository, below target/, since the engine exports none of them.
+# The exported functions stand in a copy of the repository, outside of it, since the engine exports none of them.
 set -e
 cd "$(dirname "$0")/../.."
-copy=target/angles_run
-rm -rf $copy
-mkdir -p $copy/crates/angles_run/src
-cp -r crates crates.txt $copy/
-mkdir -p $copy/target
-for kept in rlib stamp; do [ -d target/$kept ] && cp -r target/$kept $copy/target/; done
-echo 'angles_run: angles lists shapes floats' >> $copy/crates.txt
-cat > $copy/crates/angles_run/src/lib.rt <<'RT'
+copy=$(mktemp -d)
+trap 'rm -rf "$copy"' EXIT
+tar -cf - --exclude='crates/*/out' crates crates.txt | tar -xf - -C "$copy"
+mkdir -p "$copy/crates/angles_run/src"
+echo 'angles_run staticlib: angles lists shapes floats' >> "$copy/crates.txt"
+cat > "$copy/crates/angles_run/src/lib.rt" <<'RT'
 // Roots, angles and winding numbers for a Rust program to call.
-ghost use mathlib.Core.Path.{_≡_};
+#![tactic(auto)]
+
 use lists::verdict::Verdict;
 
-#[no_mangle]
+#[unsafe(no_mangle)]
 pub extern "C" fn angles_root(x: f32) -> f32 {
     angles::root::root_or_nan(x)
 }
 
-#[no_mangle]
+#[unsafe(no_mangle)]
 pub extern "C" fn angles_arc_tangent(n: f32, d: f32) -> f32 {
     angles::arc_tangent::angle_or_nan(n, d)
 }
 
 // Of the first triangle from the first point.
-#[no_mangle]
+#[unsafe(no_mangle)]
 pub extern "C" fn angles_solid(triangle: &[f32], point: &[f32]) -> f32 {
     if triangle.len() == 9 {
         if point.len() == 3 {
@@ -38,7 +37,7 @@ pub extern "C" fn angles_solid(triangle: &[f32], point: &[f32]) -> f32 {
 }
 
 // The refusal's number, 0 where there is none.
-#[no_mangle]
+#[unsafe(no_mangle)]
 pub extern "C" fn angles_winding(triangles: &[f32], points: &[f32], out: &mut [f32]) -> usize {
     match angles::winding::winding(triangles, points, out) {
         Verdict::Passed => 0,
@@ -46,6 +45,6 @@ pub extern "C" fn angles_winding(triangles: &[f32], points: &[f32], out: &mut [f
     }
 }
 RT
-(cd $copy && rt staticlib angles_run)
-rustc -O --edition 2021 -o $copy/main tests/angles/main.rs -L $copy/target/staticlib -l static=angles_run
-$copy/main "$@"
+(cd "$copy/crates/angles_run" && rt lib)
+rustc -O --edition 2021 -o "$copy/main" tests/angles/main.rs -L "$copy/crates/angles_run/out" -l static=angles_run
+"$copy/main" "$@"

@@ -9,9 +9,9 @@
 // arguments. Both sure queries are asked by rule 1; of a text before there was a rule, was_sure is declared and called without it. An
 // answer of the earlier text has six words, without the part; where it tells the part, -DWAS_WORDS=7 says so.
 //
-//     rt staticlib test_exports          (in the engine's folder, and in that of the earlier text: libtest_exports.a, was.a)
+//     (cd crates/test_exports && rt lib)          (in the engine's folder; was.a is the earlier text's libtest_exports.a)
 //     nm -g --defined-only was.a | sed -n 's/.* timing_\(.*\)/timing_\1 was_\1/p' > names && objcopy --redefine-syms names was.a
-//     g++ -O3 -o before tests/peers/before.cpp libtest_exports.a was.a && ./before CASE TURNS < request
+//     g++ -O3 -o before tests/peers/before.cpp crates/test_exports/out/libtest_exports.a was.a && ./before CASE TURNS < request
 //
 // A request is what the oracle's gen writes.
 #include "answers.hpp"

@@ -1,8 +1,8 @@
 /* How long each call from C takes: separate triangles in a sheet, 256, 4,096 and 65,536 of them, leaf minimum 10, depth 40; processor
  * time, the least of 15 turns of enough calls to be measured.
  *
- *     make                         (in the engine's folder: target/staticlib/libhost.a)
- *     cc -O2 -Iinclude -o calls tests/peers/calls.c target/staticlib/libhost.a -lm && ./calls
+ *     make                         (in the engine's folder: crates/host/out/libhost.a)
+ *     cc -O2 -Iinclude -o calls tests/peers/calls.c crates/host/out/libhost.a -lm && ./calls
  *
  * Beside it, turn about, the library of header version 1, which was handed an image and read it anew at each call: was.a is its
  * libhost.a under other names. The last number of a line is then the ratio, now / version 1.
@@ -10,7 +10,7 @@
  *     objcopy --redefine-sym gauge_build=was_build --redefine-sym gauge_check=was_check --redefine-sym gauge_sure=was_sure \
  *         --redefine-sym gauge_source=was_source --redefine-sym gauge_winding=was_winding --redefine-sym gauge_image_most=was_image_most \
  *         old/target/staticlib/libhost.a was.a
- *     cc -O2 -DWAS -Iinclude -o calls tests/peers/calls.c target/staticlib/libhost.a was.a -lm && ./calls
+ *     cc -O2 -DWAS -Iinclude -o calls tests/peers/calls.c crates/host/out/libhost.a was.a -lm && ./calls
  */
 #define _POSIX_C_SOURCE 199309L
 #include "gauge.h"

@@ -5,9 +5,9 @@
 //
 //     check N TREE NODES check NOW BEFORE RATIO sure 1 NOW BEFORE RATIO sure 1000 NOW BEFORE RATIO
 //
-//     make                         (in the engine's folder, and in that of the earlier text: target/staticlib/libhost.a)
+//     make                         (in the engine's folder: crates/host/out/libhost.a; was.a is the earlier text's libhost.a)
 //     nm -g --defined-only was.a | sed -n 's/.* T \(gauge.*\)/\1 was_\1/p' > names && objcopy --redefine-syms names was.a
-//     g++ -O3 -Iinclude -o check tests/peers/check.cpp target/staticlib/libhost.a was.a && ./check
+//     g++ -O3 -Iinclude -o check tests/peers/check.cpp crates/host/out/libhost.a was.a && ./check
 #include "gauge.h"
 
 #include <algorithm>

@@ -2,7 +2,7 @@
 // with leaf minimum 1, 4 and 10, so that each stands beside the same tree and walk in plain C++. A query's time includes
 // the call's own check of the tree. From the folder of the contenders, which has contender.h and the Makefile, with answers.hpp beside it:
 //
-//     rt staticlib test_exports          (in the engine's folder: target/staticlib/libtest_exports.a)
+//     rt lib                       (in crates/test_exports of the engine's folder: out/libtest_exports.a)
 //     make EXTRA=extra.cpp EXTRA_LIB=libtest_exports.a
 #include "answers.hpp"
 #include "contender.h"

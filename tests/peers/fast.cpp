@@ -9,8 +9,8 @@
 // one; a call has 4,000 points and one check of the tree. FAR, OPENED, LEAVES and MEASURED are nodes used as far, branches opened, leaves
 // and triangles measured a point, DIFFERENCE the largest between this and plain C++. With a word, only drawings of so many triangles.
 //
-//     rt staticlib test_exports          (in the engine's folder)
-//     g++ -O3 -ffp-contract=off -o fast tests/peers/fast.cpp target/staticlib/libtest_exports.a && ./fast
+//     (cd crates/test_exports && rt lib)          (in the engine's folder)
+//     g++ -O3 -ffp-contract=off -o fast tests/peers/fast.cpp crates/test_exports/out/libtest_exports.a && ./fast
 #include "shapes.hpp"
 
 static double now() {

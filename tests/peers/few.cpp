@@ -7,8 +7,8 @@
 //
 // The answers are compared word for word: the nearest 1 are the sure query's, and more of them begin as fewer do.
 //
-//     rt staticlib test_exports          (in the engine's folder)
-//     g++ -O3 -o few tests/peers/few.cpp target/staticlib/libtest_exports.a && ./few CASE TURNS < request
+//     (cd crates/test_exports && rt lib)          (in the engine's folder)
+//     g++ -O3 -o few tests/peers/few.cpp crates/test_exports/out/libtest_exports.a && ./few CASE TURNS < request
 //
 // A request is what the oracle's gen writes, or what tools/make_input.py makes of a drawing in text.
 #include "answers.hpp"

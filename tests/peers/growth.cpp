@@ -5,8 +5,8 @@
 //
 // With the word `sorted` the triangles stand in the order of the leaves from the first, so that a leaf's lie side by side.
 //
-//     rt staticlib test_exports          (in the engine's folder)
-//     g++ -O3 -o growth tests/peers/growth.cpp target/staticlib/libtest_exports.a && ./growth | tests/peers/growth.py docs/growth.svg
+//     (cd crates/test_exports && rt lib)          (in the engine's folder)
+//     g++ -O3 -o growth tests/peers/growth.cpp crates/test_exports/out/libtest_exports.a && ./growth | tests/peers/growth.py docs/growth.svg
 #include "answers.hpp"
 #include <algorithm>
 #include <cmath>

@@ -8,8 +8,8 @@
 //     drawing SCALE NAME TRIANGLES ANSWERS LARGEST MOST MEAN OTHER_SIDE
 //     tree SCALE STRATEGY LEAF ANSWERS LARGEST MOST MEAN OTHER_SIDE
 //
-//     rt staticlib test_exports          (in the engine's folder)
-//     g++ -O3 -o near tests/peers/near.cpp target/staticlib/libtest_exports.a && ./near [POINTS]
+//     (cd crates/test_exports && rt lib)          (in the engine's folder)
+//     g++ -O3 -o near tests/peers/near.cpp crates/test_exports/out/libtest_exports.a && ./near [POINTS]
 //
 // POINTS times the four drawings are asked, 25,600 where not told.
 #include "shapes.hpp"

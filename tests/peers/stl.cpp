@@ -2,8 +2,8 @@
 // and 65,536 triangles with coordinates by chance, processor time in microseconds a call, turn about in one process, the least of
 // 30 turns of enough calls to be measured. The plain code copies a facet's corners by memcpy, as bytes that are little-endian here.
 //
-//     make                                  (in the engine's folder: target/staticlib/libhost.a)
-//     g++ -O3 -ffp-contract=off -Iinclude -o stl tests/peers/stl.cpp target/staticlib/libhost.a && ./stl
+//     make                                  (in the engine's folder: crates/host/out/libhost.a)
+//     g++ -O3 -ffp-contract=off -Iinclude -o stl tests/peers/stl.cpp crates/host/out/libhost.a && ./stl
 #include "gauge.h"
 
 #include <algorithm>

@@ -3,8 +3,8 @@
 //
 //     winding TRIANGLES POINTS OURS PLAIN DIFFERENCE
 //
-//     rt staticlib test_exports          (in the engine's folder)
-//     g++ -O3 -ffp-contract=off -o winding tests/peers/winding.cpp target/staticlib/libtest_exports.a && ./winding
+//     (cd crates/test_exports && rt lib)          (in the engine's folder)
+//     g++ -O3 -ffp-contract=off -o winding tests/peers/winding.cpp crates/test_exports/out/libtest_exports.a && ./winding
 #include <algorithm>
 #include <cmath>
 #include <cstddef>

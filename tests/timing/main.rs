@@ -3,10 +3,10 @@
 //! begins with. All in one process, turn about; the least processor time of so many turns. Prints the rows of
 //! docs/PERFORMANCE.md's tables, as ratios. Put it into the oracle's src/bin/ as timing.rs, and tests/closest/scan.rs,
 //! which tells how wide an answer is, into a folder src/bin/scan/ (for over 4,096 triangles raise the limit of `make`
-//! in its src/cases.rs, as tests/compare does), make the library by `rt staticlib test_exports`, and run there (leaf
+//! in its src/cases.rs, as tests/compare does), make the library by `rt lib` in crates/test_exports, and run there (leaf
 //! minimum 10, 4,096 triangles and 50 turns where not told):
 //!
-//!     RUSTFLAGS="-L native=TARGET/staticlib -l static=test_exports" cargo run --release --offline --bin timing [LEAF [TRIANGLES [TURNS [sorted]]]]
+//!     RUSTFLAGS="-L native=ENGINE/crates/test_exports/out -l static=test_exports" cargo run --release --offline --bin timing [LEAF [TRIANGLES [TURNS [sorted]]]]
 //!
 //! With the word `sorted` the triangles stand in the order of the leaves from the first: the Rust moves them there,
 //! this engine has an order list.
