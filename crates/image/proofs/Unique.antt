@@ -56,5 +56,6 @@ pub written_unique : (a b : ImageWritten) → as_written a ≡ as_written b → 
 written_unique a b e = sym (written_is a) ∙ ap back_written e ∙ written_is b
 
 -- a write of the same lists into the same bytes
-pub written_is_unique : {x : Image} {r r₂ : ImageWritten} {out out' out'' : List ℕ} → WrittenIs x r out out' → WrittenIs x r₂ out out'' → (r ≡ r₂) × (out' ≡ out'')
+pub written_is_unique : {x : Image} {r r₂ : ImageWritten} {out out' out'' : List ℕ} → WrittenIs x r out out' → WrittenIs x r₂ out out'' → (r ≡ r₂)
+    × (out' ≡ out'')
 written_is_unique {r} {r₂} p q = (written_unique r r₂ (p.answer ∙ sym q.answer), p.filled ∙ sym q.filled)

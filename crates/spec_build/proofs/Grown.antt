@@ -65,7 +65,8 @@ module _ {tried : List ℕ → Tried} {Used : ℕ → Type 0} (h : Trying tried 
       at false p = omega (arith, parted_levels (grown tried leaf_minimum remaining) (remaining + 1) p (tried slice))
 
   -- where every cut lies inside its slice, no leaf is empty
-  pub grown_filled : 1 ≤ leaf_minimum → (remaining : ℕ) (slice : List ℕ) → 0 < length slice → Each Used slice → Filled (grown tried leaf_minimum remaining slice)
+  pub grown_filled : 1 ≤ leaf_minimum → (remaining : ℕ) (slice : List ℕ) → 0 < length slice → Each Used slice
+      → Filled (grown tried leaf_minimum remaining slice)
   unfolding grown
   grown_filled m zero slice w u = w
   grown_filled m (suc remaining) slice w u = at (leb (length slice) leaf_minimum) refl (grown_filled m remaining)

@@ -29,7 +29,8 @@ sums = record {
 
 -- each triangle counts by its area, and the one without a normal not at all
 pub sums_worked : tree_sums binary32 triangle (branch (leaf (0 ∷ 2 ∷ [])) (leaf (1 ∷ []))) ≡ sums
-unfolding add sub mul div eq round of_int plus minus scale divided_by dot cross whole_root root_by root_in root root_or_nan norm zeros outer added cross_of area_of
+unfolding add sub mul div eq round of_int plus minus scale divided_by dot cross whole_root root_by root_in root root_or_nan norm zeros outer added cross_of
+    area_of
     centre_of normal_of has_normal no_sums with_triangle with_next leaf_sums joined_sums tree_sums
 sums_worked = refl
 

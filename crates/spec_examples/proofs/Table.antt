@@ -30,12 +30,18 @@ use Rattle.spec_examples.specs.Queries.{query_examples, e10_tree}
 
 -- all worked examples, E1 to E10, come out as the scope document gives them
 pub examples_hold : (f : Format) → AllHold (shape_examples f ++ (angle_examples f ++ query_examples f))
-unfolding add sub mul div lt le eq round of_int of_bits minus plus scale divided_by dot smallest largest is_under is_finite plus_zero squared_distance union centre
-    sizes area volume offset_on offset with_excess with_outside box_squared contains_point held_in unit reach meets_box box_of dots crossed part along face_point
-    point_on part_number closest_spot foot finite_or held_foot foot_part foot_spot nearer_foot nearest_foot held_spot whole_root root_by root_in root arcs entry arc ratio
-    mirrored angle number_at point_at triangle_at box_at triangle_count numbers node_count joined_to joined box_over root_from links_from boxes_of range inserted sorted
-    union_of plane_between all_meet all_meet_at is_large are_both_large median_split grown axis_inserted axes_by_size rule tried_on tried_in tried_within tried built_tree
-    took_all node_walk pair_walk root_walk fold limit_squared counts offered hit took_sure scan source_hit keep_smaller took_source enters source_walk sure_answer
+unfolding add sub mul div lt le eq round of_int of_bits minus plus scale divided_by dot smallest largest is_under is_finite plus_zero squared_distance union
+    centre
+    sizes area volume offset_on offset with_excess with_outside box_squared contains_point held_in unit reach meets_box box_of dots crossed part along
+    face_point
+    point_on part_number closest_spot foot finite_or held_foot foot_part foot_spot nearer_foot nearest_foot held_spot whole_root root_by root_in root arcs
+    entry arc ratio
+    mirrored angle number_at point_at triangle_at box_at triangle_count numbers node_count joined_to joined box_over root_from links_from boxes_of range
+    inserted sorted
+    union_of plane_between all_meet all_meet_at is_large are_both_large median_split grown axis_inserted axes_by_size rule tried_on tried_in tried_within
+    tried built_tree
+    took_all node_walk pair_walk root_walk fold limit_squared counts offered hit took_sure scan source_hit keep_smaller took_source enters source_walk
+    sure_answer
     source_answer e10_tree
 examples_hold binary32 = refl
 examples_hold binary64 = refl

@@ -44,7 +44,8 @@ module _ (words : List ℕ) (k : ℕ) where
       → get_or words (answer_width * k + i) 0 ≡ get_or (words_of binary32 a) i 0
   word a e i l = sym (get_d_slice 0 words (answer_width * k) answer_width i l) ∙ ap (λ (s : List ℕ). get_or s i 0) e
 
-  first : (a : Answer) → slice words (answer_width * k) answer_width ≡ words_of binary32 a → get_or words (answer_width * k) 0 ≡ get_or (words_of binary32 a) 0 0
+  first : (a : Answer) → slice words (answer_width * k) answer_width ≡ words_of binary32 a → get_or words (answer_width * k) 0
+      ≡ get_or (words_of binary32 a) 0 0
   first a e = rw add-zero at (word a e 0 (omega arith))
 
   words_line_lem : (a : Answer) → slice words (answer_width * k) answer_width ≡ words_of binary32 a → words_line words k ≡ answer_line k a

@@ -85,7 +85,8 @@ asked_passes = refl
 
 tree_printed : tree_line request.triangles request.settings ≡ counts_line 2 3 2
 unfolding tree_line sub mul div le of_int minus plus divided_by dot smallest largest union centre sizes volume unit reach meets_box box_of number_at point_at
-    triangle_at box_at triangle_count node_count levels joined_to joined range inserted sorted union_of plane_between all_meet all_meet_at is_large are_both_large
+    triangle_at box_at triangle_count node_count levels joined_to joined range inserted sorted union_of plane_between all_meet all_meet_at is_large
+    are_both_large
     median_split grown axis_inserted axes_by_size rule tried_on tried_in tried_within tried built_tree
 tree_printed = refl
 
@@ -93,7 +94,8 @@ abbrev pub first : Found
 first = record { triangle = 0; x = 0x3f80_0000; y = 0; z = 0; squared = 0x41a2_0000; part = 2 }
 
 answers_printed : answer_lines request.triangles request.points request.distance request.rule ≡ found_line 0 first ++ nothing_line 1
-unfolding answer_lines answer_line concat_map point_count to_bits sub mul le of_int minus dot smallest largest is_finite plus_zero squared_distance held_in box_of
+unfolding answer_lines answer_line concat_map point_count to_bits sub mul le of_int minus dot smallest largest is_finite plus_zero squared_distance held_in
+    box_of
     dots part point_on part_number closest_spot held_spot number_at point_at triangle_at triangle_count fold rule_of limit_squared counts offered hit took_sure
     scan sure_answer range
 answers_printed = refl

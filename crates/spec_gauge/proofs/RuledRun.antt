@@ -87,14 +87,16 @@ lines rule = answer_lines request.triangles request.points (fin false 9 (negsuc 
 
 -- at 4.5, which is 9 / 2, nothing is found by the first rule
 pub nothing_at_the_distance : lines 1 ≡ nothing_line 0 ++ nothing_line 1
-unfolding answer_lines answer_line concat_map point_count to_bits sub mul le of_int minus dot smallest largest is_finite plus_zero squared_distance held_in box_of
+unfolding answer_lines answer_line concat_map point_count to_bits sub mul le of_int minus dot smallest largest is_finite plus_zero squared_distance held_in
+    box_of
     dots part point_on part_number closest_spot held_spot number_at point_at triangle_at triangle_count fold rule_of limit_squared counts offered hit
     took_sure scan sure_answer range
 nothing_at_the_distance = refl
 
 -- and by the second what is found at 50
 pub found_at_the_distance : lines 2 ≡ found_line 0 first ++ nothing_line 1
-unfolding answer_lines answer_line concat_map point_count to_bits sub mul le of_int minus dot smallest largest is_finite plus_zero squared_distance held_in box_of
+unfolding answer_lines answer_line concat_map point_count to_bits sub mul le of_int minus dot smallest largest is_finite plus_zero squared_distance held_in
+    box_of
     dots part point_on part_number closest_spot held_spot number_at point_at triangle_at triangle_count fold rule_of limit_squared counts offered hit
     took_sure scan sure_answer range
 found_at_the_distance = refl

@@ -110,7 +110,8 @@ module _ (image : List ℕ) (lent : Drawing) where
     unfolding image_triangles image_nodes contents image_in
     read_held {settings} {t} {n} e = go (read_refusal image lent) refl (e ∙ read_as)
       where
-        go : (v : Verdict) → read_refusal image lent ≡ v → Reading.holds settings t n ≡ answer_by (laid_out image_wants image 0) v → Held image lent settings t n
+        go : (v : Verdict) → read_refusal image lent ≡ v → Reading.holds settings t n ≡ answer_by (laid_out image_wants image 0) v
+            → Held image lent settings t n
         go (refused m q) p f = absurd (let z : ◌≡◌ {A = ℕ} 0 1 = cc in omega arith)
         go passes p f =
             let count : t ≡ image_triangles image = cc in

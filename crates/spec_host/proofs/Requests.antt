@@ -36,7 +36,11 @@ point_bytes_encodable s h =
     (placed (ltb (first_bad (numbers_of s)) (length (numbers_of s))) 8 (first_bad (numbers_of s)) bad) (λ _. no_test))
   where
     bad : ltb (first_bad (numbers_of s)) (length (numbers_of s)) ≡ true → Placed 8 (first_bad (numbers_of s))
-    bad e = record { some = omega arith; most = omega arith; near = omega (arith, numbers_long s, ltb-true (first_bad (numbers_of s)) (length (numbers_of s)) e) }
+    bad e = record {
+      some = omega arith;
+      most = omega arith;
+      near = omega (arith, numbers_long s, ltb-true (first_bad (numbers_of s)) (length (numbers_of s)) e);
+    }
 
 -- ---- the check and the queries
 module _ (triangles : List Float) (order links : List ℕ) (boxes : List Float) (nodes : ℕ) where

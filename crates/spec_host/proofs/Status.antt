@@ -88,7 +88,8 @@ pub no_test : InPlace (first_refusal [])
 no_test = row_ends InPlace tt
 
 -- a row of tests can be encoded where its first can, and the rest can once that passed
-pub then_test : (test : Verdict) (tests : List Verdict) → InPlace test → (test ≡ passes → InPlace (first_refusal tests)) → InPlace (first_refusal (test ∷ tests))
+pub then_test : (test : Verdict) (tests : List Verdict) → InPlace test → (test ≡ passes → InPlace (first_refusal tests))
+    → InPlace (first_refusal (test ∷ tests))
 then_test = row_has InPlace tt
 
 -- ---- verdicts whose place 56 bits hold, whatever the number

@@ -42,7 +42,8 @@ module _ (s : List ℕ) (room : ℕ) where
   unfolding read_refusal size_refusal first_refusal
   cut_read = go (size_refusal s) refl
     where
-      go : (v : Verdict) → size_refusal s ≡ v → Told (saturated (first_refusal (v ∷ triangles_refusal (stl_triangles s) ∷ room_refusal room (9 * stl_count s) ∷ [])))
+      go : (v : Verdict) → size_refusal s ≡ v
+          → Told (saturated (first_refusal (v ∷ triangles_refusal (stl_triangles s) ∷ room_refusal room (9 * stl_count s) ∷ [])))
       go passes e = rw (told_whole rest rest_told) rest_told
       go (refused number place) e =
           let is = (refused_by (not (eqb (length s) (stl_size (stl_count s)))) 11 (length s) number place e).1.0 in

@@ -51,7 +51,8 @@ unfolding first_bad
 good_before [] i h = absurd (omega arith)
 good_before (x ∷ xs) i h = go (is_coordinate x) (λ t. t) i h (good_before xs)
   where
-    go : (b : Bool) → (T b → T (is_coordinate x)) → (i : ℕ) → i < cond b (suc (first_bad xs)) 0 → ((j : ℕ) → j < first_bad xs → T (is_coordinate (get_or xs j nan)))
+    go : (b : Bool) → (T b → T (is_coordinate x)) → (i : ℕ) → i < cond b (suc (first_bad xs)) 0
+        → ((j : ℕ) → j < first_bad xs → T (is_coordinate (get_or xs j nan)))
         → T (is_coordinate (get_or (x ∷ xs) i nan))
     go true here zero h rest = here tt
     go true here (suc i) h rest = rest i (omega arith)

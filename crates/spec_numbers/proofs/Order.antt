@@ -105,7 +105,8 @@ lt→not_le (inf true) (inf false) h k = k
 lt→not_le (inf true) (fin t n d) h k = k
 lt→not_le (inf false) (fin t n d) h k = h
 lt→not_le (fin s m e) (inf false) h k = k
-lt→not_le (fin s m e) (fin t n d) h k = not-le_of_lt ((compared (fin s m e) (fin t n d) tt tt).lt→less h) ((compared (fin t n d) (fin s m e) tt tt).le→at_most k)
+lt→not_le (fin s m e) (fin t n d) h k = not-le_of_lt ((compared (fin s m e) (fin t n d) tt tt).lt→less h)
+    ((compared (fin t n d) (fin s m e) tt tt).le→at_most k)
 lt→not_le nan y h k = elim h [ ]
 lt→not_le (inf false) nan h k = elim h [ ]
 lt→not_le (inf false) (inf _) h k = elim h [ ]

@@ -238,7 +238,8 @@ tree_wanted {s} {size} settings triangles =
 
 -- ---- one drawing has one image
 -- triangles that the version of the settings does not keep make record 2 the first wrong one
-pub other_count : (next : List ℕ → Wants) (s : List ℕ) → is_right 1 settings_right s 0 ≡ true → ((version_for (size_at s 14 / 36)).version ≡ little_at 2 s 6 → ⊥)
+pub other_count : (next : List ℕ → Wants) (s : List ℕ) → is_right 1 settings_right s 0 ≡ true
+    → ((version_for (size_at s 14 / 36)).version ≡ little_at 2 s 6 → ⊥)
     → laid_out (opening next) s 0 ≡ wrong 14
 other_count next s settings other = triangles_wrong next (settings_right_lem s settings) (go (is_right 2 (whole 36) s 14) refl)
   where

@@ -292,10 +292,12 @@ module _ (most : ℕ) (some : 1 ≤ most) (squared : Float) where
   unfolding is_skipped counts
   skips_first d a b k = ⊎_elim full spare (eq-or-lt_of_le k.good.1)
     where
-      full : length b ≡ most → (not (lt d squared) || above_last squared_of number_of most d a) ≡ (not (lt d squared) || above_last squared_of number_of most d b)
+      full : length b ≡ most → (not (lt d squared) || above_last squared_of number_of most d a)
+          ≡ (not (lt d squared) || above_last squared_of number_of most d b)
       full e = ap (λ (x : List Hit). not (lt d squared) || above_last squared_of number_of most d x) (filled most some first a b k e)
 
-      spare : length b < most → (not (lt d squared) || above_last squared_of number_of most d a) ≡ (not (lt d squared) || above_last squared_of number_of most d b)
+      spare : length b < most → (not (lt d squared) || above_last squared_of number_of most d a)
+          ≡ (not (lt d squared) || above_last squared_of number_of most d b)
       spare l = rw (spare_above most some first d a b k l, above_short most d b l) (or_above d)
 
   takes_first : (h : Hit) (a b : List Hit) → h.triangle < no_triangle → Alike most some first a b

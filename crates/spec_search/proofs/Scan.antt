@@ -106,6 +106,7 @@ module _ {S : Type 0} (took : ℕ → S → S) (Good : S → Type 0) (stays : (t
         at_node (skipped n s.best) (branch l r) (λ l' r' s'. in_turn (right_first l' r') (node_walk how order links d) l' r' s') n s
         (skips (branch l r) n s.best x g)
         (rw b.0
-        (in_turn_lem (right_first (left_at links n) (right_at links n)) (node_walk how order links d) (numbers l) (numbers r) (left_at links n) (right_at links n) s g
+        (in_turn_lem (right_first (left_at links n) (right_at links n)) (node_walk how order links d) (numbers l) (numbers r) (left_at links n)
+        (right_at links n) s g
         (λ s' g'. walk_scans l d (left_at links n) s' b.1.0 (omega (arith, le-max_left (levels l) (levels r))) g')
         (λ s' g'. walk_scans r d (right_at links n) s' b.1.1 (omega (arith, le-max_right (levels l) (levels r))) g')))

@@ -54,7 +54,8 @@ module _ (triangles : List Float) (order links : List ℕ) (boxes : List Float) 
   abbrev pub LeafNeeds : Type 0
   LeafNeeds = EntriesBelow (triangle_count triangles) order × (((l ≤ r) × (r ≤ length order)) × (m + (r - l) < 2 ^ 64))
 
-  leaf_needs_of : (t : Tree) → Hangs (box_at triangles) order links boxes t node → m + length (numbers t) < 2 ^ 64 → EntriesBelow (triangle_count triangles) order
+  leaf_needs_of : (t : Tree) → Hangs (box_at triangles) order links boxes t node → m + length (numbers t) < 2 ^ 64
+      → EntriesBelow (triangle_count triangles) order
       → kind ≡ 1 → LeafNeeds
   unfolding numbers
   leaf_needs_of (leaf ks) h room listed e =

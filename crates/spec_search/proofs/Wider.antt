@@ -193,7 +193,8 @@ module _ (f : Format) {rule : ℕ} {triangles : List Float} {distance : Float} (
 
     -- so triangles appended at the end, while the list still passes, leave the answer as it was or replace it by an appended triangle at a strictly
     -- smaller squared distance, or, where nothing was found, by an appended triangle
-    pub appended_stands_or_nearer : StandsOrNearer (triangle_count triangles) (triangle_count (triangles ++ behind)) (answer_of f before p) (answer_of f after p)
+    pub appended_stands_or_nearer : StandsOrNearer (triangle_count triangles) (triangle_count (triangles ++ behind)) (answer_of f before p)
+        (answer_of f after p)
     unfolding sure_answer
     appended_stands_or_nearer =
         let limit = limit_of f (rule_of rule) distance in

@@ -126,14 +126,16 @@ sure_worked binary64 = refl
 -- asked for; at 4.5 none by the first rule, and both by the second
 pub few_worked : (f : Format)
     → (few_in f 3 strictly_below (between f) (n f (pos 5)) ∷ few_in f 2 strictly_below (n f (pos 9)) (n f (pos 50))
-    ∷ few_in f 1 strictly_below (n f (pos 9)) (n f (pos 50)) ∷ few_in f 2 strictly_below (between f) (reach f) ∷ few_in f 2 below_or_equal (between f) (reach f) ∷ [])
+    ∷ few_in f 1 strictly_below (n f (pos 9)) (n f (pos 50)) ∷ few_in f 2 strictly_below (between f) (reach f) ∷ few_in f 2 below_or_equal (between f)
+    (reach f) ∷ [])
     ≡ ((found_at f 0 2 (pos 1) (level f) ∷ found_at f 1 1 (pos 10) (level f) ∷ nothing ∷ [])
     ∷ (found_at f 1 1 (pos 10) (n f (pos 1)) ∷ found_at f 0 2 (pos 1) (n f (pos 64)) ∷ nothing ∷ [])
     ∷ (found_at f 1 1 (pos 10) (n f (pos 1)) ∷ nothing ∷ nothing ∷ []) ∷ (nothing ∷ nothing ∷ nothing ∷ [])
     ∷ (found_at f 0 2 (pos 1) (level f) ∷ found_at f 1 1 (pos 10) (level f) ∷ nothing ∷ []) ∷ [])
 unfolding add sub mul div lt le eq round of_int minus plus scale dot smallest largest is_under is_finite plus_zero squared_distance union with_excess
     with_outside box_squared contains_point held_in held_squared box_of dots crossed part along face_point point_on closest_spot part_number held_spot
-    number_at point_at triangle_at box_at triangle_count range fold limit_squared counts hit inserted offered_to offered_few took_few scan_few answer_in few_answer
+    number_at point_at triangle_at box_at triangle_count range fold limit_squared counts hit inserted offered_to offered_few took_few scan_few answer_in
+    few_answer
 few_worked binary32 = refl
 few_worked binary64 = refl
 
@@ -149,7 +151,8 @@ pub walk_worked : (f : Format)
 unfolding add sub mul div lt le eq round of_int minus plus scale dot smallest largest is_under is_finite plus_zero squared_distance union with_excess
     with_outside box_squared contains_point held_in held_squared box_of dots crossed part along face_point point_on closest_spot part_number held_spot
     number_at point_at triangle_at box_at triangle_count numbers node_count joined_to joined box_over root_from links_from boxes_of range took_all node_walk
-    pair_walk root_walk fold limit_squared counts hit inserted offered_to above_last offered_few is_skipped took_few node_squared skipped_few right_nearer few_walk
+    pair_walk root_walk fold limit_squared counts hit inserted offered_to above_last offered_few is_skipped took_few node_squared skipped_few right_nearer
+    few_walk
 walk_worked binary32 = refl
 walk_worked binary64 = refl
 
@@ -233,9 +236,12 @@ asked triangles t distance e = record {
 pub queries_worked : (f : Format)
     → (told (t0 f) (one f) (n f (pos 5)) ≡ passes) × ((told (t0 f ++ t1 f) (two f) (n f (pos 5)) ≡ passes) × ((told (t1 f) (one f) (n f (pos 5)) ≡ passes)
     × ((told (t0 f) (one f) (n f (pos 50)) ≡ passes) × (told (t0 f) (one f) (n f (negsuc 4)) ≡ refused 9 0))))
-unfolding lt le eq round of_int same smallest largest is_under plus_zero union box_of number_at point_at triangle_at box_at triangle_count point_count first_refusal
-    is_coordinate is_distance first_bad ragged_refusal none_refusal too_many_refusal coordinate_refusal triangles_refusal room_refusal points_refusal distance_refusal
-    rule_refusal query_refusal numbers node_count joined_to joined box_over root_from links_from boxes_of occurs same_box present failing_from refused_where is_new
+unfolding lt le eq round of_int same smallest largest is_under plus_zero union box_of number_at point_at triangle_at box_at triangle_count point_count
+    first_refusal
+    is_coordinate is_distance first_bad ragged_refusal none_refusal too_many_refusal coordinate_refusal triangles_refusal room_refusal points_refusal
+    distance_refusal
+    rule_refusal query_refusal numbers node_count joined_to joined box_over root_from links_from boxes_of occurs same_box present failing_from refused_where
+    is_new
     order_refusal count_refusal scan_leaf Reasons.scan listing_refusal level_under is_shallow depth_refusal is_boxed box_refusal reason tree_refusal
 queries_worked binary32 = (refl, (refl, (refl, (refl, refl))))
 queries_worked binary64 = (refl, (refl, (refl, (refl, refl))))
@@ -297,8 +303,10 @@ pub source_widened : (f : Format) → (source_around f (pos 1) ∷ source_around
     ≡ (found (record { point = flat f (pos 2) (pos 2); squared = n f (pos 8); triangle = 0; part = 6 })
     ∷ found (record { point = flat f (pos 6) (pos 4); squared = n f (pos 4); triangle = 1; part = 1 }) ∷ [])
 unfolding add sub mul div lt le eq round of_int minus plus scale dot smallest largest is_under plus_zero squared_distance union with_excess with_outside
-    box_squared contains_point box_of dots crossed part along face_point point_on closest_spot part_number number_at point_at triangle_at box_at triangle_count numbers
-    node_count joined_to joined box_over root_from links_from boxes_of took_all pair_walk node_walk root_walk limit_squared source_hit keep_smaller took_source enters
+    box_squared contains_point box_of dots crossed part along face_point point_on closest_spot part_number number_at point_at triangle_at box_at
+    triangle_count numbers
+    node_count joined_to joined box_over root_from links_from boxes_of took_all pair_walk node_walk root_walk limit_squared source_hit keep_smaller
+    took_source enters
     source_walk source_answer
 source_widened binary32 = refl
 source_widened binary64 = refl

@@ -49,7 +49,8 @@ on_axis f axis bounds j b =
     bucket_for f (sym (on_by_axis (λ i. offset_on f (on i bounds.min) (on i bounds.max) (on i (centre f b))) axis) j)
 
 -- with the ends of the bounds on the axis, the bucket is the rule's
-pub bucket_on_axis : (f : Format) (axis : Axis) (bounds : Box) (lo hi : Float) → EndsOf axis bounds lo hi → bucket_between f axis lo hi ≡ bucket_of f axis bounds
+pub bucket_on_axis : (f : Format) (axis : Axis) (bounds : Box) (lo hi : Float) → EndsOf axis bounds lo hi → bucket_between f axis lo hi
+    ≡ bucket_of f axis bounds
 bucket_on_axis f axis bounds lo hi ends = rw (ends.lo_is, ends.hi_is) (on_axis f axis bounds)
 
 -- ---- the two ends, joined on the one axis

@@ -41,7 +41,8 @@ module _ (f : Format) where
     counts_put : (b : Box) (buckets : List Bucket) (n : ℕ) → CountsAtMost f buckets n → CountsAtMost f (put_box f bucket buckets b) (n + 1)
     unfolding put_box put_in with_box
     counts_put b buckets n h j =
-        stored (λ (s : Bucket). s.count ≤ n + 1) buckets (bucket b) j (with_box (bucket_at f buckets (bucket b)) b) (empty_bucket f) (omega (arith, h (bucket b)))
+        stored (λ (s : Bucket). s.count ≤ n + 1) buckets (bucket b) j (with_box (bucket_at f buckets (bucket b)) b) (empty_bucket f)
+        (omega (arith, h (bucket b)))
         (omega (arith, h j))
 
     counts_all : (bs : List Box) (buckets : List Bucket) (n : ℕ) → CountsAtMost f buckets n

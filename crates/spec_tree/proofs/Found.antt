@@ -114,7 +114,8 @@ module _ (box_at : ℕ → Box) (order links : List ℕ) (boxes : List Float) wh
       same_boxes true p h r = leaf_found most node last w.links_there w.boxes_there w.order_there k h r (same_box_lem box (node_box boxes node) p)
       same_boxes false p h r = tt
 
-      in_range : (b : Bool) → (ltb entry last && eqb (right_at links node) last) ≡ b → Says (suc most) node last (cond b (boxed boxes node node entry box) wrong)
+      in_range : (b : Bool) → (ltb entry last && eqb (right_at links node) last) ≡ b
+          → Says (suc most) node last (cond b (boxed boxes node node entry box) wrong)
       in_range true p =
           let both = both_passed (ltb entry last) (eqb (right_at links node) last) p in
           same_boxes (same_box box (node_box boxes node)) refl (ltb-true entry last both.0) (eqb-true (right_at links node) last both.1)

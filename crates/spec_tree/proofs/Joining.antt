@@ -20,7 +20,8 @@ module _ (box_at : ℕ → Box) (slice : List ℕ) where
       at (k ∷ ks) h p = rw p
 
   -- turn: the box of entry i is joined, and one entry fewer remains
-  pub joining_goes_on : (i : ℕ) (b c : Box) → i < length slice → c ≡ union b (box_at (get_or slice i 0)) → joined_to box_at b (drop i slice) ≡ joined box_at slice
+  pub joining_goes_on : (i : ℕ) (b c : Box) → i < length slice → c ≡ union b (box_at (get_or slice i 0)) → joined_to box_at b (drop i slice)
+      ≡ joined box_at slice
       → joined_to box_at c (drop (i + 1) slice) ≡ joined box_at slice
   unfolding joined_to
   joining_goes_on i b c h p q = rw (p, add-one i) (rw (drop-cons slice i 0 h) at q)

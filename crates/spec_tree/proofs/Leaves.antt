@@ -119,7 +119,8 @@ module _ (k : ℕ) where
   slices_one (slice ∷ slices) d h = at (occurs k slice) refl (slices_one slices (distinct_behind slice (flatten slices) d))
       (sym (occurs_append k slice (flatten slices)) ∙ h)
     where
-      at : (b : Bool) → occurs k slice ≡ b → (occurs k (flatten slices) ≡ true → slices_with k slices ≡ 1) → (occurs k slice || occurs k (flatten slices)) ≡ true
+      at : (b : Bool) → occurs k slice ≡ b → (occurs k (flatten slices) ≡ true → slices_with k slices ≡ 1) → (occurs k slice || occurs k (flatten slices))
+          ≡ true
           → one_if (occurs k slice) + slices_with k slices ≡ 1
       at true p rest q = rw (p, slices_none slices (not_behind slice (flatten slices) d p))
       at false p rest q = rw (p, rest (rw p at q))
@@ -217,7 +218,8 @@ module _ (box_at : ℕ → Box) (n : ℕ) (order links : List ℕ) (boxes : List
   -- past the last there is nothing
   leaf_none : (k : ℕ) → leaf_count links nodes ≤ k → leaf_from links boxes nodes 0 k ≡ nothing
   leaf_none k h =
-      leaf_is k ∙ kth_none (leaves_from box_at 0 0 t) k (omega (arith, count_read, ap length slices_read, length-map (leaves_from box_at 0 0 t) (slice_of order)))
+      leaf_is k ∙ kth_none (leaves_from box_at 0 0 t) k
+      (omega (arith, count_read, ap length slices_read, length-map (leaves_from box_at 0 0 t) (slice_of order)))
 
   -- up to the last, it has the k-th leaf's slice, and the box that its triangles give it
   leaf_some : (k : ℕ) → k < leaf_count links nodes → TheLeaf box_at order (leaf_from links boxes nodes 0 k) (get_or (leaves t) k [])
@@ -356,6 +358,7 @@ module _ (triangles : List Float) (order links : List ℕ) (boxes : List Float) 
   unfolding count_answer
   counted_there n = at (check_refusal triangles order links boxes nodes) refl
     where
-      at : (v : Verdict) → check_refusal triangles order links boxes nodes ≡ v → counted_if v (leaf_count links nodes) ≡ counted n → NodesThere links boxes nodes
+      at : (v : Verdict) → check_refusal triangles order links boxes nodes ≡ v → counted_if v (leaf_count links nodes) ≡ counted n
+          → NodesThere links boxes nodes
       at passes p q = passed_there triangles order links boxes nodes p
       at (refused number place) p q = absurd (let z : ◌≡◌ {A = ℕ} 0 1 = cc in omega arith)

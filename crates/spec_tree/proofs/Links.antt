@@ -41,7 +41,8 @@ module _ (links : List ℕ) where
   unfolding root_from links_from
   branch_links first start l r s =
       let mid : ℕ = first + node_count l in
-      let three = three_stand 0 links (links_from first start l) (links_from mid (start + length (numbers l)) r) _ (3 * first) (3 * mid) (3 * (mid + node_count r))
+      let three = three_stand 0 links (links_from first start l) (links_from mid (start + length (numbers l)) r) _ (3 * first) (3 * mid)
+      (3 * (mid + node_count r))
       (omega (arith, links_length first start l)) (omega (arith, links_length mid (start + length (numbers l)) r)) s in
       record {
         left = three.0;

@@ -177,7 +177,8 @@ module _ (n : ℕ) (links : List ℕ) where
                 within = omega (arith, told.1.1);
               }
           go false true p q e =
-              let outer = both_passed (ltb 0 node && eqb (right_at links node + 1) node) (eqb (left_at links node + 1) (first_of links (node - 1) (node - 1))) e in
+              let outer = both_passed (ltb 0 node && eqb (right_at links node + 1) node) (eqb (left_at links node + 1) (first_of links (node - 1) (node - 1)))
+              e in
               let inner = both_passed (ltb 0 node) (eqb (right_at links node + 1) node) outer.0 in
               let within = first_within s.roots (standing nodes there node entry s h).1 (ltb-true 0 node inner.0) in
               inr record {

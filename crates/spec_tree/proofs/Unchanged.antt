@@ -39,12 +39,14 @@ module _ (box_at : ℕ → Box) (n : ℕ) (order links : List ℕ) (boxes : List
 -- ---- over the lists of a call
 module _ (triangles : List Float) (order links : List ℕ) (boxes : List Float) (nodes : ℕ) where
   -- what the tree check says yes to is not refused
-  pub tree_passes : accepted (box_at triangles) (triangle_count triangles) order links boxes nodes ≡ true → tree_refusal triangles order links boxes nodes ≡ passes
+  pub tree_passes : accepted (box_at triangles) (triangle_count triangles) order links boxes nodes ≡ true → tree_refusal triangles order links boxes nodes
+      ≡ passes
   unfolding tree_refusal
   tree_passes = accepted_unrefused (box_at triangles) (triangle_count triangles) order links boxes nodes
 
   -- what is not refused is what the tree check says yes to
-  pub tree_passed : tree_refusal triangles order links boxes nodes ≡ passes → accepted (box_at triangles) (triangle_count triangles) order links boxes nodes ≡ true
+  pub tree_passed : tree_refusal triangles order links boxes nodes ≡ passes → accepted (box_at triangles) (triangle_count triangles) order links boxes nodes
+      ≡ true
   unfolding tree_refusal
   tree_passed = unrefused_accepted (box_at triangles) (triangle_count triangles) order links boxes nodes
 

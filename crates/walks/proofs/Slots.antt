@@ -261,7 +261,8 @@ module _ (h : Hit) (best : List Float) (which : List ℕ) where
 
       -- end: the hit does not go before the next, and is put here
       pub moving_ends : (next : List Float) (next' : List ℕ) → j + 1 < most_of which → before squared_of number_of h (slot_at now now' (j + 1)) ≡ false
-          → PutAt now now' j h next next' → Holds Held next next' (most_of which) (take (most_of which) (inserted squared_of number_of h (places_of best which)))
+          → PutAt now now' j h next next'
+          → Holds Held next next' (most_of which) (take (most_of which) (inserted squared_of number_of h (places_of best which)))
       moving_ends next next' more behind put =
           ends next next' put
           (ap (inserted squared_of number_of h) (next_lowest more)
@@ -272,7 +273,8 @@ module _ (h : Hit) (best : List Float) (which : List ℕ) where
 
       -- end: no place is nearer, so the hit is put here
       pub moving_ends_nearest : (next : List Float) (next' : List ℕ) → most_of which ≤ j + 1
-          → PutAt now now' j h next next' → Holds Held next next' (most_of which) (take (most_of which) (inserted squared_of number_of h (places_of best which)))
+          → PutAt now now' j h next next'
+          → Holds Held next next' (most_of which) (take (most_of which) (inserted squared_of number_of h (places_of best which)))
       unfolding inserted slots_from
       moving_ends_nearest next next' last put =
           ends next next' put

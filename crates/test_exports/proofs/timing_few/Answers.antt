@@ -5,4 +5,7 @@ use Rattle.test_exports.proofs.timing_few.Goals as goal
 
 pub returns : goal.returns
 returns c =
-    record { passed = c.one_passed.ensures ∙ ap one_passed c.few_query-verdict.ensures.verdict; answers = rw c.few_query-verdict.ensures.verdict at c.few_query-verdict.ensures.answers }
+    record {
+      passed = c.one_passed.ensures ∙ ap one_passed c.few_query-verdict.ensures.verdict;
+      answers = rw c.few_query-verdict.ensures.verdict at c.few_query-verdict.ensures.answers;
+    }

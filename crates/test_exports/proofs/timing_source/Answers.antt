@@ -5,4 +5,7 @@ use Rattle.test_exports.proofs.timing_source.Goals as goal
 
 pub returns : goal.returns
 returns c =
-    record { passed = c.one_passed.ensures ∙ ap one_passed c.source_query-verdict.ensures.verdict; answers = rw c.source_query-verdict.ensures.verdict at c.source_query-verdict.ensures.answers }
+    record {
+      passed = c.one_passed.ensures ∙ ap one_passed c.source_query-verdict.ensures.verdict;
+      answers = rw c.source_query-verdict.ensures.verdict at c.source_query-verdict.ensures.answers;
+    }

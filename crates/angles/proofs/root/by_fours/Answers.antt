@@ -27,4 +27,5 @@ pub overflow_shl-result : goal.overflow_shl-result
 overflow_shl-result c = omega (arith, spare_of c.args.significand c.requires.0 c.requires.1)
 
 pub returns : goal.returns
-returns c = split_of c.args.significand c.args.power (count_leading_zeros 32 c.args.significand) (spare_of c.args.significand c.requires.0 c.requires.1) c.requires.2 c.requires.3
+returns c = split_of c.args.significand c.args.power (count_leading_zeros 32 c.args.significand) (spare_of c.args.significand c.requires.0 c.requires.1)
+    c.requires.2 c.requires.3

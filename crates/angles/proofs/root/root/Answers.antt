@@ -39,8 +39,11 @@ float_to_bits-x c = unsigned_is_number c.args.x (unsigned_of c.args.x (passed c.
 pub scaled-s-requires : goal.scaled-s-requires
 unfolding of_bits
 scaled-s-requires c =
-    let x = c.args.x in
-    (above_zero x (passed c.well_formed.0.1) (failed c.if-x.false), unsigned_bits x (passed c.well_formed.0.1) (unsigned_of c.args.x (passed c.well_formed.0.1) c.requires (failed c.if-x.false)))
+    let x = c.args.x in (
+      above_zero x (passed c.well_formed.0.1) (failed c.if-x.false),
+      unsigned_bits x (passed c.well_formed.0.1)
+          (unsigned_of c.args.x (passed c.well_formed.0.1) c.requires (failed c.if-x.false)),
+    )
 
 pub overflow_cast-result : goal.overflow_cast-result
 overflow_cast-result c = omega (arith, near _ _ _ _ c.scaled-s.ensures c.nearest_root-r.ensures)

@@ -6,7 +6,11 @@ use Rattle.spec_angles.proofs.Windings.{as_it_was, room_for_all, is_written}
 use Rattle.angles.proofs.winding.winding.Goals as goal
 
 pub returns-then-refuses : goal.returns-then-refuses
-returns-then-refuses c = record { verdict = c.winding_refusal-verdict.ensures; windings = as_it_was _ _ _ binary32 _ c.winding_refusal-verdict.ensures (sym c.refuses.ensures ∙ c.if-refuses.true) }
+returns-then-refuses c =
+    record {
+      verdict = c.winding_refusal-verdict.ensures;
+      windings = as_it_was _ _ _ binary32 _ c.winding_refusal-verdict.ensures (sym c.refuses.ensures ∙ c.if-refuses.true);
+    }
 
 pub write_windings-requires : goal.write_windings-requires
 write_windings-requires c =

@@ -7,7 +7,10 @@ use Rattle.dipoles.proofs.calls.fast_winding.Goals as goal
 
 pub returns-then-refuses : goal.returns-then-refuses
 returns-then-refuses c =
-    record { verdict = c.fast_refusal-verdict.ensures; windings = fast_as_it_was _ _ _ _ _ _ _ _ _ binary32 _ c.fast_refusal-verdict.ensures (sym c.refuses.ensures ∙ c.if-refuses.true) }
+    record {
+      verdict = c.fast_refusal-verdict.ensures;
+      windings = fast_as_it_was _ _ _ _ _ _ _ _ _ binary32 _ c.fast_refusal-verdict.ensures (sym c.refuses.ensures ∙ c.if-refuses.true);
+    }
 
 pub write_windings-requires : goal.write_windings-requires
 write_windings-requires c =

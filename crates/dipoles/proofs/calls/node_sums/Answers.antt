@@ -8,7 +8,10 @@ use Rattle.dipoles.proofs.calls.node_sums.Goals as goal
 
 pub returns-then-refuses : goal.returns-then-refuses
 returns-then-refuses c =
-    record { verdict = c.sums_refusal-verdict.ensures; sums = sums_refused _ _ _ _ _ _ binary32 _ c.sums_refusal-verdict.ensures (sym c.refuses.ensures ∙ c.if-refuses.true) }
+    record {
+      verdict = c.sums_refusal-verdict.ensures;
+      sums = sums_refused _ _ _ _ _ _ binary32 _ c.sums_refusal-verdict.ensures (sym c.refuses.ensures ∙ c.if-refuses.true);
+    }
 
 pub store_sums-requires : goal.store_sums-requires
 store_sums-requires c =
@@ -18,7 +21,10 @@ store_sums-requires c =
 pub make_dipoles-requires : goal.make_dipoles-requires
 make_dipoles-requires c =
     let lent = c.args.sums.now in
-    let pass = did_pass _ _ _ c.sums_refusal-verdict.ensures c.refuses.ensures c.if-refuses.false in record { boxed = sums_boxed _ _ _ _ _ lent pass; room = omega (arith, sums_room _ _ _ _ _ lent pass, sums_between _ _ _ _ _ lent pass binary32 _ c.store_sums.ensures) }
+    let pass = did_pass _ _ _ c.sums_refusal-verdict.ensures c.refuses.ensures c.if-refuses.false in record {
+      boxed = sums_boxed _ _ _ _ _ lent pass;
+      room = omega (arith, sums_room _ _ _ _ _ lent pass, sums_between _ _ _ _ _ lent pass binary32 _ c.store_sums.ensures);
+    }
 
 pub returns : goal.returns
 returns c =

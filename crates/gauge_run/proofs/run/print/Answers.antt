@@ -11,7 +11,10 @@ returns-then-input-gt32768 c =
 
 pub print_sized-requires : goal.print_sized-requires
 print_sized-requires c =
-    record { ruled_value = (gauge_long _ _ _ _ (sym c.gauge_layout.ensures ∙ ap gauge_laid c.in-Right.is), c.if-input-gt32768.false); max_printed_in_bounds = c.requires }
+    record {
+      ruled_value = (gauge_long _ _ _ _ (sym c.gauge_layout.ensures ∙ ap gauge_laid c.in-Right.is), c.if-input-gt32768.false);
+      max_printed_in_bounds = c.requires;
+    }
 
 pub returns-in-Wrong : goal.returns-in-Wrong
 returns-in-Wrong c =

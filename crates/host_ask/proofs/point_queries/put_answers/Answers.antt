@@ -12,11 +12,23 @@ use Rattle.host_ask.proofs.point_queries.put_answers.Goals as goal
 
 pub put_few-requires : goal.put_few-requires
 put_few-requires c =
-    record { searchable = c.requires.searchable; good_points = c.requires.good_points; points_in_bounds = rw c.in-Sure.is at c.requires.points_in_bounds; good_distance = c.requires.good_distance; le_most = (omega arith, omega arith) }
+    record {
+      searchable = c.requires.searchable;
+      good_points = c.requires.good_points;
+      points_in_bounds = rw c.in-Sure.is at c.requires.points_in_bounds;
+      good_distance = c.requires.good_distance;
+      le_most = (omega arith, omega arith);
+    }
 
 pub put_few-requires-in-Few : goal.put_few-requires-in-Few
 put_few-requires-in-Few c =
-    rw c.wide.ensures (record { searchable = c.requires.searchable; good_points = c.requires.good_points; points_in_bounds = rw c.in-Few.is at c.requires.points_in_bounds; good_distance = c.requires.good_distance; le_most = rw c.in-Few.is at c.requires.bound })
+    rw c.wide.ensures (record {
+      searchable = c.requires.searchable;
+      good_points = c.requires.good_points;
+      points_in_bounds = rw c.in-Few.is at c.requires.points_in_bounds;
+      good_distance = c.requires.good_distance;
+      le_most = rw c.in-Few.is at c.requires.bound;
+    })
 
 pub put_source-requires : goal.put_source-requires
 put_source-requires c =

@@ -68,7 +68,10 @@ put_places_bytes-requires c =
     let a = c.args in
     let room = answers_room a.most (few_answer binary32 (rule_of a.rule) a.most a.triangles.now a.distance) a.points.now a.answers.now
     _ _ _ c.requires.points_in_bounds c.loop-k-test.true c.loop-k.invariant.0 in
-    let most_is = c.few_at.ensures.most_is in record { which_bound = subst (λ (n : ℕ). n ≤ 16) (sym most_is) c.requires.le_most.1; which_in_bounds = subst (λ (n : ℕ). (answer_size * a.most) * c.loop-k.k + answer_size * n ≤ length c.loop-k.answers) (sym most_is) room }
+    let most_is = c.few_at.ensures.most_is in record {
+      which_bound = subst (λ (n : ℕ). n ≤ 16) (sym most_is) c.requires.le_most.1;
+      which_in_bounds = subst (λ (n : ℕ). (answer_size * a.most) * c.loop-k.k + answer_size * n ≤ length c.loop-k.answers) (sym most_is) room;
+    }
 
 pub overflow_add-k : goal.overflow_add-k
 overflow_add-k c =

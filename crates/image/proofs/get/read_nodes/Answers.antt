@@ -42,4 +42,7 @@ pub returns : goal.returns
 returns c =
     let a = c.args in
     let sh = shape_by a.wide in
-    let v = c.loop-i.invariant in record { links_after = run_end (links_in sh a.bytes.now a.start) 0 a.nodes a.links.now _ c.loop-i.i c.loop-i-test.false v.0; boxes_after = run_end (sides_in sh a.bytes.now a.start) 0 a.nodes a.boxes.now _ c.loop-i.i c.loop-i-test.false v.1 }
+    let v = c.loop-i.invariant in record {
+      links_after = run_end (links_in sh a.bytes.now a.start) 0 a.nodes a.links.now _ c.loop-i.i c.loop-i-test.false v.0;
+      boxes_after = run_end (sides_in sh a.bytes.now a.start) 0 a.nodes a.boxes.now _ c.loop-i.i c.loop-i-test.false v.1;
+    }

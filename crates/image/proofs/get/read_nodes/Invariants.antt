@@ -7,7 +7,8 @@ use Rattle.image.proofs.get.read_nodes.Given as goal
 
 abbrev pub invariant-loop-i : goal.invariant-loop-i
 invariant-loop-i l =
-    Run (links_in (shape_by l.wide) l.bytes l.start) 0 l.nodes l.initial.links l.links l.i × Run (sides_in (shape_by l.wide) l.bytes l.start) 0 l.nodes l.initial.boxes l.boxes l.i
+    Run (links_in (shape_by l.wide) l.bytes l.start) 0 l.nodes l.initial.links l.links l.i
+    × Run (sides_in (shape_by l.wide) l.bytes l.start) 0 l.nodes l.initial.boxes l.boxes l.i
 
 abbrev pub decreases-loop-i : goal.decreases-loop-i
 decreases-loop-i l = l.nodes - l.i

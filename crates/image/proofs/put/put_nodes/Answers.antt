@@ -32,4 +32,7 @@ pub returns : goal.returns
 returns c =
     let a = c.args in
     let sh = shape_by a.wide in
-    record { put = (puts_end (node_bytes sh a.links.now a.boxes.now) (node_size sh) a.at a.nodes c.loop-i-test.false c.loop-i.invariant).0; value = (puts_end (node_bytes sh a.links.now a.boxes.now) (node_size sh) a.at a.nodes c.loop-i-test.false c.loop-i.invariant).1 }
+    record {
+      put = (puts_end (node_bytes sh a.links.now a.boxes.now) (node_size sh) a.at a.nodes c.loop-i-test.false c.loop-i.invariant).0;
+      value = (puts_end (node_bytes sh a.links.now a.boxes.now) (node_size sh) a.at a.nodes c.loop-i-test.false c.loop-i.invariant).1;
+    }

@@ -17,4 +17,7 @@ pub returns : goal.returns
 returns c =
     let order = c.args.order.now in
     let entry = (shape_by c.args.wide).entry in
-    let header = rw c.order_size.ensures at c.put_header-body.ensures.put in record { put = record_put 3 (entry * length order) (length_numbers entry order 0 (length order)) header c.put_entries.ensures.put; value = omega arith }
+    let header = rw c.order_size.ensures at c.put_header-body.ensures.put in record {
+      put = record_put 3 (entry * length order) (length_numbers entry order 0 (length order)) header c.put_entries.ensures.put;
+      value = omega arith;
+    }

@@ -30,10 +30,12 @@ pub loop-node-preserved : goal.loop-node-preserved
 loop-node-preserved c =
     elim c.if-kind_at-eq1.branch [
       | then-kind_at-eq1+else-remaining-eq0 w ↦
-          ap (leaf_from _ _ _ _) w.remaining-is ∙ seek_past _ _ _ _ c.loop-node-test.true _ (sym c.kind_at.ensures ∙ w.if-kind_at-eq1.true) w.if-remaining-eq0.false
+          ap (leaf_from _ _ _ _) w.remaining-is
+          ∙ seek_past _ _ _ _ c.loop-node-test.true _ (sym c.kind_at.ensures ∙ w.if-kind_at-eq1.true) w.if-remaining-eq0.false
           ∙ c.loop-node.invariant
       | else-kind_at-eq1 w ↦
-          ap (leaf_from _ _ _ _) w.remaining-is ∙ seek_on _ _ _ _ c.loop-node-test.true _ (λ p. w.if-kind_at-eq1.false (c.kind_at.ensures ∙ p)) ∙ c.loop-node.invariant
+          ap (leaf_from _ _ _ _) w.remaining-is ∙ seek_on _ _ _ _ c.loop-node-test.true _ (λ p. w.if-kind_at-eq1.false (c.kind_at.ensures ∙ p))
+          ∙ c.loop-node.invariant
     ]
 
 pub returns : goal.returns

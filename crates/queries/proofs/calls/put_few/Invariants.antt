@@ -10,7 +10,8 @@ use Rattle.queries.proofs.calls.put_few.Given as goal
 
 abbrev pub invariant-loop-k : goal.invariant-loop-k
 invariant-loop-k l =
-    Answered binary32 l.most (few_answer binary32 (rule_of l.rule) l.most l.triangles l.distance) l.points l.initial.answers l.count l.answers l.k × Lent l.best l.which
+    Answered binary32 l.most (few_answer binary32 (rule_of l.rule) l.most l.triangles l.distance) l.points l.initial.answers l.count l.answers l.k
+    × Lent l.best l.which
 
 abbrev pub decreases-loop-k : goal.decreases-loop-k
 decreases-loop-k l = l.count - l.k

@@ -7,7 +7,8 @@ use Rattle.queries.proofs.calls.put_source.Given as goal
 
 abbrev pub invariant-loop-k : goal.invariant-loop-k
 invariant-loop-k l =
-    Answered binary32 1 (λ p j. source_answer binary32 l.triangles l.order l.links l.boxes l.nodes l.distance p) l.points l.initial.answers l.count l.answers l.k
+    Answered binary32 1 (λ p j. source_answer binary32 l.triangles l.order l.links l.boxes l.nodes l.distance p) l.points l.initial.answers l.count l.answers
+    l.k
 
 abbrev pub decreases-loop-k : goal.decreases-loop-k
 decreases-loop-k l = l.count - l.k

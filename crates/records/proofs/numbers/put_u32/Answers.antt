@@ -5,4 +5,7 @@ use Rattle.records.proofs.numbers.put_u32.Goals as goal
 
 pub returns : goal.returns
 returns c =
-    record { put = four_put c.args.n c.put_u16-middle.ensures.put c.put_u16.ensures.put; value = omega (arith, c.put_u16-middle.ensures.value, c.put_u16.ensures.value) }
+    record {
+      put = four_put c.args.n c.put_u16-middle.ensures.put c.put_u16.ensures.put;
+      value = omega (arith, c.put_u16-middle.ensures.value, c.put_u16.ensures.value);
+    }

@@ -24,4 +24,7 @@ pub returns : goal.returns
 returns c =
     let a = c.args in
     let v : c.wide.result + 256 * c.wide-2.result ≡ get_or a.bytes.now a.at 0 + 256 * get_or a.bytes.now (a.at + 1) 0 =
-    omega (arith, c.wide-2.ensures, c.wide.ensures) in record { value = omega (arith, two_at a.bytes.now a.at c.requires); upper_bound = omega (arith, v, c.shared_slice_known-3-1.given (a.at + 1), c.shared_slice_known-1.given a.at) }
+    omega (arith, c.wide-2.ensures, c.wide.ensures) in record {
+      value = omega (arith, two_at a.bytes.now a.at c.requires);
+      upper_bound = omega (arith, v, c.shared_slice_known-3-1.given (a.at + 1), c.shared_slice_known-1.given a.at);
+    }

@@ -12,7 +12,10 @@ use Rattle.splits.proofs.area.area_split.Goals as goal
 pub costs_of-requires : goal.costs_of-requires
 costs_of-requires c =
     let args = c.args in
-    rw c.fill-buckets.ensures (record { are_small = filled_small binary32 _ (boxes_in args.bounds.now args.slice.now) (rw length-map c.requires.slice_len_bound); are_plain = filled_plain binary32 _ (box_in args.bounds.now) args.slice.now c.requires.boxed.plain })
+    rw c.fill-buckets.ensures (record {
+      are_small = filled_small binary32 _ (boxes_in args.bounds.now args.slice.now) (rw length-map c.requires.slice_len_bound);
+      are_plain = filled_plain binary32 _ (box_in args.bounds.now) args.slice.now c.requires.boxed.plain;
+    })
 
 pub returns : goal.returns
 unfolding area_split

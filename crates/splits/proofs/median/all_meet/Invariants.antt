@@ -7,7 +7,8 @@ use Rattle.spec_splits.specs.Median.{all_meet}
 use Rattle.splits.proofs.median.all_meet.Given as goal
 
 abbrev pub invariant-loop-i : goal.invariant-loop-i
-invariant-loop-i l = all_meet binary32 (as_plane l.plane) (boxes_in l.bounds (drop l.i l.slice)) ≡ all_meet binary32 (as_plane l.plane) (boxes_in l.bounds l.slice)
+invariant-loop-i l = all_meet binary32 (as_plane l.plane) (boxes_in l.bounds (drop l.i l.slice))
+    ≡ all_meet binary32 (as_plane l.plane) (boxes_in l.bounds l.slice)
 
 abbrev pub decreases-loop-i : goal.decreases-loop-i
 decreases-loop-i l = length l.slice - l.i

@@ -13,7 +13,10 @@ is_large-requires c =
     let args = c.args in
     let pre = c.requires in
     let inside = pre.cut_in_bounds in
-    record { slice_nonzero = simp length-take (omega arith); all_in_table = in_table_before args.bounds.now args.slice.now pre.all_in_table args.cut (omega arith) }
+    record {
+      slice_nonzero = simp length-take (omega arith);
+      all_in_table = in_table_before args.bounds.now args.slice.now pre.all_in_table args.cut (omega arith);
+    }
 
 pub is_large-requires-then-is_large : goal.is_large-requires-then-is_large
 is_large-requires-then-is_large c =

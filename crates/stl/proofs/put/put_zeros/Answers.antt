@@ -17,4 +17,7 @@ shape_of-out c = c.loop-i.invariant.long
 
 pub returns : goal.returns
 returns c =
-    record { put = (zeros_end _ _ _ _ _ c.requires c.loop-i-test.false c.loop-i.invariant).0; value = (zeros_end _ _ _ _ _ c.requires c.loop-i-test.false c.loop-i.invariant).1 }
+    record {
+      put = (zeros_end _ _ _ _ _ c.requires c.loop-i-test.false c.loop-i.invariant).0;
+      value = (zeros_end _ _ _ _ _ c.requires c.loop-i-test.false c.loop-i.invariant).1;
+    }

@@ -14,7 +14,10 @@ loop-node-init c = (omega arith, (Scanning.scanned_start _ _, refl))
 
 pub goes_on-requires : goal.goes_on-requires
 goes_on-requires c =
-    record { there = omega (arith, c.requires.links_there, c.loop-node-test.true); before = Scanning.scanned_falls _ _ _ c.requires.links_there c.loop-node.node c.loop-node.entry c.loop-node.invariant.1.0 c.loop-node.invariant.0 }
+    record {
+      there = omega (arith, c.requires.links_there, c.loop-node-test.true);
+      before = Scanning.scanned_falls _ _ _ c.requires.links_there c.loop-node.node c.loop-node.entry c.loop-node.invariant.1.0 c.loop-node.invariant.0;
+    }
 
 pub returns-then-not-goes_on : goal.returns-then-not-goes_on
 unfolding first_refusal

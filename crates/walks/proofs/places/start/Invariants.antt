@@ -8,7 +8,8 @@ use Rattle.walks.proofs.places.start.Given as goal
 
 abbrev pub invariant-loop-j : goal.invariant-loop-j
 invariant-loop-j l =
-    (Lent l.best l.which × ((most_of l.which ≡ l.most) × (as_hit l.marker ≡ marker l.squared))) × ((l.j ≤ l.most) × ((i : ℕ) → i < l.j → slot_at l.best l.which i ≡ marker l.squared))
+    (Lent l.best l.which × ((most_of l.which ≡ l.most) × (as_hit l.marker ≡ marker l.squared)))
+    × ((l.j ≤ l.most) × ((i : ℕ) → i < l.j → slot_at l.best l.which i ≡ marker l.squared))
 
 abbrev pub decreases-loop-j : goal.decreases-loop-j
 decreases-loop-j l = l.most - l.j

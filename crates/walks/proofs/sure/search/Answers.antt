@@ -23,7 +23,11 @@ node_squared-squared-requires c =
 
 pub node_walk-requires : goal.node_walk-requires
 node_walk-requires c =
-    let most = c.requires.le_most in record { node_safe = root_safe _ _ _ _ _ c.requires.searchable; squared_value = c.node_squared-squared.ensures; sound = start_sound _ _ _ _ (less_number _ (inf false) c.requires.false_value) most.0 most.1 c.start.ensures }
+    let most = c.requires.le_most in record {
+      node_safe = root_safe _ _ _ _ _ c.requires.searchable;
+      squared_value = c.node_squared-squared.ensures;
+      sound = start_sound _ _ _ _ (less_number _ (inf false) c.requires.false_value) most.0 most.1 c.start.ensures;
+    }
 
 pub returns : goal.returns
 unfolding marked_walk
