@@ -1,6 +1,5 @@
 // The leaf reader: a struct that lends a caller a leaf's slice of the order list, and functions over it.
-// The borrow checker covers no function over a struct that holds a reference, so each is proved by hand, and plain functions do the work.
-// Who calls `entry_of`, which takes a slice and numbers, needs no proof by hand.
+// Plain functions do the work; `entry_of` takes a slice and numbers.
 ghost use Rattle.std.specs.Prelude.{◌≡◌, ◌-◌, min, length};
 ghost use Rattle.spec_tables.specs.Tables as Tables;
 ghost use Rattle.spec_tree.specs.Leaves as Leaves;
