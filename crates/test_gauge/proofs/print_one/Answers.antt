@@ -19,4 +19,4 @@ pub slice_bounds-out-end : goal.slice_bounds-out-end
 slice_bounds-out-end c = rw (put_long c.print-size.ensures) c.print-size.ensures.within
 
 pub slice_bounds-write_all-end : goal.slice_bounds-write_all-end
-slice_bounds-write_all-end c = sym (length-take-le _ _ (array-share-prefix-out c))
+slice_bounds-write_all-end c = sym (length-take-le _ _ (rw (put_long c.print-size.ensures) c.print-size.ensures.within))
