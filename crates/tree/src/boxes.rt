@@ -9,7 +9,7 @@ ghost use Rattle.spec_tree.specs.Reasons as Reasons;
 ghost use Rattle.spec_tree.specs.Trees as Trees;
 ghost use Rattle.tree.specs.Needs as Needs;
 
-use crate::nodes::{kind_at, left_at, node_box, right_at, wide};
+use crate::nodes::{kind_at, left_at, node_box, right_at};
 use floats::same;
 use lists::drawing::Drawing;
 use lists::reading::box_at;
@@ -22,9 +22,9 @@ pub fn joined(triangles: &[f32], slice: &[u32]) -> Box3
     requires numbered { Order.EntriesBelow (Reading.triangle_count triangles.now) slice.now }
     ensures { Shapes.as_box result ≡ Trees.joined (Reading.box_at triangles.now) slice.now }
 {
-    let mut over = box_at(triangles, wide(slice[0]));
+    let mut over = box_at(triangles, slice[0] as usize);
     for t in &slice[1..] {
-        over = over.union_box(box_at(triangles, wide(*t)));
+        over = over.union_box(box_at(triangles, *t as usize));
     }
     over
 }

@@ -5,7 +5,6 @@ ghost use Rattle.spec_lists.specs.Limits as Limits;
 ghost use Rattle.spec_tree.specs.Order as Order;
 ghost use Rattle.spec_tree.specs.Reasons as Reasons;
 
-use crate::nodes::wide;
 use lists::limits;
 use lists::refusal::{Refusal, refused_if};
 
@@ -20,7 +19,7 @@ fn mark_all(n: usize, order: &[u32], seen: &mut [bool]) -> usize
     ensures { result ≡ Reasons.first_failing (Reasons.is_new n order.now) (length order.now) }
 {
     for (i, entry) in order.iter().enumerate() {
-        let k = wide(*entry);
+        let k = *entry as usize;
         if k >= n {
             return i;
         }

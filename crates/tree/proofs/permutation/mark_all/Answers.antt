@@ -13,7 +13,7 @@ shape_of-seen-then-k-n c = c.loop-i.invariant.1
 
 pub returns-then-k-n : goal.returns-then-k-n
 returns-then-k-n c =
-    sym (marked_large _ _ _ c.loop-i.i c.loop-i.invariant.0 c.loop-i-test.true _ c.wide-k.ensures c.if-k-n.true)
+    sym (marked_large _ _ _ c.loop-i.i c.loop-i.invariant.0 c.loop-i-test.true _ refl c.if-k-n.true)
 
 pub bounds-seen-k : goal.bounds-seen-k
 bounds-seen-k c =
@@ -25,7 +25,7 @@ shape_of-seen-then-seen-k c =
 
 pub returns-then-seen-k : goal.returns-then-seen-k
 returns-then-seen-k c =
-    sym (marked_twice _ _ _ c.loop-i.i c.loop-i.invariant.0 c.loop-i-test.true _ c.wide-k.ensures c.if-k-n.false
+    sym (marked_twice _ _ _ c.loop-i.i c.loop-i.invariant.0 c.loop-i-test.true _ refl c.if-k-n.false
     c.if-seen-k.true)
 
 pub bounds-seen-k-in-loop-i : goal.bounds-seen-k-in-loop-i
@@ -34,7 +34,7 @@ bounds-seen-k-in-loop-i c =
 
 pub loop-i-preserved : goal.loop-i-preserved
 loop-i-preserved c = (
-  marked_more _ _ _ c.loop-i.i c.loop-i.invariant.0 c.loop-i-test.true _ c.wide-k.ensures c.if-k-n.false c.if-seen-k.false,
+  marked_more _ _ _ c.loop-i.i c.loop-i.invariant.0 c.loop-i-test.true _ refl c.if-k-n.false c.if-seen-k.false,
   simp length-set c.loop-i.invariant.1,
 )
 
