@@ -2,6 +2,7 @@
 use mathlib.Core.Path.{refl, sym, ap, ◌∙◌}
 use Prim.Native.Nat.{◌-◌}
 use native.Mathlib.Omega.{arith}
+use Rattle.spec_tree.specs.Leaves as Leaves
 use Rattle.spec_tree.specs.Leaves.{leaf_from}
 use Rattle.spec_tree.proofs.Seeking.{seek_here, seek_past, seek_on, seek_ends}
 use Rattle.leaves.proofs.calls.leaf_from.Goals as goal
@@ -19,7 +20,7 @@ leaf_at-requires c =
 
 pub returns-then-remaining-eq0 : goal.returns-then-remaining-eq0
 returns-then-remaining-eq0 c =
-    c.leaf_at.ensures
+    ap Leaves.found c.leaf_at.ensures
     ∙ sym (seek_here _ _ _ _ c.loop-node-test.true _ (sym c.kind_at.ensures ∙ c.if-kind_at-eq1.true) c.if-remaining-eq0.true)
     ∙ c.loop-node.invariant
 
