@@ -3,15 +3,26 @@
 ghost use Rattle.std.specs.Prelude.{◌≡◌};
 ghost use Rattle.spec_records.specs.Records.{laid_out};
 ghost use Rattle.spec_records.specs.Layouts.{image_wants, gauge_wants};
+ghost use Rattle.lists.specs.declared.refusal.Refusal.TheVariants.{BadLayout};
 ghost use Rattle.records.specs.Values.{opening_of, TreeNext, image_laid, gauge_laid};
 
 use crate::bodies::{has_body, has_settings, triangles_body, whole_body};
 use crate::versions::{is_wide, node_size, order_size};
+use lists::refusal::Refusal;
 
 // The offset of the first wrong record.
 #[derive(Clone, Copy)]
 pub struct WrongRecord {
     pub at: usize,
+}
+
+// A call that refuses its input for that tells the offset.
+impl From<WrongRecord> for Refusal {
+    ghost from_gives = { λ wrong refusal. refusal ≡ BadLayout wrong.at };
+
+    fn from(wrong: WrongRecord) -> Refusal {
+        Refusal::BadLayout(wrong.at)
+    }
 }
 
 // How many triangles and nodes an image has.
