@@ -4,30 +4,25 @@ ghost use Rattle.std.specs.Float.{binary32};
 ghost use Rattle.shapes.specs.Values as Shapes;
 ghost use Rattle.lists.specs.Values as Values;
 ghost use Rattle.spec_lists.specs.Reading as Reading;
-ghost use Rattle.spec_angles.specs.Table.{arcs};
 ghost use Rattle.spec_angles.specs.Windings as Windings;
 
-use crate::arc_tangent::arc_table;
+use crate::arc_tangent::{ArcTable, arc_table};
 use crate::solid_angle::solid_angle_by;
 use lists::reading::{point_at, triangle_at};
 use lists::tests::{point_count, points_refusal, triangle_count, triangles_refusal};
 use lists::verdict::{Verdict, room_refusal};
 use shapes::vec3::Vec3;
+use std::f32::consts::PI;
 
 // The sum of the triangles' solid angles, in the order of the list, over 4 * PI, by the lent table of arc tangents.
-pub fn winding_number_by(table: &[u32; 1025], triangles: &[f32], q: Vec3) -> f32
-    requires { table.now ≡ arcs }
+pub fn winding_number_by(table: &ArcTable, triangles: &[f32], q: Vec3) -> f32
     ensures { result ≡ Windings.winding_about binary32 triangles.now (Shapes.as_point q) }
 {
-    let count = triangle_count(triangles);
     let mut sum: f32 = 0.0;
-    let mut t = 0;
-    while t < count {
-        sum = sum + solid_angle_by(table, triangle_at(triangles, t), q);
-        t += 1;
+    for t in 0..triangle_count(triangles) {
+        sum += solid_angle_by(table, triangle_at(triangles, t), q);
     }
-    // PI is 40490fdb
-    sum / (4.0 * 3.14159274101257324)
+    sum / (4.0 * PI)
 }
 
 // The winding number about q, with a table of its own.
@@ -43,12 +38,9 @@ fn write_windings(triangles: &[f32], points: &[f32], out: &mut [f32])
     requires { Reading.point_count points.now ≤ length out.old }
     ensures { out.new ≡ Windings.written binary32 triangles.now points.now out.old }
 {
-    let count = point_count(points);
     let table = arc_table();
-    let mut k = 0;
-    while k < count {
+    for k in 0..point_count(points) {
         out[k] = winding_number_by(&table, triangles, point_at(points, 3 * k));
-        k += 1;
     }
 }
 
