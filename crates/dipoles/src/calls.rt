@@ -5,14 +5,13 @@ ghost use Rattle.shapes.specs.Values as Shapes;
 ghost use Rattle.lists.specs.Values as Verdicts;
 ghost use Rattle.spec_lists.specs.Reading as Reading;
 ghost use Rattle.spec_tables.specs.Tables as Tables;
-ghost use Rattle.spec_angles.specs.Table.{arcs};
 ghost use Rattle.spec_dipoles.specs.Calls as Calls;
 ghost use Rattle.spec_dipoles.specs.Stored as Stored;
 
 use crate::stored::{make_dipoles, store_sums};
 use crate::tests::{fast_refusal, sums_refusal};
-use crate::walk::walk;
-use angles::arc_tangent::arc_table;
+use crate::walk::{Probe, walk};
+use angles::arc_tangent::{ArcTable, arc_table};
 use lists::limits;
 use lists::reading::point_at;
 use lists::tests::point_count;
@@ -44,7 +43,7 @@ pub fn node_sums(
 
 // The winding number about q by dipoles, with the lent table of arc tangents.
 pub fn fast_winding_by(
-    table: &[u32; 1025],
+    table: &ArcTable,
     triangles: &[f32],
     order: &[u32],
     links: &[u32],
@@ -53,13 +52,12 @@ pub fn fast_winding_by(
     accuracy: f32,
     q: Vec3,
 ) -> f32
-    requires table { table.now ≡ arcs }
-    requires there { Stored.RootIn triangles.now order.now links.now sums.now nodes }
+    requires { Stored.RootIn triangles.now order.now links.now sums.now nodes }
     ensures { result
         ≡ Calls.fast_about binary32 triangles.now order.now links.now nodes sums.now accuracy
         (Shapes.as_point q) }
 {
-    let probe = [q.x, q.y, q.z, accuracy];
+    let probe = Probe { point: q, accuracy };
     walk(
         table,
         triangles,
@@ -89,10 +87,8 @@ fn write_windings(
         ≡ Tables.overwrite 0 (Calls.fast_windings binary32 triangles.now order.now links.now nodes sums.now
         accuracy points.now) out.old }
 {
-    let count = point_count(points);
     let table = arc_table();
-    let mut k = 0;
-    while k < count {
+    for k in 0..point_count(points) {
         out[k] = fast_winding_by(
             &table,
             triangles,
@@ -103,7 +99,6 @@ fn write_windings(
             accuracy,
             point_at(points, 3 * k),
         );
-        k += 1;
     }
 }
 

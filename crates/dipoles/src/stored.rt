@@ -19,14 +19,11 @@ fn restored_at(sums: &[f32], node: usize) -> Sums
     ensures { Values.as_sums result ≡ Stored.restored (Calls.dipole_at sums.now node) }
 {
     let d = dipole_at(sums, node);
-    let normal = d.first;
-    let moments = d.second;
-    let centre = d.centre;
     Sums {
-        normal,
-        moments,
+        normal: d.first,
+        moments: d.second,
         area: d.radius,
-        centre,
+        centre: d.centre,
     }
 }
 
@@ -35,17 +32,14 @@ fn store(out: &mut [f32], node: usize, sums: Sums)
     requires { 16 * node + 16 ≤ length out.old }
     ensures { out.new ≡ Tables.overwrite (16 * node) (Calls.sixteen_of (Stored.stored (Values.as_sums sums))) out.old }
 {
-    let first = sums.normal;
-    let second = sums.moments;
-    let centre = sums.centre;
     put_dipole(
         out,
         node,
         Dipole {
-            first,
-            second,
+            first: sums.normal,
+            second: sums.moments,
             radius: sums.area,
-            centre,
+            centre: sums.centre,
         },
     );
 }
@@ -83,11 +77,9 @@ pub fn store_sums(triangles: &[f32], order: &[u32], links: &[u32], nodes: usize,
     ensures { out.new
         ≡ Tables.overwrite 0 (Stored.stored_sums binary32 triangles.now order.now links.now nodes) out.old }
 {
-    let mut node = 0;
-    while node < nodes {
+    for node in 0..nodes {
         let sums = sums_from(triangles, order, links, out, node);
         store(out, node, sums);
-        node += 1;
     }
 }
 
@@ -98,10 +90,8 @@ pub fn make_dipoles(boxes: &[f32], nodes: usize, out: &mut [f32])
     ensures { out.new
         ≡ Tables.overwrite 0 (Stored.made_dipoles binary32 boxes.now out.old nodes) out.old }
 {
-    let mut k = 0;
-    while k < nodes {
+    for k in 0..nodes {
         let dipole = dipole_of(node_box(boxes, k), restored_at(out, k));
         put_dipole(out, k, dipole);
-        k += 1;
     }
 }

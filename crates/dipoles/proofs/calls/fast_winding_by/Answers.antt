@@ -4,8 +4,7 @@ use Rattle.spec_dipoles.proofs.Fast.{root_in}
 use Rattle.dipoles.proofs.calls.fast_winding_by.Goals as goal
 
 pub walk-requires : goal.walk-requires
-walk-requires c =
-    record { table = c.requires.table; there = root_in _ _ _ _ _ c.requires.there }
+walk-requires c = root_in _ _ _ _ _ c.requires
 
 pub returns : goal.returns
 unfolding fast_about

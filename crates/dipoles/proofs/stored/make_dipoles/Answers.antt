@@ -1,5 +1,4 @@
 -- `dipoles::stored::make_dipoles` meets its contract: before each turn the dipoles of the nodes before it stand in the list, and behind them the sums.
-use Prim.Native.Nat.{◌-◌}
 use native.Mathlib.Omega.{arith}
 use Rattle.spec_dipoles.proofs.Storing.{make_start, make_more, make_end}
 use Rattle.dipoles.proofs.stored.make_dipoles.Goals as goal
@@ -17,14 +16,6 @@ restored_at-requires c =
 pub put_dipole-requires : goal.put_dipole-requires
 put_dipole-requires c =
     omega (arith, c.requires.room, c.loop-k.invariant.run.long, c.loop-k-test.true)
-
-pub overflow_add-k : goal.overflow_add-k
-overflow_add-k c =
-    omega (arith, c.loop-k-test.true, c.well_formed.1.0)
-
-pub loop-k-smaller : goal.loop-k-smaller
-loop-k-smaller c =
-    omega (arith, c.loop-k-test.true)
 
 pub loop-k-preserved : goal.loop-k-preserved
 loop-k-preserved c =

@@ -1,5 +1,4 @@
 -- `dipoles::stored::store_sums` meets its contract: before each turn the sums of the nodes before it stand in the list.
-use Prim.Native.Nat.{◌-◌}
 use native.Mathlib.Omega.{arith}
 use Rattle.spec_dipoles.proofs.Storing.{store_start, store_more, store_end}
 use Rattle.dipoles.proofs.stored.store_sums.Goals as goal

@@ -7,11 +7,11 @@ use Rattle.dipoles.proofs.sums.with_next.Goals as goal
 pub returns-then-has_normal : goal.returns-then-has_normal
 unfolding with_next
 returns-then-has_normal c =
-    let it = c.triangle_at-triangle.ensures ∙ ap (triangle_at _) c.wide.ensures in
+    let it = c.triangle_at-triangle.ensures in
     rw (c.with_triangle.ensures, ← it, ← c.has_normal.ensures, c.if-has_normal.true)
 
 pub returns : goal.returns
 unfolding with_next
 returns c =
-    let it = c.triangle_at-triangle.ensures ∙ ap (triangle_at _) c.wide.ensures in
+    let it = c.triangle_at-triangle.ensures in
     rw (← it, ← c.has_normal.ensures, c.if-has_normal.false)

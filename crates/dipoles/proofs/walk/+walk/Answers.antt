@@ -11,7 +11,7 @@ returns-then-levels-eq0 t c = none_left _ _ _ _ _ _ _ _ _ c.if-levels-eq0.true
 
 pub term_at-term-requires : goal.term_at-term-requires
 term_at-term-requires t c =
-    node_sums_lem _ _ _ _ _ c.requires.there
+    node_sums_lem _ _ _ _ _ c.requires
 
 pub is_finite-requires : goal.is_finite-requires
 is_finite-requires t c = tt
@@ -22,23 +22,22 @@ returns-then-is_finite t c =
 
 pub left_at-left-requires : goal.left_at-left-requires
 left_at-left-requires t c =
-    node_links _ _ _ _ _ c.requires.there
+    node_links _ _ _ _ _ c.requires
 
 pub right_at-right-requires : goal.right_at-right-requires
 right_at-right-requires t c =
-    node_links _ _ _ _ _ c.requires.there
+    node_links _ _ _ _ _ c.requires
 
 pub kind_at-requires : goal.kind_at-requires
 kind_at-requires t c =
-    node_links _ _ _ _ _ c.requires.there
+    node_links _ _ _ _ _ c.requires
 
 pub leaf_winding-requires : goal.leaf_winding-requires
 leaf_winding-requires t c =
     record {
-      table = c.requires.table;
-      numbered = c.requires.there.readable.entries;
+      numbered = c.requires.readable.entries;
       within = rw (c.right_at-right.ensures, c.left_at-left.ensures)
-          (leaf_range _ _ _ _ _ c.requires.there (sym c.kind_at.ensures ∙ c.if-kind_at-eq1.true));
+          (leaf_range _ _ _ _ _ c.requires (sym c.kind_at.ensures ∙ c.if-kind_at-eq1.true));
     }
 
 pub returns-then-kind_at-eq1 : goal.returns-then-kind_at-eq1
@@ -53,7 +52,7 @@ overflow_sub-levels t c =
 pub walk-from_left-requires : goal.walk-from_left-requires
 walk-from_left-requires t c = (
   omega (arith, c.if-levels-eq0.false),
-  (c.requires.table, rw c.left_at-left.ensures (left_in _ _ _ _ _ c.requires.there (λ p. c.if-kind_at-eq1.false (c.kind_at.ensures ∙ p)))),
+  (rw c.left_at-left.ensures (left_in _ _ _ _ _ c.requires (λ p. c.if-kind_at-eq1.false (c.kind_at.ensures ∙ p)))),
 )
 
 pub overflow_sub-levels-2 : goal.overflow_sub-levels-2
@@ -63,7 +62,7 @@ overflow_sub-levels-2 t c =
 pub walk-from_right-requires : goal.walk-from_right-requires
 walk-from_right-requires t c = (
   omega (arith, c.if-levels-eq0.false),
-  (c.requires.table, rw c.right_at-right.ensures (right_in _ _ _ _ _ c.requires.there (λ p. c.if-kind_at-eq1.false (c.kind_at.ensures ∙ p)))),
+  (rw c.right_at-right.ensures (right_in _ _ _ _ _ c.requires (λ p. c.if-kind_at-eq1.false (c.kind_at.ensures ∙ p)))),
 )
 
 pub returns : goal.returns

@@ -3,4 +3,4 @@ use Rattle.dipoles.proofs.walk.term_at.Goals as goal
 
 pub returns : goal.returns
 returns c =
-    rw (c.term_or_nan.ensures, c.point_of.ensures, c.dipole_at.ensures)
+    rw (c.term_or_nan.ensures, c.dipole_at.ensures)
