@@ -1,7 +1,7 @@
 -- `angles::winding::winding_number_by` meets its contract. The invariant: `sum` is that of the first t solid angles.
 use Rattle.std.proofs.Common.{◌∙◌, arith}
 use lib.Ieee.{of_bits}
-use Rattle.spec_lists.specs.Reading.{triangle_at, triangle_count}
+use Rattle.spec_lists.specs.Reading.{triangle_count}
 use Rattle.spec_angles.proofs.Windings.{sum_start, sum_more, sum_end, number_about}
 use Rattle.angles.proofs.winding.winding_number_by.Goals as goal
 

@@ -8,25 +8,14 @@ use Rattle.dipoles.proofs.calls.write_windings.Goals as goal
 pub loop-k-init : goal.loop-k-init
 loop-k-init c = about_start _ _ _ _
 
-pub overflow_mul-k : goal.overflow_mul-k
-overflow_mul-k c =
-    omega (arith, c.well_formed, point_inside _ _ (rw c.point_count-k-end.ensures at c.loop-k-test.true))
-
 pub point_at-requires : goal.point_at-requires
 point_at-requires c =
     point_inside _ _ (rw c.point_count-k-end.ensures at c.loop-k-test.true)
-
-pub bounds-out-k : goal.bounds-out-k
-bounds-out-k c =
-    omega (arith, c.requires.room, c.point_count-k-end.ensures, c.loop-k.invariant.run.long, c.loop-k-test.true)
 
 pub loop-k-preserved : goal.loop-k-preserved
 loop-k-preserved c =
     about_more _ _ _ _ _ _ _ _ (omega (arith, c.requires.room, c.point_count-k-end.ensures)) c.loop-k-test.true c.loop-k.invariant
     c.point_at.ensures c.fast_winding_by.ensures
-
-pub shape_of-out : goal.shape_of-out
-shape_of-out c = c.loop-k.invariant.run.long
 
 pub returns : goal.returns
 returns c =

@@ -1,7 +1,5 @@
 -- `dipoles::sums::with_next` meets its contract: each arm returns what the test picks.
-use mathlib.Core.Path.{◌∙◌, ap}
 use Rattle.spec_dipoles.specs.Sums.{with_next}
-use Rattle.spec_lists.specs.Reading.{triangle_at}
 use Rattle.dipoles.proofs.sums.with_next.Goals as goal
 
 pub returns-then-has_normal : goal.returns-then-has_normal

@@ -1,5 +1,5 @@
 -- `angles::arc_tangent::ArcTable::arc_of` meets its contract: the last entry, or a point on the line between two.
-use Rattle.std.proofs.Common.{◌∙◌, sym, ap, le_of_lt}
+use Rattle.std.proofs.Common.{◌∙◌, ap, le_of_lt}
 use Rattle.spec_angles.specs.Table.{entry}
 use Rattle.spec_angles.proofs.Arc.{at_the_end, rises, product_fits, on_the_line}
 use Rattle.angles.proofs.arc_tangent.ArcTable.arc_of.Goals as goal
