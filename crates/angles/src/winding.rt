@@ -9,8 +9,8 @@ ghost use Rattle.spec_angles.specs.Windings as Windings;
 use crate::arc_tangent::{ArcTable, arc_table};
 use crate::solid_angle::solid_angle_by;
 use lists::reading::{point_at, triangle_at};
+use lists::refusal::{Refusal, room_refusal};
 use lists::tests::{point_count, points_refusal, triangle_count, triangles_refusal};
-use lists::verdict::{Verdict, room_refusal};
 use shapes::vec3::Vec3;
 use std::f32::consts::PI;
 
@@ -45,23 +45,20 @@ fn write_windings(triangles: &[f32], points: &[f32], out: &mut [f32])
 }
 
 // The first of the tests 1 to 4, 6 and 8 that refuses.
-fn winding_refusal(triangles: &[f32], points: &[f32], room: usize) -> Verdict
+fn winding_refusal(triangles: &[f32], points: &[f32], room: usize) -> Result<(), Refusal>
     ensures { Values.as_verdict result ≡ Windings.winding_refusal triangles.now points.now room }
 {
-    triangles_refusal(triangles)
-        .or(room_refusal(room, point_count(points)))
-        .or(points_refusal(points))
+    triangles_refusal(triangles)?;
+    room_refusal(room, point_count(points))?;
+    points_refusal(points)
 }
 
 // Writes the winding number of the triangles about each point to the front of `out`, one f32 a point. A refusal changes nothing.
-pub fn winding(triangles: &[f32], points: &[f32], out: &mut [f32]) -> Verdict
+pub fn winding(triangles: &[f32], points: &[f32], out: &mut [f32]) -> Result<(), Refusal>
     ensures verdict { Values.as_verdict result ≡ Windings.winding_refusal triangles.now points.now (length out.old) }
     ensures windings { out.new ≡ Windings.after_winding binary32 triangles.now points.now out.old }
 {
-    let verdict = winding_refusal(triangles, points, out.len());
-    if verdict.refuses() {
-        return verdict;
-    }
+    winding_refusal(triangles, points, out.len())?;
     write_windings(triangles, points, out);
-    verdict
+    Ok(())
 }

@@ -15,6 +15,7 @@ use crate::far::term_or_nan;
 use angles::arc_tangent::ArcTable;
 use angles::solid_angle::solid_angle_by;
 use floats::is_finite;
+use lists::drawing::Drawing;
 use lists::reading::triangle_at;
 use shapes::vec3::Vec3;
 use std::f32::consts::PI;
@@ -42,18 +43,22 @@ fn slice_winding(table: &ArcTable, triangles: &[f32], slice: &[u32], q: Vec3) ->
 // The exact winding number of the triangles of a leaf.
 fn leaf_winding(
     table: &ArcTable,
-    triangles: &[f32],
-    order: &[u32],
+    drawing: &Drawing,
     first: usize,
     last: usize,
     probe: &Probe,
 ) -> f32
-    requires numbered { Order.EntriesBelow (Reading.triangle_count triangles.now) order.now }
-    requires within { (first ≤ last) × (last ≤ length order.now) }
-    ensures { result ≡ Fast.slice_winding binary32 (Reading.triangle_at triangles.now) (Tables.slice order.now first (last - first))
-        (Shapes.as_point probe.now.point) }
+    requires numbered { Order.EntriesBelow (Reading.triangle_count drawing.now.triangles.now) drawing.now.order.now }
+    requires within { (first ≤ last) × (last ≤ length drawing.now.order.now) }
+    ensures { result ≡ Fast.slice_winding binary32 (Reading.triangle_at drawing.now.triangles.now)
+        (Tables.slice drawing.now.order.now first (last - first)) (Shapes.as_point probe.now.point) }
 {
-    slice_winding(table, triangles, &order[first..last], probe.point)
+    slice_winding(
+        table,
+        drawing.triangles,
+        &drawing.order[first..last],
+        probe.point,
+    )
 }
 
 // The node's far term, or a NaN where the probe is not far from it.
@@ -68,18 +73,16 @@ fn term_at(sums: &[f32], node: usize, probe: &Probe) -> f32
 // The winding number of what hangs at the node. `levels` levels may be looked at.
 pub fn walk(
     table: &ArcTable,
-    triangles: &[f32],
-    order: &[u32],
-    links: &[u32],
+    drawing: &Drawing,
     sums: &[f32],
     probe: &Probe,
     levels: usize,
     node: usize,
 ) -> f32
-    requires { Stored.NodeIn triangles.now order.now links.now sums.now node }
+    requires { Stored.NodeIn drawing.now.triangles.now drawing.now.order.now drawing.now.links.now sums.now node }
     ensures { result
-        ≡ Fast.fast_at binary32 (Reading.triangle_at triangles.now) order.now links.now (Calls.dipole_at sums.now)
-        probe.now.accuracy (Shapes.as_point probe.now.point) levels node }
+        ≡ Fast.fast_at binary32 (Reading.triangle_at drawing.now.triangles.now) drawing.now.order.now
+        drawing.now.links.now (Calls.dipole_at sums.now) probe.now.accuracy (Shapes.as_point probe.now.point) levels node }
 {
     if levels == 0 {
         return 0.0;
@@ -88,30 +91,12 @@ pub fn walk(
     if is_finite(term) {
         return term;
     }
-    let left = left_at(links, node);
-    let right = right_at(links, node);
-    if kind_at(links, node) == 1 {
-        return leaf_winding(table, triangles, order, left, right, probe);
+    let left = left_at(drawing.links, node);
+    let right = right_at(drawing.links, node);
+    if kind_at(drawing.links, node) == 1 {
+        return leaf_winding(table, drawing, left, right, probe);
     }
-    let from_left = walk(
-        table,
-        triangles,
-        order,
-        links,
-        sums,
-        probe,
-        levels - 1,
-        left,
-    );
-    let from_right = walk(
-        table,
-        triangles,
-        order,
-        links,
-        sums,
-        probe,
-        levels - 1,
-        right,
-    );
+    let from_left = walk(table, drawing, sums, probe, levels - 1, left);
+    let from_right = walk(table, drawing, sums, probe, levels - 1, right);
     from_left + from_right
 }

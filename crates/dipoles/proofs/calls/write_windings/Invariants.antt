@@ -6,4 +6,5 @@ use Rattle.dipoles.proofs.calls.write_windings.Given as goal
 
 abbrev pub invariant-loop-k : goal.invariant-loop-k
 invariant-loop-k l =
-    AboutPut (fast_about binary32 l.triangles l.order l.links l.nodes l.sums l.accuracy) l.points l.initial.out l.k-end l.out l.k
+    let d = l.drawing in
+    AboutPut (fast_about binary32 d.triangles.now d.order.now d.links.now d.nodes l.sums l.accuracy) l.points l.initial.out l.k-end l.out l.k

@@ -4,4 +4,4 @@ use Rattle.spec_dipoles.proofs.Storing.{DipolesMade}
 use Rattle.dipoles.proofs.stored.make_dipoles.Given as goal
 
 abbrev pub invariant-loop-k : goal.invariant-loop-k
-invariant-loop-k l = DipolesMade binary32 l.boxes l.nodes l.initial.out l.out l.k
+invariant-loop-k l = DipolesMade binary32 l.drawing.boxes.now l.drawing.nodes l.initial.out l.out l.k
