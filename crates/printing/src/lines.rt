@@ -1,4 +1,5 @@
 // Lines: words and numbers with one space between them, and a line feed.
+// Kept: (a) no `Display`: a line is written into lent bytes, with no heap, and its contract says each of its bytes.
 ghost use Rattle.std.specs.Prelude.{◌≡◌, [], ◌∷◌, ◌+◌, ◌≤◌, length};
 ghost use Rattle.spec_tables.specs.Tables.{Put};
 ghost use Rattle.spec_printing.specs.Printed.{spaced_decimal, spaced_hex, named, counts_line, found_line, longest_found, nothing_line, refused_line};
@@ -21,12 +22,9 @@ fn put_word(out: &mut [u8], at: usize, word: &[u8]) -> usize
     requires { at + length word.now ≤ length out.old }
     ensures { Put at word.now out.old out.new result }
 {
-    let mut i = 0;
-    while i < word.len() {
-        out[at + i] = word[i];
-        i += 1;
-    }
-    at + i
+    let next = at + word.len();
+    out[at..next].copy_from_slice(word);
+    next
 }
 
 // Writes a space and the number in decimal.
