@@ -19,4 +19,4 @@ look-measured-requires c =
 pub returns : goal.returns
 unfolding source_walk kept div of_bits eq slot_at
 returns c =
-    (λ i. record { best = c.answer_of-found.ensures i; measured = c.look-measured.result }) ∙ reached_is c.look-measured.ensures
+    (λ i. record { best = c.answer-best.ensures i; measured = c.look-measured.result }) ∙ reached_is c.look-measured.ensures
