@@ -33,7 +33,7 @@ pub fn left_at(links: &[u32], node: usize) -> usize
     requires { 3 * node + 3 ≤ length links.now }
     ensures { result ≡ Trees.left_at links.now node }
 {
-    wide(links[3 * node + 1])
+    links[3 * node + 1] as usize
 }
 
 // Where a leaf's triangles end, the end not included, or a branch's right child.
@@ -41,7 +41,7 @@ pub fn right_at(links: &[u32], node: usize) -> usize
     requires { 3 * node + 3 ≤ length links.now }
     ensures { result ≡ Trees.right_at links.now node }
 {
-    wide(links[3 * node + 2])
+    links[3 * node + 2] as usize
 }
 
 // Whether a branch's left child stands just before `next`.
