@@ -13,6 +13,7 @@ ghost use Rattle.walks.specs.Values as Values;
 
 use crate::answer::{Hit, Measures, Probe};
 use crate::places::Places;
+use lists::drawing::Drawing;
 use lists::reading::triangle_at;
 use shapes::triangle3::Spot;
 use shapes::vec3::Vec3;
@@ -31,6 +32,7 @@ fn hit_at(spot: Spot, p: Vec3, t: u32) -> Hit
     }
 }
 
+// Kept: `Measures` picks the step, since a closure or a type parameter makes two functions of the loop, and lays the closest point out in neither.
 // Measures one triangle and keeps its point where the walk keeps it.
 fn measure(triangles: &[f32], t: u32, probe: &Probe, measures: Measures, places: &mut Places)
     requires t_in_bounds { 9 * t + 9 ≤ length triangles.now }
@@ -78,8 +80,7 @@ fn measure_slice(
 
 // Measures the triangles of the entries from `first` up to `last`, the end not included, and answers how many were measured in all.
 pub fn measure_leaf(
-    triangles: &[f32],
-    order: &[u32],
+    drawing: &Drawing,
     first: usize,
     last: usize,
     probe: &Probe,
@@ -87,18 +88,18 @@ pub fn measure_leaf(
     measured: usize,
     places: &mut Places,
 ) -> usize
-    requires entries_below { Order.EntriesBelow (Reading.triangle_count triangles.now) order.now }
-    requires first_le_last { (first ≤ last) × (last ≤ length order.now) }
+    requires entries_below { Order.EntriesBelow (Reading.triangle_count drawing.now.triangles.now) drawing.now.order.now }
+    requires first_le_last { (first ≤ last) × (last ≤ length drawing.now.order.now) }
     requires first_bound { measured + (last - first) < 2 ^ 64 }
     requires ready { Kept.Ready measures places.old.best places.old.which }
     ensures { Kept.Reached measures places.new.best places.new.which result (Kept.most_of places.old.which)
-        (Walk.took_all (Kept.took_by measures binary32 triangles.now (Shapes.as_point probe.now.point) probe.now.limit
+        (Walk.took_all (Kept.took_by measures binary32 drawing.now.triangles.now (Shapes.as_point probe.now.point) probe.now.limit
         (Kept.most_of places.old.which))
-        (Tables.slice order.now first (last - first)) (Kept.sought_of measures places.old.best places.old.which measured)) }
+        (Tables.slice drawing.now.order.now first (last - first)) (Kept.sought_of measures places.old.best places.old.which measured)) }
 {
     measure_slice(
-        triangles,
-        &order[first..last],
+        drawing.triangles,
+        &drawing.order[first..last],
         probe,
         measures,
         measured,

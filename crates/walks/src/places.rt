@@ -15,7 +15,7 @@ use crate::answer::Hit;
 use shapes::vec3::Vec3;
 
 // The number of a marker: no triangle has it.
-pub const NO_TRIANGLE: u32 = 4294967295;
+pub const NO_TRIANGLE: u32 = u32::MAX;
 
 // How many places there are at most.
 pub const MOST_FEW: usize = 16;

@@ -14,6 +14,7 @@ use crate::answer::{Measures, Probe, Sought};
 use crate::leaf::measure_leaf;
 use crate::links::{Node, node_at};
 use crate::places::{BEST, Places, WHICH};
+use lists::drawing::Drawing;
 use lists::limits;
 use tree::nodes::node_box;
 
@@ -29,27 +30,24 @@ fn does_enter(boxes: &[f32], node: usize, probe: &Probe) -> bool
 // Looks at a node, whatever its box. `depth` levels of branches remain to open. Answers how many triangles were measured in all.
 #[cycle(look_look_if_entered)]
 pub fn look(
-    triangles: &[f32],
-    order: &[u32],
-    links: &[u32],
-    boxes: &[f32],
+    drawing: &Drawing,
     probe: &Probe,
     depth: usize,
     node: usize,
     measured: usize,
     places: &mut Places,
 ) -> usize
-    requires node_safe { Safe.NodeSafe triangles.now order.now links.now boxes.now depth node measured }
+    requires node_safe { Safe.NodeSafe drawing.now.triangles.now drawing.now.order.now drawing.now.links.now drawing.now.boxes.now
+        depth node measured }
     requires lent { Kept.Lent places.old.best places.old.which }
     ensures { Kept.Reached Computed places.new.best places.new.which result (Kept.most_of places.old.which)
-        (Walk.root_walk (Source.source_search binary32 triangles.now boxes.now (Shapes.as_point probe.now.point)
-        probe.now.limit) order.now links.now depth node
+        (Walk.root_walk (Source.source_search binary32 drawing.now.triangles.now drawing.now.boxes.now (Shapes.as_point probe.now.point)
+        probe.now.limit) drawing.now.order.now drawing.now.links.now depth node
         (Kept.sought_of Computed places.old.best places.old.which measured)) }
 {
-    match node_at(links, node) {
+    match node_at(drawing.links, node) {
         Node::Leaf { first, last } => measure_leaf(
-            triangles,
-            order,
+            drawing,
             first,
             last,
             probe,
@@ -59,12 +57,8 @@ pub fn look(
         ),
         Node::Branch { left, right } => {
             let below = depth - 1;
-            let then = look_if_entered(
-                triangles, order, links, boxes, probe, below, right, measured, places,
-            );
-            look_if_entered(
-                triangles, order, links, boxes, probe, below, left, then, places,
-            )
+            let then = look_if_entered(drawing, probe, below, right, measured, places);
+            look_if_entered(drawing, probe, below, left, then, places)
         }
     }
 }
@@ -72,60 +66,41 @@ pub fn look(
 // Looks at a child if it is entered.
 #[cycle(look_look_if_entered)]
 pub fn look_if_entered(
-    triangles: &[f32],
-    order: &[u32],
-    links: &[u32],
-    boxes: &[f32],
+    drawing: &Drawing,
     probe: &Probe,
     depth: usize,
     node: usize,
     measured: usize,
     places: &mut Places,
 ) -> usize
-    requires node_safe { Safe.NodeSafe triangles.now order.now links.now boxes.now depth node measured }
+    requires node_safe { Safe.NodeSafe drawing.now.triangles.now drawing.now.order.now drawing.now.links.now drawing.now.boxes.now
+        depth node measured }
     requires lent { Kept.Lent places.old.best places.old.which }
     ensures { Kept.Reached Computed places.new.best places.new.which result (Kept.most_of places.old.which)
-        (Walk.node_walk (Source.source_search binary32 triangles.now boxes.now (Shapes.as_point probe.now.point)
-        probe.now.limit) order.now links.now depth node
+        (Walk.node_walk (Source.source_search binary32 drawing.now.triangles.now drawing.now.boxes.now (Shapes.as_point probe.now.point)
+        probe.now.limit) drawing.now.order.now drawing.now.links.now depth node
         (Kept.sought_of Computed places.old.best places.old.which measured)) }
 {
-    if does_enter(boxes, node, probe) {
-        return look(
-            triangles, order, links, boxes, probe, depth, node, measured, places,
-        );
+    if does_enter(drawing.boxes, node, probe) {
+        return look(drawing, probe, depth, node, measured, places);
     }
     measured
 }
 
 // The whole walk from the root, which is the last node.
-pub fn search(
-    triangles: &[f32],
-    order: &[u32],
-    links: &[u32],
-    boxes: &[f32],
-    nodes: usize,
-    probe: Probe,
-) -> Sought
-    requires { Calls.Searchable triangles.now order.now links.now boxes.now nodes }
+pub fn search(drawing: &Drawing, probe: Probe) -> Sought
+    requires { Calls.Searchable drawing.now.triangles.now drawing.now.order.now drawing.now.links.now drawing.now.boxes.now
+        drawing.now.nodes }
     ensures { Values.as_sought result
-        ≡ Source.source_walk binary32 triangles.now order.now links.now boxes.now nodes
-        (Shapes.as_point probe.point) probe.limit }
+        ≡ Source.source_walk binary32 drawing.now.triangles.now drawing.now.order.now drawing.now.links.now drawing.now.boxes.now
+        drawing.now.nodes (Shapes.as_point probe.point) probe.limit }
 {
+    let root = drawing.nodes - 1;
     let mut places = Places {
         best: [1.0 / 0.0; BEST],
         which: [0; WHICH],
     };
-    let measured = look(
-        triangles,
-        order,
-        links,
-        boxes,
-        &probe,
-        limits::DEEPEST - 1,
-        nodes - 1,
-        0,
-        &mut places,
-    );
+    let measured = look(drawing, &probe, limits::DEEPEST - 1, root, 0, &mut places);
     let best = places.answer();
     Sought { best, measured }
 }

@@ -8,8 +8,8 @@ use Rattle.walks.specs.Places.{slot_at}
 use Rattle.walks.proofs.Reached.{reached_is}
 use Rattle.walks.proofs.source.search.Goals as goal
 
-pub overflow_sub-nodes : goal.overflow_sub-nodes
-overflow_sub-nodes c =
+pub overflow_sub-root : goal.overflow_sub-root
+overflow_sub-root c =
     root_there _ _ _ _ _ c.requires
 
 pub look-measured-requires : goal.look-measured-requires
