@@ -25,7 +25,7 @@ impl Places {
         ensures { Values.as_answer result ≡ Kept.kept_in Computed self.now.best self.now.which }
     {
         let hit = self.slot_at(0);
-        if hit.squared == 1.0 / 0.0 {
+        if hit.squared == f32::INFINITY {
             return None;
         }
         Some(hit)

@@ -97,7 +97,7 @@ pub fn search(drawing: &Drawing, probe: Probe) -> Sought
 {
     let root = drawing.nodes - 1;
     let mut places = Places {
-        best: [1.0 / 0.0; BEST],
+        best: [f32::INFINITY; BEST],
         which: [0; WHICH],
     };
     let measured = look(drawing, &probe, limits::DEEPEST - 1, root, 0, &mut places);

@@ -120,7 +120,7 @@ fn walk_limit(rule: u32, limit: f32) -> f32
     ensures { result ≡ Marked.walk_limit (Rules.rule_of rule) limit }
 {
     if rule == 2 {
-        return 1.0 / 0.0;
+        return f32::INFINITY;
     }
     limit
 }
