@@ -17,22 +17,11 @@ pub struct Plane3 {
 pub fn unit_of(axis: Axis) -> Vec3
     ensures { Values.as_point result ≡ Planes.unit (Values.as_axis axis) }
 {
+    let origin = Vec3::splat(0.0);
     match axis {
-        Axis::X => Vec3 {
-            x: 1.0,
-            y: 0.0,
-            z: 0.0,
-        },
-        Axis::Y => Vec3 {
-            x: 0.0,
-            y: 1.0,
-            z: 0.0,
-        },
-        Axis::Z => Vec3 {
-            x: 0.0,
-            y: 0.0,
-            z: 1.0,
-        },
+        Axis::X => Vec3 { x: 1.0, ..origin },
+        Axis::Y => Vec3 { y: 1.0, ..origin },
+        Axis::Z => Vec3 { z: 1.0, ..origin },
     }
 }
 

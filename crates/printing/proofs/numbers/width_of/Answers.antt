@@ -16,6 +16,3 @@ pub returns : goal.returns
 returns c =
     let all : c.loop-rest.count ≡ width c.args.n = omega (arith, width_one c.loop-rest.rest c.loop-rest-test.false, c.loop-rest.invariant) in
     (all, omega (arith, all, width_most c.args.n c.ranges.n.fits))
-
-pub loop-rest-init : goal.loop-rest-init
-loop-rest-init c = omega arith
