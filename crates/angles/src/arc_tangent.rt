@@ -137,6 +137,11 @@ const ARCS: [u32; 1025] = [
     841739686, 842265256, 842790312, 843314857,
 ];
 
+// A quarter of a turn and a half, in units of 2^-30.
+const QUARTER_TURN: u64 = 1686629713;
+
+const HALF_TURN: u64 = 3373259426;
+
 // The table of arc tangents, lent to whoever computes an angle.
 #[derive(Drop)]
 pub struct ArcTable {
@@ -146,7 +151,9 @@ pub struct ArcTable {
 
 // The table. A constant array is laid out anew, entry by entry, wherever it is named.
 // So who computes many angles names it once, here, and lends it to each.
-pub fn arc_table() -> ArcTable {
+pub fn arc_table() -> ArcTable
+    ensures { result.entries ≡ arcs }
+{
     ArcTable { entries: ARCS }
 }
 
@@ -206,7 +213,7 @@ fn angle_of(table: &ArcTable, n: f32, d: f32) -> u64
 {
     let arc = table.arc_of(units_of(ratio_of(n, d)));
     let steep = floats::absolute(n) > floats::absolute(d);
-    mirrored(3373259426, d < 0.0, mirrored(1686629713, steep, arc))
+    mirrored(HALF_TURN, d < 0.0, mirrored(QUARTER_TURN, steep, arc))
 }
 
 // a / 2^30 with a sign. Only the first step rounds.

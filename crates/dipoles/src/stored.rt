@@ -12,7 +12,7 @@ ghost use Rattle.dipoles.specs.Values as Values;
 use crate::dipole::{Dipole, dipole_at, dipole_of, put_dipole};
 use crate::sums::{Sums, leaf_sums};
 use lists::drawing::Drawing;
-use tree::nodes::{kind_at, left_at, node_box, right_at};
+use tree::nodes::{Node, node_at, node_box};
 
 // The sums that stand in the place of the node's dipole.
 fn restored_at(sums: &[f32], node: usize) -> Sums
@@ -63,14 +63,14 @@ fn sums_from(drawing: &Drawing, sums: &[f32], node: usize) -> Sums
         ≡ Stored.sums_from binary32 drawing.now.triangles.now drawing.now.order.now drawing.now.links.now sums.now
         node }
 {
-    let left = left_at(drawing.links, node);
-    let right = right_at(drawing.links, node);
-    if kind_at(drawing.links, node) == 1 {
-        return range_sums(drawing, left, right);
+    match node_at(drawing.links, node) {
+        Node::Leaf { first, last } => range_sums(drawing, first, last),
+        Node::Branch { left, right } => {
+            let from_left = restored_at(sums, left);
+            let from_right = restored_at(sums, right);
+            from_left.plus(from_right)
+        }
     }
-    let from_left = restored_at(sums, left);
-    let from_right = restored_at(sums, right);
-    from_left.plus(from_right)
 }
 
 // Writes the sums of all nodes. Children stand before their parent, so that theirs are there when it comes.

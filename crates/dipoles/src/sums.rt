@@ -41,7 +41,7 @@ fn has_normal(t: Triangle3) -> bool
     ensures { result ≡ Defined.has_normal binary32 (Shapes.as_triangle t) }
 {
     let cross = cross_of(t);
-    !(cross.dot(cross) == 0.0)
+    cross.dot(cross) != 0.0
 }
 
 impl Sums {
@@ -79,11 +79,7 @@ impl Sums {
 fn no_sums() -> Sums
     ensures { Values.as_sums result ≡ Defined.no_sums }
 {
-    let origin = Vec3 {
-        x: 0.0,
-        y: 0.0,
-        z: 0.0,
-    };
+    let origin = Vec3::splat(0.0);
     Sums {
         normal: origin,
         moments: zeros(),

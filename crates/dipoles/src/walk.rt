@@ -19,7 +19,7 @@ use lists::drawing::Drawing;
 use lists::reading::triangle_at;
 use shapes::vec3::Vec3;
 use std::f32::consts::PI;
-use tree::nodes::{kind_at, left_at, right_at};
+use tree::nodes::{Node, node_at};
 
 // What is asked: a point, and the accuracy scale.
 #[derive(Clone, Copy)]
@@ -91,12 +91,12 @@ pub fn walk(
     if is_finite(term) {
         return term;
     }
-    let left = left_at(drawing.links, node);
-    let right = right_at(drawing.links, node);
-    if kind_at(drawing.links, node) == 1 {
-        return leaf_winding(table, drawing, left, right, probe);
+    match node_at(drawing.links, node) {
+        Node::Leaf { first, last } => leaf_winding(table, drawing, first, last, probe),
+        Node::Branch { left, right } => {
+            let from_left = walk(table, drawing, sums, probe, levels - 1, left);
+            let from_right = walk(table, drawing, sums, probe, levels - 1, right);
+            from_left + from_right
+        }
     }
-    let from_left = walk(table, drawing, sums, probe, levels - 1, left);
-    let from_right = walk(table, drawing, sums, probe, levels - 1, right);
-    from_left + from_right
 }

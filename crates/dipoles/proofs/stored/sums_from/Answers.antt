@@ -3,12 +3,13 @@ use mathlib.Core.Path.{◌∙◌, sym}
 use Rattle.spec_dipoles.proofs.Storing.{from_leaf, from_branch}
 use Rattle.dipoles.proofs.stored.sums_from.Goals as goal
 
-pub returns-then-kind_at-eq1 : goal.returns-then-kind_at-eq1
-returns-then-kind_at-eq1 c =
-    c.range_sums.ensures
-    ∙ rw (c.left_at-left.ensures, c.right_at-right.ensures) (sym (from_leaf _ _ _ _ _ _ (sym c.kind_at.ensures ∙ c.if-kind_at-eq1.true)))
+pub returns-in-Leaf : goal.returns-in-Leaf
+returns-in-Leaf c =
+    let leaf = c.in-Leaf.ensures in
+    c.range_sums.ensures ∙ rw (leaf.first_is, leaf.last_is) (sym (from_leaf _ _ _ _ _ _ leaf.is_leaf))
 
-pub returns : goal.returns
-returns c =
-    rw (c.plus.ensures, c.restored_at-from_right.ensures, c.restored_at-from_left.ensures, c.right_at-right.ensures, c.left_at-left.ensures)
-    (sym (from_branch _ _ _ _ _ _ (λ p. c.if-kind_at-eq1.false (c.kind_at.ensures ∙ p))))
+pub returns-in-Branch : goal.returns-in-Branch
+returns-in-Branch c =
+    let branch = c.in-Branch.ensures in
+    rw (c.plus.ensures, c.restored_at-from_right.ensures, c.restored_at-from_left.ensures, branch.right_is, branch.left_is)
+    (sym (from_branch _ _ _ _ _ _ branch.no_leaf))

@@ -12,13 +12,14 @@ pub returns-then-is_finite : goal.returns-then-is_finite
 returns-then-is_finite t c =
     used_far _ _ _ _ _ _ _ _ _ c.if-levels-eq0.false _ c.term_at-term.ensures (sym c.is_finite.ensures ∙ c.if-is_finite.true)
 
-pub returns-then-kind_at-eq1 : goal.returns-then-kind_at-eq1
-returns-then-kind_at-eq1 t c =
+pub returns-in-Leaf : goal.returns-in-Leaf
+returns-in-Leaf t c =
+    let leaf = c.in-Leaf.ensures in
     near_leaf _ _ _ _ _ _ _ _ _ c.if-levels-eq0.false _ c.term_at-term.ensures (sym c.is_finite.ensures ∙ c.if-is_finite.false) _ _
-    c.left_at-left.ensures c.right_at-right.ensures _ (sym c.kind_at.ensures ∙ c.if-kind_at-eq1.true) c.leaf_winding.ensures
+    leaf.first_is leaf.last_is _ leaf.is_leaf c.leaf_winding.ensures
 
-pub returns : goal.returns
-returns t c =
+pub returns-in-Branch : goal.returns-in-Branch
+returns-in-Branch t c =
+    let branch = c.in-Branch.ensures in
     near_branch _ _ _ _ _ _ _ _ _ c.if-levels-eq0.false _ c.term_at-term.ensures (sym c.is_finite.ensures ∙ c.if-is_finite.false) _ _
-    c.left_at-left.ensures c.right_at-right.ensures _ _ (λ p. c.if-kind_at-eq1.false (c.kind_at.ensures ∙ p)) c.walk-from_left.ensures
-    c.walk-from_right.ensures
+    branch.left_is branch.right_is _ _ branch.no_leaf c.walk-from_left.ensures c.walk-from_right.ensures
