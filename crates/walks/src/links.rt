@@ -1,25 +1,28 @@
-// The links of a node, read at once.
+// What stands at a node, read from its links at once.
 ghost use Rattle.std.specs.Prelude.{◌+◌, ◌*◌, ◌≤◌, length};
-ghost use Rattle.spec_search.specs.Safe as Safe;
+ghost use Rattle.walks.specs.Values as Values;
 
 use tree::nodes::{kind_at, left_at, right_at};
 
-// The kind of a node and its two numbers.
+// A leaf's entries of the order list, from `first` up to `last`, the end not included; or a branch's two children.
 #[derive(Clone, Copy)]
-pub struct Links {
-    pub kind: u32,
-    pub left: usize,
-    pub right: usize,
+pub enum Node {
+    Leaf { first: usize, last: usize },
+    Branch { left: usize, right: usize },
 }
 
-// The three links of the node.
-pub fn links_of(links: &[u32], node: usize) -> Links
+// What stands at the node. Kind 1 is a leaf, and all else a branch.
+pub fn node_at(links: &[u32], node: usize) -> Node
     requires { 3 * node + 3 ≤ length links.now }
-    ensures { Safe.LinksAre links.now node result.kind result.left result.right }
+    ensures { Values.StandsAt links.now node result }
 {
-    Links {
-        kind: kind_at(links, node),
-        left: left_at(links, node),
-        right: right_at(links, node),
+    let left = left_at(links, node);
+    let right = right_at(links, node);
+    if kind_at(links, node) == 1 {
+        return Node::Leaf {
+            first: left,
+            last: right,
+        };
     }
+    Node::Branch { left, right }
 }

@@ -1,4 +1,4 @@
--- `walks::places::put_slot` meets its contract: four stores at the slot's four numbers, and two at its two; no other slot has any of them.
+-- `walks::places::Places::put_slot` meets its contract: four stores at the slot's four numbers, and two at its two; no other slot has any of them.
 use mathlib.Core.Path.{◌≡◌, ◌∙◌}
 use mathlib.Core.List.{List}
 use Prim.Native.Nat.{ℕ, ◌+◌, ◌*◌, ◌<◌}
@@ -9,7 +9,7 @@ use lib.Ieee.{Float, nan}
 use Rattle.spec_search.specs.Answers.{Hit}
 use Rattle.walks.specs.Values.{as_hit}
 use Rattle.walks.specs.Places.{slot_at, Lent, PutAt}
-use Rattle.walks.proofs.places.put_slot.Goals as goal
+use Rattle.walks.proofs.places.Places.put_slot.Goals as goal
 
 -- ---- stores side by side
 module _ {A : Type 0} (l : List A) (at : ℕ) (a b d : A) where
@@ -120,4 +120,4 @@ module _ (best : List Float) (which : List ℕ) (j : ℕ) (h : Hit) (lent : Lent
   }
 
 pub returns : goal.returns
-returns c = stored c.args.best.now c.args.which.now c.args.j (as_hit c.args.hit) c.requires.lent c.requires.j_lt_most_few
+returns c = stored c.args.self.now.best c.args.self.now.which c.args.j (as_hit c.args.hit) c.requires.lent c.requires.j_lt_most_few
