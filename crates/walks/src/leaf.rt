@@ -23,12 +23,11 @@ fn hit_at(spot: Spot, p: Vec3, t: u32) -> Hit
     ensures { Values.as_hit result ≡ Answers.hit_at binary32 (Shapes.as_spot spot) (Shapes.as_point p) t }
 {
     let point = spot.point;
-    let part = spot.part;
     Hit {
         point,
         squared: point.squared_distance(p),
         triangle: t,
-        part: part.number(),
+        part: u32::from(spot.part),
     }
 }
 
