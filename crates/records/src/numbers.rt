@@ -1,4 +1,5 @@
 // One number in bytes, the lowest byte first.
+// Kept: (d) `at` beside the bytes. As a part, `put_u16(&mut out[at..], n)`, each contract would tell what stands in front of the part too.
 ghost use Rattle.std.specs.Prelude.{◌≡◌, ◌+◌, ◌^◌, ◌≤◌, ◌<◌, length};
 ghost use Rattle.spec_tables.specs.Tables.{Put};
 ghost use Rattle.spec_records.specs.Little.{little, little_at};
