@@ -5,6 +5,7 @@ ghost use Rattle.spec_numbers.specs.Hold as Hold;
 ghost use Rattle.spec_numbers.specs.Values as Values;
 
 // The smaller of the two, the first where they are equal.
+// Kept: `f32::min` and `f32::max` leave open which of +0 and -0 they answer, and pass over a NaN; `Hold.smaller` and `Hold.larger` fix both.
 pub fn min2(a: f32, b: f32) -> f32
     ensures { result ≡ Hold.smaller a b }
 {
@@ -39,12 +40,11 @@ pub fn held(lo: f32, hi: f32, x: f32) -> f32
     lower(hi, raise(lo, x))
 }
 
-// Whether x is neither a NaN nor an infinity. Of those x - x is a NaN, which is not equal to itself.
+// Whether x is neither a NaN nor an infinity.
 pub fn is_finite(x: f32) -> bool
     ensures { result ≡ finite x }
 {
-    let d = x - x;
-    d == d
+    x.is_finite()
 }
 
 // x, but +0 for -0.
@@ -54,9 +54,9 @@ pub fn plus_zero(x: f32) -> f32
     x + 0.0
 }
 
-// The magnitude of x. The sum turns -0 into +0.
+// The magnitude of x: +0 for -0.
 pub fn absolute(x: f32) -> f32
     ensures { result ≡ Values.abs x }
 {
-    if x < 0.0 { -x } else { x + 0.0 }
+    x.abs()
 }

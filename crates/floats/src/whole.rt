@@ -6,11 +6,5 @@ ghost use Rattle.spec_numbers.specs.Values as Values;
 pub fn cut(x: f32) -> usize
     ensures { result ≡ Values.cut x }
 {
-    if x >= 18446744073709551616.0 {
-        return 18446744073709551615;
-    }
-    if x >= 0.0 {
-        return std::num::truncating_f32_to_u64(x) as usize;
-    }
-    0
+    std::num::saturating_f32_to_usize(x)
 }

@@ -6,8 +6,8 @@ ghost use Rattle.spec_build.specs.Growing.{Growable, GrownIs};
 
 use crate::nodes::{Grown, put_branch, put_leaf};
 use crate::tries::try_slice;
-use splits::split::Split;
 
+// Kept: (a) the strategy stays a number, since `GrownIs` says what is grown for any; `try_slice` reads it.
 // Grows the tree of the slice, which begins at `entry` of the order list, and answers its root, levels and box.
 // `levels_remaining` levels remain below this one. The slice is left in the order of the leaves, and the nodes stand in the lists from `node` on.
 pub fn grow(
@@ -30,7 +30,7 @@ pub fn grow(
     if (levels_remaining == 0) | (slice.len() <= leaf_minimum) {
         return put_leaf(bounds, slice, entry, links, boxes, node);
     }
-    let Split::At(cut) = try_slice(bounds, centres, strategy, slice, scratch) else {
+    let Some(cut) = try_slice(bounds, centres, strategy, slice, scratch) else {
         return put_leaf(bounds, slice, entry, links, boxes, node);
     };
     let left = grow(

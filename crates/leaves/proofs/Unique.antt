@@ -1,53 +1,53 @@
 -- No two answers about leaves stand for the same of the definitions.
-use mathlib.Core.Path.{◌≡◌, refl, sym, ap, ◌∙◌}
+use Rattle.std.proofs.Common.{◌≡◌, ℕ, refl, ap}
+use Rattle.std.specs.Prelude.{Option, None, Some, Result, Ok, Err}
 use Rattle.shapes.proofs.Unique.{back_box}
+use Rattle.lists.specs.declared.refusal.Refusal.{Refusal}
+use Rattle.lists.specs.Values.{number_of, place_of}
+use Rattle.lists.proofs.Unique.{refusal_unique}
 use Rattle.spec_tree.specs.Leaves as Leaves
-use Rattle.leaves.specs.Values.{as_entry_found, as_leaf_found, as_leaves_counted}
-use Rattle.leaves.specs.declared.reader.EntryFound.{EntryFound}
-use Rattle.leaves.specs.declared.reader.EntryFound.TheVariants as Entry
-use Rattle.leaves.specs.declared.calls.LeafFound.{LeafFound}
-use Rattle.leaves.specs.declared.calls.LeafFound.TheVariants as Found
-use Rattle.leaves.specs.declared.calls.LeavesCounted.{LeavesCounted}
-use Rattle.leaves.specs.declared.calls.LeavesCounted.TheVariants as Counted
-
-abbrev back_entry : Leaves.EntryFound → EntryFound
-back_entry Leaves.no_entry = Entry.Nothing
-back_entry (Leaves.triangle t) = Entry.Triangle t
-back_entry (Leaves.entry_refused number place) = Entry.Refused number place
-
-entry_is : (a : EntryFound) → back_entry (as_entry_found a) ≡ a
-entry_is Entry.Nothing = refl
-entry_is (Entry.Triangle t) = refl
-entry_is (Entry.Refused number place) = refl
+use Rattle.leaves.specs.Values.{as_entry_found, as_leaf, as_leaf_found, as_leaves_counted}
+use Rattle.leaves.specs.declared.calls.LeafNode.{LeafNode}
 
 -- what the entry of a leaf stands for fixes it
-pub entry_unique : (a b : EntryFound) → as_entry_found a ≡ as_entry_found b → a ≡ b
-entry_unique a b e = sym (entry_is a) ∙ ap back_entry e ∙ entry_is b
+pub entry_unique : (a b : Result (Option ℕ) Refusal) → as_entry_found a ≡ as_entry_found b → a ≡ b
+entry_unique (Ok None) (Ok None) e = refl
+entry_unique (Ok None) (Ok (Some t)) e = cc
+entry_unique (Ok (Some t)) (Ok None) e = cc
+entry_unique (Ok (Some t)) (Ok (Some s)) e = let same : t ≡ s = cc in rw same
+entry_unique (Ok None) (Err q) e = cc
+entry_unique (Ok (Some t)) (Err q) e = cc
+entry_unique (Err r) (Ok None) e = cc
+entry_unique (Err r) (Ok (Some t)) e = cc
+entry_unique (Err r) (Err q) e =
+    let n : number_of r ≡ number_of q = cc in
+    let p : place_of r ≡ place_of q = cc in
+    ap Err (refusal_unique r q n p)
 
--- ---- a leaf
-abbrev back_leaf : Leaves.LeafFound → LeafFound
-back_leaf Leaves.nothing = Found.Nothing
-back_leaf (Leaves.found l) = Found.Leaf l.node l.first l.last (back_box l.box)
-back_leaf (Leaves.not_sought number place) = Found.Refused number place
-
-leaf_is : (a : LeafFound) → back_leaf (as_leaf_found a) ≡ a
-leaf_is Found.Nothing = refl
-leaf_is (Found.Leaf node first last over) = refl
-leaf_is (Found.Refused number place) = refl
+abbrev back_leaf : Leaves.Leaf → LeafNode
+back_leaf l = record { node = l.node; first = l.first; last = l.last; over = back_box l.box }
 
 -- what a leaf stands for fixes it
-pub leaf_unique : (a b : LeafFound) → as_leaf_found a ≡ as_leaf_found b → a ≡ b
-leaf_unique a b e = sym (leaf_is a) ∙ ap back_leaf e ∙ leaf_is b
-
--- ---- a count
-abbrev back_count : Leaves.LeavesCounted → LeavesCounted
-back_count (Leaves.counted n) = Counted.Leaves n
-back_count (Leaves.not_counted number place) = Counted.Refused number place
-
-count_is : (a : LeavesCounted) → back_count (as_leaves_counted a) ≡ a
-count_is (Counted.Leaves n) = refl
-count_is (Counted.Refused number place) = refl
+pub leaf_unique : (a b : Result (Option LeafNode) Refusal) → as_leaf_found a ≡ as_leaf_found b → a ≡ b
+leaf_unique (Ok None) (Ok None) e = refl
+leaf_unique (Ok None) (Ok (Some m)) e = cc
+leaf_unique (Ok (Some l)) (Ok None) e = cc
+leaf_unique (Ok (Some l)) (Ok (Some m)) e = let same : as_leaf l ≡ as_leaf m = cc in let back : l ≡ m = ap back_leaf same in rw back
+leaf_unique (Ok None) (Err q) e = cc
+leaf_unique (Ok (Some l)) (Err q) e = cc
+leaf_unique (Err r) (Ok None) e = cc
+leaf_unique (Err r) (Ok (Some l)) e = cc
+leaf_unique (Err r) (Err q) e =
+    let n : number_of r ≡ number_of q = cc in
+    let p : place_of r ≡ place_of q = cc in
+    ap Err (refusal_unique r q n p)
 
 -- what a count of leaves stands for fixes it
-pub count_unique : (a b : LeavesCounted) → as_leaves_counted a ≡ as_leaves_counted b → a ≡ b
-count_unique a b e = sym (count_is a) ∙ ap back_count e ∙ count_is b
+pub count_unique : (a b : Result ℕ Refusal) → as_leaves_counted a ≡ as_leaves_counted b → a ≡ b
+count_unique (Ok m) (Ok n) e = let same : m ≡ n = cc in ap Ok same
+count_unique (Ok m) (Err r) e = cc
+count_unique (Err r) (Ok n) e = cc
+count_unique (Err r) (Err q) e =
+    let n : number_of r ≡ number_of q = cc in
+    let p : place_of r ≡ place_of q = cc in
+    ap Err (refusal_unique r q n p)

@@ -4,68 +4,53 @@ ghost use Rattle.std.specs.Prelude.{◌≡◌, ◌+◌, ◌*◌, ◌≤◌, leng
 ghost use Rattle.spec_tree.specs.Leaves as Leaves;
 ghost use Rattle.leaves.specs.Values as Values;
 
-use crate::reader::{EntryFound, entry_of};
-use lists::verdict::Verdict;
+use crate::reader::entry_of;
+use lists::drawing::Drawing;
+use lists::refusal::Refusal;
 use shapes::box3::Box3;
 use tree::calls::check;
-use tree::nodes::{kind_at, left_at, node_box, right_at};
+use tree::nodes::{Node, node_at, node_box};
 
-// A leaf, nothing where there are fewer leaves, or a refusal. A leaf's triangles are the entries from `first` up to `last`, the end not included.
+// A leaf: its triangles are the entries from `first` up to `last`, the end not included.
 #[derive(Clone, Copy)]
-pub enum LeafFound {
-    Nothing,
-    Leaf {
-        node: usize,
-        first: usize,
-        last: usize,
-        over: Box3,
-    },
-    Refused {
-        number: usize,
-        place: usize,
-    },
-}
-
-#[derive(Clone, Copy)]
-pub enum LeavesCounted {
-    Leaves(usize),
-    Refused { number: usize, place: usize },
-}
-
-// The leaf at this node.
-fn leaf_at(links: &[u32], boxes: &[f32], node: usize) -> LeafFound
-    requires { (3 * node + 3 ≤ length links.now) × (6 * node + 6 ≤ length boxes.now) }
-    ensures { Values.as_leaf_found result ≡ Leaves.found (Leaves.leaf_at links.now boxes.now node) }
-{
-    let first = left_at(links, node);
-    let last = right_at(links, node);
-    let over = node_box(boxes, node);
-    LeafFound::Leaf {
-        node,
-        first,
-        last,
-        over,
-    }
+pub struct LeafNode {
+    pub node: usize,
+    pub first: usize,
+    pub last: usize,
+    pub over: Box3,
 }
 
 // The k-th of the leaves from this node on, counted from 0. From node 0 on that is the tree's k-th leaf.
 // The leaf behind a leaf is the first from the next node on, so a caller who goes through all of them passes each node once.
-pub fn leaf_from(links: &[u32], boxes: &[f32], nodes: usize, from: usize, k: usize) -> LeafFound
+pub fn leaf_from(
+    links: &[u32],
+    boxes: &[f32],
+    nodes: usize,
+    from: usize,
+    k: usize,
+) -> Option<LeafNode>
     requires { Leaves.NodesThere links.now boxes.now nodes }
-    ensures { Values.as_leaf_found result ≡ Leaves.leaf_from links.now boxes.now nodes from k }
+    ensures { Values.as_leaf_option result ≡ Leaves.leaf_from links.now boxes.now nodes from k }
 {
-    let mut node = from;
     let mut remaining = k;
-    while node < nodes {
-        if kind_at(links, node) == 1 {
-            if remaining == 0 {
-                return leaf_at(links, boxes, node);
+    for node in from..nodes {
+        match node_at(links, node) {
+            Node::Leaf { first, last } => {
+                if remaining == 0 {
+                    let over = node_box(boxes, node);
+                    return Some(LeafNode {
+                        node,
+                        first,
+                        last,
+                        over,
+                    });
+                }
+                remaining -= 1;
             }
-            remaining -= 1;
+            Node::Branch { .. } => {}
         }
-        node += 1;
     }
-    LeafFound::Nothing
+    None
 }
 
 // How many leaves the tree has.
@@ -74,71 +59,42 @@ pub fn leaf_count(links: &[u32], nodes: usize) -> usize
     ensures { result ≡ Leaves.leaf_count links.now nodes }
 {
     let mut count = 0;
-    let mut node = 0;
-    while node < nodes {
-        if kind_at(links, node) == 1 {
-            count += 1;
+    for node in 0..nodes {
+        match node_at(links, node) {
+            Node::Leaf { .. } => count += 1,
+            Node::Branch { .. } => {}
         }
-        node += 1;
     }
     count
 }
 
-// The tree's k-th leaf, counted from 0, or the first of the tests 1 to 4 and 71 to 75 that refuses. The lists may be any lists at all.
-pub fn leaf(
-    triangles: &[f32],
-    order: &[u32],
-    links: &[u32],
-    boxes: &[f32],
-    nodes: usize,
-    k: usize,
-) -> LeafFound
-    ensures { Values.as_leaf_found result
-        ≡ Leaves.leaf_answer triangles.now order.now links.now boxes.now nodes k }
+// The tree's k-th leaf, counted from 0, nothing where there are fewer, or the first of the tests 1 to 4 and 71 to 75 that refuses.
+// The lists may be any lists at all.
+pub fn leaf(drawing: &Drawing, k: usize) -> Result<Option<LeafNode>, Refusal>
+    ensures { Values.as_leaf_found result ≡ Leaves.leaf_answer drawing.now.triangles.now drawing.now.order.now
+        drawing.now.links.now drawing.now.boxes.now drawing.now.nodes k }
 {
-    let verdict = check(triangles, order, links, boxes, nodes);
-    match verdict {
-        Verdict::Refused { number, place } => LeafFound::Refused { number, place },
-        Verdict::Passed => leaf_from(links, boxes, nodes, 0, k),
-    }
+    check(drawing)?;
+    Ok(leaf_from(drawing.links, drawing.boxes, drawing.nodes, 0, k))
 }
 
 // How many leaves the tree has, or the first of the tests 1 to 4 and 71 to 75 that refuses. The lists may be any lists at all.
-pub fn leaves(
-    triangles: &[f32],
-    order: &[u32],
-    links: &[u32],
-    boxes: &[f32],
-    nodes: usize,
-) -> LeavesCounted
-    ensures { Values.as_leaves_counted result
-        ≡ Leaves.count_answer triangles.now order.now links.now boxes.now nodes }
+pub fn leaves(drawing: &Drawing) -> Result<usize, Refusal>
+    ensures { Values.as_leaves_counted result ≡ Leaves.count_answer drawing.now.triangles.now drawing.now.order.now
+        drawing.now.links.now drawing.now.boxes.now drawing.now.nodes }
 {
-    let verdict = check(triangles, order, links, boxes, nodes);
-    match verdict {
-        Verdict::Refused { number, place } => LeavesCounted::Refused { number, place },
-        Verdict::Passed => LeavesCounted::Leaves(leaf_count(links, nodes)),
-    }
+    check(drawing)?; // the tests come before the count
+    Ok(leaf_count(drawing.links, drawing.nodes))
 }
 
-// The i-th triangle of the tree's k-th leaf, both counted from 0, or the first of the tests 1 to 4 and 71 to 75 that refuses.
-// The lists may be any lists at all.
-pub fn leaf_entry(
-    triangles: &[f32],
-    order: &[u32],
-    links: &[u32],
-    boxes: &[f32],
-    nodes: usize,
-    k: usize,
-    i: usize,
-) -> EntryFound
-    ensures { Values.as_entry_found result
-        ≡ Leaves.entry_answer triangles.now order.now links.now boxes.now nodes k i }
+// The i-th triangle of the tree's k-th leaf, both counted from 0, nothing where it has fewer, or the first of the tests 1 to 4 and 71 to 75
+// that refuses. The lists may be any lists at all.
+pub fn leaf_entry(drawing: &Drawing, k: usize, i: usize) -> Result<Option<u32>, Refusal>
+    ensures { Values.as_entry_found result ≡ Leaves.entry_answer drawing.now.triangles.now drawing.now.order.now
+        drawing.now.links.now drawing.now.boxes.now drawing.now.nodes k i }
 {
-    let found = leaf(triangles, order, links, boxes, nodes, k);
-    match found {
-        LeafFound::Nothing => EntryFound::Nothing,
-        LeafFound::Leaf { first, last, .. } => entry_of(order, first, last, i),
-        LeafFound::Refused { number, place } => EntryFound::Refused { number, place },
+    match leaf(drawing, k)? {
+        Some(found) => Ok(entry_of(drawing.order, found.first, found.last, i)),
+        None => Ok(None),
     }
 }

@@ -1,6 +1,6 @@
 // The leaf reader: a struct that lends a caller a leaf's slice of the order list, and functions over it.
 // Plain functions do the work; `entry_of` takes a slice and numbers.
-ghost use Rattle.std.specs.Prelude.{◌≡◌, ◌-◌, min, length};
+ghost use Rattle.std.specs.Prelude.{◌≡◌, ◌-◌, length};
 ghost use Rattle.spec_tables.specs.Tables as Tables;
 ghost use Rattle.spec_tree.specs.Leaves as Leaves;
 ghost use Rattle.leaves.specs.Values as Values;
@@ -10,38 +10,24 @@ pub struct Leaf<'a> {
     pub slice: &'a [u32],
 }
 
-// A triangle of a leaf, none where there is none at that place, or a refusal.
-#[derive(Clone, Copy)]
-pub enum EntryFound {
-    Nothing,
-    Triangle(u32),
-    Refused { number: usize, place: usize },
-}
-
-// The smaller of the two.
-fn lesser(a: usize, b: usize) -> usize
-    ensures { result ≡ min a b }
-{
-    if a < b { a } else { b }
-}
-
 // The order list from `first` up to `last`, the end not included, as far as the list goes.
 pub fn slice_of(order: &[u32], first: usize, last: usize) -> &[u32]
     ensures { result.now ≡ Tables.slice order.now first (last - first) }
 {
-    let end = lesser(last, order.len());
-    let start = lesser(first, end);
+    let end = last.min(order.len());
+    let start = first.min(end);
     &order[start..end]
 }
 
-// The triangle at a place of a leaf's slice.
-pub fn entry_at(slice: &[u32], i: usize) -> EntryFound
-    ensures { Values.as_entry_found result ≡ Leaves.entry_at slice.now i }
+// The triangle at a place of a leaf's slice, nothing past its end.
+pub fn entry_at(slice: &[u32], i: usize) -> Option<u32>
+    ensures { Values.as_entry result ≡ Leaves.entry_at slice.now i }
 {
     if i < slice.len() {
-        return EntryFound::Triangle(slice[i]);
+        Some(slice[i])
+    } else {
+        None
     }
-    EntryFound::Nothing
 }
 
 impl<'a> Leaf<'a> {
@@ -62,16 +48,16 @@ impl<'a> Leaf<'a> {
     }
 
     // The i-th triangle of the leaf, counted from 0.
-    pub fn entry(self, i: usize) -> EntryFound
-        ensures { Values.as_entry_found result ≡ Leaves.entry_at self.entry.slice.now i }
+    pub fn entry(self, i: usize) -> Option<u32>
+        ensures { Values.as_entry result ≡ Leaves.entry_at self.entry.slice.now i }
     {
         entry_at(self.slice, i)
     }
 }
 
 // The i-th triangle of the leaf with these entries, by way of its reader.
-pub fn entry_of(order: &[u32], first: usize, last: usize, i: usize) -> EntryFound
-    ensures { Values.as_entry_found result ≡ Leaves.entry_at (Tables.slice order.now first (last - first)) i }
+pub fn entry_of(order: &[u32], first: usize, last: usize, i: usize) -> Option<u32>
+    ensures { Values.as_entry result ≡ Leaves.entry_at (Tables.slice order.now first (last - first)) i }
 {
     Leaf::of(order, first, last).entry(i)
 }

@@ -4,7 +4,7 @@ ghost use Rattle.spec_lists.specs.Refusals as Refusals;
 ghost use Rattle.lists.specs.Values as Values;
 
 use crate::limits;
-use crate::verdict::{Verdict, refused_if};
+use crate::refusal::{Refusal, refused_if};
 
 #[derive(Clone, Copy)]
 pub struct Settings {
@@ -25,8 +25,8 @@ fn are_settings(s: Settings) -> bool
 }
 
 // 5: a setting is out of range.
-pub fn settings_refusal(settings: Settings) -> Verdict
+pub fn settings_refusal(settings: Settings) -> Result<(), Refusal>
     ensures { Values.as_verdict result ≡ Refusals.settings_refusal (Values.as_settings settings) }
 {
-    refused_if(!are_settings(settings), 5, 0)
+    refused_if(!are_settings(settings), Refusal::BadSetting)
 }

@@ -4,9 +4,9 @@ ghost use Rattle.spec_lists.specs.Reading as Reading;
 ghost use Rattle.spec_lists.specs.Refusals as Refusals;
 ghost use Rattle.lists.specs.Values as Values;
 
-use crate::coordinates::{coordinate_refusal, is_within};
+use crate::coordinates::{first_bad, is_within};
 use crate::limits;
-use crate::verdict::{Verdict, refused_if};
+use crate::refusal::{Refusal, refused_if};
 
 // The points of the list, three numbers each.
 pub fn point_count(points: &[f32]) -> usize
@@ -16,25 +16,34 @@ pub fn point_count(points: &[f32]) -> usize
 }
 
 // 8: the length is no multiple of three, or a number is no coordinate.
-pub fn points_refusal(points: &[f32]) -> Verdict
+pub fn points_refusal(points: &[f32]) -> Result<(), Refusal>
     ensures { Values.as_verdict result ≡ Refusals.points_refusal points.now }
 {
-    let ragged = refused_if(points.len() % 3 != 0, 8, points.len());
-    ragged.or(coordinate_refusal(8, points))
+    refused_if(points.len() % 3 != 0, Refusal::BadPoint(points.len()))?;
+    match first_bad(points) {
+        Some(at) => Err(Refusal::BadPoint(at)),
+        None => Ok(()),
+    }
 }
 
 // 9: the distance is out of range or a NaN.
-pub fn distance_refusal(distance: f32) -> Verdict
+pub fn distance_refusal(distance: f32) -> Result<(), Refusal>
     ensures { Values.as_verdict result ≡ Refusals.distance_refusal distance }
 {
-    refused_if(!is_within(0.0, limits::LONGEST_DISTANCE, distance), 9, 0)
+    refused_if(
+        !is_within(0.0, limits::LONGEST_DISTANCE, distance),
+        Refusal::BadDistance,
+    )
 }
 
 // 14: the accuracy scale is out of range or a NaN.
-pub fn scale_refusal(scale: f32) -> Verdict
+pub fn scale_refusal(scale: f32) -> Result<(), Refusal>
     ensures { Values.as_verdict result ≡ Refusals.scale_refusal scale }
 {
-    refused_if(!is_within(0.0, limits::LARGEST_SCALE, scale), 14, 0)
+    refused_if(
+        !is_within(0.0, limits::LARGEST_SCALE, scale),
+        Refusal::BadScale,
+    )
 }
 
 // The triangles of the list, nine numbers each.
@@ -45,35 +54,38 @@ pub fn triangle_count(triangles: &[f32]) -> usize
 }
 
 // 1: the length is no multiple of nine.
-fn ragged_refusal(triangles: &[f32]) -> Verdict
+fn ragged_refusal(triangles: &[f32]) -> Result<(), Refusal>
     ensures { Values.as_verdict result ≡ Refusals.ragged_refusal triangles.now }
 {
-    refused_if(triangles.len() % 9 != 0, 1, 0)
+    refused_if(triangles.len() % 9 != 0, Refusal::RaggedTriangles)
 }
 
 // 2: there is no triangle.
-fn none_refusal(triangles: &[f32]) -> Verdict
+fn none_refusal(triangles: &[f32]) -> Result<(), Refusal>
     ensures { Values.as_verdict result ≡ Refusals.none_refusal triangles.now }
 {
-    refused_if(triangle_count(triangles) == 0, 2, 0)
+    refused_if(triangle_count(triangles) == 0, Refusal::NoTriangle)
 }
 
 // 3: there are more triangles than the limit.
-fn too_many_refusal(triangles: &[f32]) -> Verdict
+fn too_many_refusal(triangles: &[f32]) -> Result<(), Refusal>
     ensures { Values.as_verdict result ≡ Refusals.too_many_refusal triangles.now }
 {
-    refused_if(limits::MAX_TRIANGLES < triangle_count(triangles), 3, 0)
+    refused_if(
+        limits::MAX_TRIANGLES < triangle_count(triangles),
+        Refusal::TooManyTriangles,
+    )
 }
 
 // 1 to 4: the length, then the coordinates.
-pub fn triangles_refusal(triangles: &[f32]) -> Verdict
+pub fn triangles_refusal(triangles: &[f32]) -> Result<(), Refusal>
     ensures { Values.as_verdict result ≡ Refusals.triangles_refusal triangles.now }
 {
-    let bad_count = ragged_refusal(triangles)
-        .or(none_refusal(triangles))
-        .or(too_many_refusal(triangles));
-    if bad_count.refuses() {
-        return bad_count;
+    ragged_refusal(triangles)?;
+    none_refusal(triangles)?;
+    too_many_refusal(triangles)?;
+    match first_bad(triangles) {
+        Some(at) => Err(Refusal::BadCoordinate(at)),
+        None => Ok(()),
     }
-    coordinate_refusal(4, triangles)
 }

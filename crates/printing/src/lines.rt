@@ -1,4 +1,6 @@
 // Lines: words and numbers with one space between them, and a line feed.
+// Kept: (a) no `Display`: a line is written into lent bytes, with no heap, and its contract says each of its bytes.
+// Kept: (d) `at` beside `out`. As a part, `put_word(&mut out[at..], word)`, each contract would tell what stands in front of the part too.
 ghost use Rattle.std.specs.Prelude.{◌≡◌, [], ◌∷◌, ◌+◌, ◌≤◌, length};
 ghost use Rattle.spec_tables.specs.Tables.{Put};
 ghost use Rattle.spec_printing.specs.Printed.{spaced_decimal, spaced_hex, named, counts_line, found_line, longest_found, nothing_line, refused_line};
@@ -21,14 +23,12 @@ fn put_word(out: &mut [u8], at: usize, word: &[u8]) -> usize
     requires { at + length word.now ≤ length out.old }
     ensures { Put at word.now out.old out.new result }
 {
-    let mut i = 0;
-    while i < word.len() {
-        out[at + i] = word[i];
-        i += 1;
-    }
-    at + i
+    let next = at + word.len();
+    out[at..next].copy_from_slice(word);
+    next
 }
 
+// Kept: (d) decimal and hex apart. As one, `put_spaced(out, at, |out, next| put_hex(out, next, n))`, each call would say more than now.
 // Writes a space and the number in decimal.
 fn put_spaced_decimal(out: &mut [u8], at: usize, n: usize) -> usize
     requires { at + 21 ≤ length out.old }

@@ -1,4 +1,5 @@
 // Numbers in decimal and in hex.
+// Kept: (d) `at` beside `out`. As a part, `put_hex(&mut out[at..], n)`, each contract would tell what stands in front of the part too.
 ghost use Rattle.std.specs.Prelude.{◌≡◌, ◌+◌, ◌≤◌, ◌<◌, length};
 ghost use Rattle.spec_tables.specs.Tables.{Put};
 ghost use Rattle.spec_printing.specs.Printed.{digit, digits, width, decimal, hex};
@@ -9,9 +10,10 @@ fn digit_of(d: usize) -> u8
     ensures { result ≡ digit d }
 {
     if d < 10 {
-        return (48 + d) as u8;
+        b'0' + d as u8
+    } else {
+        b'a' + (d - 10) as u8
     }
-    (87 + d) as u8
 }
 
 // Writes the lowest `count` digits of n in a base, from the last one backwards.
@@ -21,12 +23,10 @@ fn put_digits(out: &mut [u8], at: usize, base: usize, count: usize, n: usize) ->
     ensures put { Put at (digits base count n) out.old out.new result }
     ensures value { result ≡ at + count }
 {
-    let mut remaining = count;
     let mut rest = n;
-    while remaining > 0 {
-        remaining -= 1;
-        out[at + remaining] = digit_of(rest % base);
-        rest = rest / base;
+    for k in (0..count).rev() {
+        out[at + k] = digit_of(rest % base);
+        rest /= base;
     }
     at + count
 }
@@ -35,13 +35,7 @@ fn put_digits(out: &mut [u8], at: usize, base: usize, count: usize, n: usize) ->
 fn width_of(n: usize) -> usize
     ensures { (result ≡ width n) × (result ≤ 20) }
 {
-    let mut count: usize = 1;
-    let mut rest = n;
-    while rest >= 10 {
-        rest = rest / 10;
-        count += 1;
-    }
-    count
+    n.max(1).ilog10() as usize + 1
 }
 
 // Writes n in decimal, without leading zeros.

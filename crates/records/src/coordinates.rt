@@ -12,12 +12,10 @@ pub fn first_bad_in(bytes: &[u8], start: usize, count: usize) -> usize
     requires { start + 4 * count ≤ length bytes.now }
     ensures { result ≡ first_bad (floats_in binary32 bytes.now start count) }
 {
-    let mut i = 0;
-    while i < count {
+    for i in 0..count {
         if !is_coordinate(f32_at(bytes, start + 4 * i)) {
             return i;
         }
-        i += 1;
     }
-    i
+    count
 }

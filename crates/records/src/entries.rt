@@ -1,4 +1,5 @@
 // Lists of numbers in bytes. Writing takes `count` entries from index `from` on; reading takes `count` entries from byte `start` on.
+// Kept: (d) the numbers beside the lists. As a slice, `&entries[from..from + count]`, the contracts would say a `slice` of what they name now.
 ghost use Rattle.std.specs.Prelude.{◌≡◌, ◌+◌, ◌*◌, ◌≤◌, length};
 ghost use Rattle.std.specs.Float.{binary32};
 ghost use Rattle.std.specs.Float.Ieee.{of_bits};
@@ -7,42 +8,24 @@ ghost use Rattle.spec_records.specs.Little.{little_at};
 ghost use Rattle.spec_records.specs.Entries.{number_bytes, float_bytes, numbers_in, floats_in};
 ghost use Rattle.spec_records.specs.Layouts.{shape_by};
 
-use crate::numbers::{put_u16, put_u32, u16_at, u32_at};
+use crate::numbers::{number_at, put_number, put_u32, u32_at};
 use floats::{bits_of, from_bits};
 
-// An entry as a usize.
-fn whole(entry: u32) -> usize
-    ensures { result ≡ entry }
-{
-    entry as usize
-}
-
-// Writes two bytes an entry, its lowest, from byte `at` on.
-pub fn put_u16s(entries: &[u32], from: usize, count: usize, out: &mut [u8], at: usize) -> usize
-    requires { (from + count ≤ length entries.now) × (at + 2 * count ≤ length out.old) }
-    ensures put { Put at (number_bytes 2 entries.now from count) out.old out.new result }
-    ensures value { result ≡ at + 2 * count }
-{
-    let mut next = at;
-    let mut i = 0;
-    while i < count {
-        next = put_u16(out, next, whole(entries[from + i]));
-        i += 1;
-    }
-    next
-}
-
-// Writes four bytes an entry from byte `at` on.
-pub fn put_u32s(entries: &[u32], from: usize, count: usize, out: &mut [u8], at: usize) -> usize
-    requires { (from + count ≤ length entries.now) × (at + 4 * count ≤ length out.old) }
-    ensures put { Put at (number_bytes 4 entries.now from count) out.old out.new result }
-    ensures value { result ≡ at + 4 * count }
+// Writes SIZE bytes an entry, its lowest, from byte `at` on.
+pub fn put_numbers<const SIZE: usize>(
+    entries: &[u32],
+    from: usize,
+    count: usize,
+    out: &mut [u8],
+    at: usize,
+) -> usize
+    requires { (from + count ≤ length entries.now) × (at + SIZE * count ≤ length out.old) }
+    ensures put { Put at (number_bytes SIZE entries.now from count) out.old out.new result }
+    ensures value { result ≡ at + SIZE * count }
 {
     let mut next = at;
-    let mut i = 0;
-    while i < count {
-        next = put_u32(out, next, whole(entries[from + i]));
-        i += 1;
+    for entry in &entries[from..from + count] {
+        next = put_number::<SIZE>(out, next, *entry as usize);
     }
     next
 }
@@ -61,9 +44,10 @@ pub fn put_entries(
     ensures value { result ≡ at + (shape_by wide).entry * count }
 {
     if wide {
-        return put_u32s(entries, from, count, out, at);
+        put_numbers::<4>(entries, from, count, out, at)
+    } else {
+        put_numbers::<2>(entries, from, count, out, at)
     }
-    put_u16s(entries, from, count, out, at)
 }
 
 // Writes the four bytes of each number from byte `at` on. A NaN is written as 7FC00000.
@@ -73,35 +57,26 @@ pub fn put_f32s(entries: &[f32], from: usize, count: usize, out: &mut [u8], at: 
     ensures value { result ≡ at + 4 * count }
 {
     let mut next = at;
-    let mut i = 0;
-    while i < count {
-        next = put_u32(out, next, whole(bits_of(entries[from + i])));
-        i += 1;
+    for entry in &entries[from..from + count] {
+        next = put_u32(out, next, bits_of(*entry) as usize);
     }
     next
 }
 
-// Leaves the entries, two bytes each, in `out` from index `at` on.
-pub fn read_u16s(bytes: &[u8], start: usize, count: usize, out: &mut [u32], at: usize)
-    requires { (start + 2 * count ≤ length bytes.now) × (at + count ≤ length out.old) }
-    ensures { out.new ≡ overwrite at (numbers_in 2 bytes.now start count) out.old }
+// Leaves the entries, SIZE bytes each, in `out` from index `at` on.
+pub fn read_numbers<const SIZE: usize>(
+    bytes: &[u8],
+    start: usize,
+    count: usize,
+    out: &mut [u32],
+    at: usize,
+)
+    requires room { (start + SIZE * count ≤ length bytes.now) × (at + count ≤ length out.old) }
+    requires size_in_bounds { SIZE ≤ 4 }
+    ensures { out.new ≡ overwrite at (numbers_in SIZE bytes.now start count) out.old }
 {
-    let mut i = 0;
-    while i < count {
-        out[at + i] = u16_at(bytes, start + 2 * i);
-        i += 1;
-    }
-}
-
-// Leaves the entries, four bytes each, in `out` from index `at` on.
-pub fn read_u32s(bytes: &[u8], start: usize, count: usize, out: &mut [u32], at: usize)
-    requires { (start + 4 * count ≤ length bytes.now) × (at + count ≤ length out.old) }
-    ensures { out.new ≡ overwrite at (numbers_in 4 bytes.now start count) out.old }
-{
-    let mut i = 0;
-    while i < count {
-        out[at + i] = u32_at(bytes, start + 4 * i);
-        i += 1;
+    for i in 0..count {
+        out[at + i] = number_at::<SIZE>(bytes, start + SIZE * i);
     }
 }
 
@@ -118,10 +93,10 @@ pub fn read_entries(
     ensures { out.new ≡ overwrite at (numbers_in (shape_by wide).entry bytes.now start count) out.old }
 {
     if wide {
-        read_u32s(bytes, start, count, out, at);
-        return;
+        read_numbers::<4>(bytes, start, count, out, at);
+    } else {
+        read_numbers::<2>(bytes, start, count, out, at);
     }
-    read_u16s(bytes, start, count, out, at);
 }
 
 // The number that the four bytes from `at` on stand for. Every pattern of a NaN is read as the one NaN.
@@ -137,9 +112,7 @@ pub fn read_f32s(bytes: &[u8], start: usize, count: usize, out: &mut [f32], at: 
     requires { (start + 4 * count ≤ length bytes.now) × (at + count ≤ length out.old) }
     ensures { out.new ≡ overwrite at (floats_in binary32 bytes.now start count) out.old }
 {
-    let mut i = 0;
-    while i < count {
+    for i in 0..count {
         out[at + i] = f32_at(bytes, start + 4 * i);
-        i += 1;
     }
 }

@@ -3,128 +3,126 @@
 ghost use Rattle.std.specs.Prelude.{◌≡◌};
 ghost use Rattle.spec_records.specs.Records.{laid_out};
 ghost use Rattle.spec_records.specs.Layouts.{image_wants, gauge_wants};
+ghost use Rattle.lists.specs.declared.refusal.Refusal.TheVariants.{BadLayout};
 ghost use Rattle.records.specs.Values.{opening_of, TreeNext, image_laid, gauge_laid};
-ghost use Rattle.records.specs.declared.layout.Opening.TheVariants.{Right};
 
-use crate::bodies::{Body, has_body, has_settings, triangles_body, whole_body};
+use crate::bodies::{has_body, has_settings, triangles_body, whole_body};
 use crate::versions::{is_wide, node_size, order_size};
+use lists::refusal::Refusal;
 
-// How many triangles and nodes there are, or the offset of the first wrong record.
+// The offset of the first wrong record.
 #[derive(Clone, Copy)]
-pub enum ImageLayout {
-    Right { triangles: usize, nodes: usize },
-    Wrong(usize),
+pub struct WrongRecord {
+    pub at: usize,
 }
 
-// How many triangles and points there are and whether there is a rule, or the offset of the first wrong record.
-#[derive(Clone, Copy)]
-pub enum GaugeLayout {
-    Right {
-        triangles: usize,
-        points: usize,
-        ruled: bool,
-    },
-    Wrong(usize),
+// A call that refuses its input for that tells the offset.
+impl From<WrongRecord> for Refusal {
+    ghost from_gives = { λ wrong refusal. refusal ≡ BadLayout wrong.at };
+
+    fn from(wrong: WrongRecord) -> Refusal {
+        Refusal::BadLayout(wrong.at)
+    }
 }
 
-// The size of the triangles' body, or the offset of the first wrong record.
+// How many triangles and nodes an image has.
 #[derive(Clone, Copy)]
-enum Opening {
-    Right(usize),
-    Wrong(usize),
+pub struct ImageCounts {
+    pub triangles: usize,
+    pub nodes: usize,
 }
 
-// The two records that an image and an input of `gauge` begin with: settings and triangles.
-fn opening_of(bytes: &[u8]) -> Opening
+// How many triangles and points an input of `gauge` has, and whether it tells a rule.
+#[derive(Clone, Copy)]
+pub struct GaugeCounts {
+    pub triangles: usize,
+    pub points: usize,
+    pub ruled: bool,
+}
+
+// The two records that an image and an input of `gauge` begin with, settings and triangles: the size of the second's body.
+fn opening_of(bytes: &[u8]) -> Result<usize, WrongRecord>
     ensures { result ≡ opening_of bytes.now }
 {
     if !has_settings(bytes) {
-        return Opening::Wrong(0);
+        return Err(WrongRecord { at: 0 });
     }
-    let Body::Right(triangles) = triangles_body(bytes) else {
-        return Opening::Wrong(14);
-    };
-    Opening::Right(triangles)
+    triangles_body(bytes).ok_or(WrongRecord { at: 14 })
 }
 
 // The layout of an image behind its triangles: `order` bytes of order entries, and whole nodes of `node` bytes.
-fn tree_layout(bytes: &[u8], triangles: usize, order: usize, node: usize) -> ImageLayout
+fn tree_layout(
+    bytes: &[u8],
+    triangles: usize,
+    order: usize,
+    node: usize,
+) -> Result<ImageCounts, WrongRecord>
     requires { TreeNext bytes.now triangles order node }
     ensures { image_laid result ≡ laid_out image_wants bytes.now 0 }
 {
     let third = 20 + triangles;
     if !has_body(bytes, third, 3, order) {
-        return ImageLayout::Wrong(third);
+        return Err(WrongRecord { at: third });
     }
     let fourth = third + 6 + order;
-    let Body::Right(nodes) = whole_body(bytes, fourth, 4, node) else {
-        return ImageLayout::Wrong(fourth);
-    };
+    let nodes = whole_body(bytes, fourth, 4, node).ok_or(WrongRecord { at: fourth })?;
     let end = fourth + 6 + nodes;
     if end != bytes.len() {
-        return ImageLayout::Wrong(end);
+        return Err(WrongRecord { at: end });
     }
-    ImageLayout::Right {
+    Ok(ImageCounts {
         triangles: triangles / 36,
         nodes: nodes / node,
-    }
+    })
 }
 
 // The layout of an image.
-pub fn image_layout(bytes: &[u8]) -> ImageLayout
+pub fn image_layout(bytes: &[u8]) -> Result<ImageCounts, WrongRecord>
     ensures { image_laid result ≡ laid_out image_wants bytes.now 0 }
 {
-    match opening_of(bytes) {
-        Opening::Right(triangles) => {
-            let count = triangles / 36;
-            let wide = is_wide(count);
-            tree_layout(bytes, triangles, order_size(wide, count), node_size(wide))
-        }
-        Opening::Wrong(at) => ImageLayout::Wrong(at),
-    }
+    let triangles = opening_of(bytes)?;
+    let count = triangles / 36;
+    let wide = is_wide(count);
+    tree_layout(bytes, triangles, order_size(wide, count), node_size(wide))
 }
 
 // The layout of an input of `gauge` whose triangles' body has this size.
-fn query_layout(bytes: &[u8], triangles: usize) -> GaugeLayout
-    requires { opening_of bytes.now ≡ Right triangles }
+fn query_layout(bytes: &[u8], triangles: usize) -> Result<GaugeCounts, WrongRecord>
+    requires { opening_of bytes.now ≡ Ok triangles }
     ensures { gauge_laid result ≡ laid_out gauge_wants bytes.now 0 }
 {
     let third = 20 + triangles;
-    let Body::Right(points) = whole_body(bytes, third, 5, 12) else {
-        return GaugeLayout::Wrong(third);
-    };
+    let points = whole_body(bytes, third, 5, 12).ok_or(WrongRecord { at: third })?;
     let fourth = third + 6 + points;
     if !has_body(bytes, fourth, 6, 4) {
-        return GaugeLayout::Wrong(fourth);
+        return Err(WrongRecord { at: fourth });
     }
     let fifth = fourth + 6 + 4;
     if fifth == bytes.len() {
-        return GaugeLayout::Right {
+        return Ok(GaugeCounts {
             triangles: triangles / 36,
             points: points / 12,
             ruled: false,
-        };
+        });
     }
     if !has_body(bytes, fifth, 7, 2) {
-        return GaugeLayout::Wrong(fifth);
+        return Err(WrongRecord { at: fifth });
     }
     let end = fifth + 6 + 2;
     if end != bytes.len() {
-        return GaugeLayout::Wrong(end);
+        return Err(WrongRecord { at: end });
     }
-    GaugeLayout::Right {
+    Ok(GaugeCounts {
         triangles: triangles / 36,
         points: points / 12,
         ruled: true,
-    }
+    })
 }
 
 // The layout of an input of `gauge`.
-pub fn gauge_layout(bytes: &[u8]) -> GaugeLayout
+pub fn gauge_layout(bytes: &[u8]) -> Result<GaugeCounts, WrongRecord>
     ensures { gauge_laid result ≡ laid_out gauge_wants bytes.now 0 }
 {
-    match opening_of(bytes) {
-        Opening::Right(triangles) => query_layout(bytes, triangles),
-        Opening::Wrong(at) => GaugeLayout::Wrong(at),
-    }
+    let triangles = opening_of(bytes)?;
+    query_layout(bytes, triangles)
 }

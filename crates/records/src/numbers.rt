@@ -1,13 +1,21 @@
-// One number in bytes, the lowest byte first: two bytes, or four as two and two.
-ghost use Rattle.std.specs.Prelude.{◌≡◌, ◌+◌, ◌≤◌, ◌<◌, length};
+// One number in bytes, the lowest byte first.
+// Kept: (d) `at` beside the bytes. As a part, `put_u16(&mut out[at..], n)`, each contract would tell what stands in front of the part too.
+ghost use Rattle.std.specs.Prelude.{◌≡◌, ◌+◌, ◌^◌, ◌≤◌, ◌<◌, length};
 ghost use Rattle.spec_tables.specs.Tables.{Put};
 ghost use Rattle.spec_records.specs.Little.{little, little_at};
 
-// A byte as a u32.
-fn wide(b: u8) -> u32
-    ensures { result ≡ b }
+// The number of the SIZE bytes from `at` on.
+pub fn number_at<const SIZE: usize>(bytes: &[u8], at: usize) -> u32
+    requires at_in_bounds { at + SIZE ≤ length bytes.now }
+    requires size_in_bounds { SIZE ≤ 4 }
+    ensures value { result ≡ little_at SIZE bytes.now at }
+    ensures upper_bound { result < 256 ^ SIZE }
 {
-    b as u32
+    let mut n = 0;
+    for k in (0..SIZE).rev() {
+        n = 256 * n + u32::from(bytes[at + k]);
+    }
+    n
 }
 
 // The number of the two bytes from `at` on.
@@ -16,7 +24,7 @@ pub fn u16_at(bytes: &[u8], at: usize) -> u32
     ensures value { result ≡ little_at 2 bytes.now at }
     ensures upper_bound { result < 65536 }
 {
-    wide(bytes[at]) + 256 * wide(bytes[at + 1])
+    number_at::<2>(bytes, at)
 }
 
 // The number of the four bytes from `at` on.
@@ -24,7 +32,21 @@ pub fn u32_at(bytes: &[u8], at: usize) -> u32
     requires { at + 4 ≤ length bytes.now }
     ensures { result ≡ little_at 4 bytes.now at }
 {
-    u16_at(bytes, at) + 65536 * u16_at(bytes, at + 2)
+    number_at::<4>(bytes, at)
+}
+
+// Writes the lowest SIZE bytes of n.
+pub fn put_number<const SIZE: usize>(out: &mut [u8], at: usize, n: usize) -> usize
+    requires { at + SIZE ≤ length out.old }
+    ensures put { Put at (little SIZE n) out.old out.new result }
+    ensures value { result ≡ at + SIZE }
+{
+    let mut rest = n;
+    for k in 0..SIZE {
+        out[at + k] = (rest % 256) as u8;
+        rest /= 256;
+    }
+    at + SIZE
 }
 
 // Writes the lowest two bytes of n.
@@ -33,9 +55,7 @@ pub fn put_u16(out: &mut [u8], at: usize, n: usize) -> usize
     ensures put { Put at (little 2 n) out.old out.new result }
     ensures value { result ≡ at + 2 }
 {
-    out[at] = (n % 256) as u8;
-    out[at + 1] = (n / 256 % 256) as u8;
-    at + 2
+    put_number::<2>(out, at, n)
 }
 
 // Writes the lowest four bytes of n.
@@ -44,6 +64,5 @@ pub fn put_u32(out: &mut [u8], at: usize, n: usize) -> usize
     ensures put { Put at (little 4 n) out.old out.new result }
     ensures value { result ≡ at + 4 }
 {
-    let middle = put_u16(out, at, n);
-    put_u16(out, middle, n / 65536)
+    put_number::<4>(out, at, n)
 }

@@ -13,10 +13,7 @@ pub fn is_wide(triangles: usize) -> bool
 pub fn version(wide: bool) -> u32
     ensures { result ≡ (shape_by wide).version }
 {
-    if wide {
-        return 2;
-    }
-    1
+    if wide { 2 } else { 1 }
 }
 
 // How many bytes so many order entries take.
@@ -24,18 +21,12 @@ pub fn order_size(wide: bool, triangles: usize) -> usize
     requires { 4 * triangles < 2 ^ 64 }
     ensures { result ≡ (shape_by wide).entry * triangles }
 {
-    if wide {
-        return 4 * triangles;
-    }
-    2 * triangles
+    if wide { 4 * triangles } else { 2 * triangles }
 }
 
 // How many bytes a node takes.
 pub fn node_size(wide: bool) -> usize
     ensures { result ≡ node_size (shape_by wide) }
 {
-    if wide {
-        return 34;
-    }
-    30
+    if wide { 34 } else { 30 }
 }

@@ -48,16 +48,8 @@ impl Box3 {
         ensures { Values.as_box result ≡ Boxes.empty binary32 }
     {
         Box3 {
-            min: Vec3 {
-                x: 3.4028235e38,
-                y: 3.4028235e38,
-                z: 3.4028235e38,
-            },
-            max: Vec3 {
-                x: -3.4028235e38,
-                y: -3.4028235e38,
-                z: -3.4028235e38,
-            },
+            min: Vec3::splat(f32::MAX),
+            max: Vec3::splat(f32::MIN),
         }
     }
 
@@ -75,10 +67,7 @@ impl Box3 {
     pub fn union_point(self, p: Vec3) -> Box3
         ensures { Values.as_box result ≡ Boxes.union_point (Values.as_box self) (Values.as_point p) }
     {
-        Box3 {
-            min: self.min.smallest(p),
-            max: self.max.largest(p),
-        }
+        self.union_box(Box3::new(p, p))
     }
 
     // Half the sum of both corners.
@@ -149,11 +138,7 @@ impl Box3 {
     pub fn hold(self, p: Vec3) -> Vec3
         ensures { Values.as_point result ≡ Boxes.held_in (Values.as_box self) (Values.as_point p) }
     {
-        Vec3 {
-            x: floats::held(self.min.x, self.max.x, p.x),
-            y: floats::held(self.min.y, self.max.y, p.y),
-            z: floats::held(self.min.z, self.max.z, p.z),
-        }
+        p.largest(self.min).smallest(self.max)
     }
 
     // The squared distance from p to p held into the box. The sure query skips a box by it.

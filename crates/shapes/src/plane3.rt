@@ -17,22 +17,11 @@ pub struct Plane3 {
 pub fn unit_of(axis: Axis) -> Vec3
     ensures { Values.as_point result ≡ Planes.unit (Values.as_axis axis) }
 {
+    let origin = Vec3::splat(0.0);
     match axis {
-        Axis::X => Vec3 {
-            x: 1.0,
-            y: 0.0,
-            z: 0.0,
-        },
-        Axis::Y => Vec3 {
-            x: 0.0,
-            y: 1.0,
-            z: 0.0,
-        },
-        Axis::Z => Vec3 {
-            x: 0.0,
-            y: 0.0,
-            z: 1.0,
-        },
+        Axis::X => Vec3 { x: 1.0, ..origin },
+        Axis::Y => Vec3 { y: 1.0, ..origin },
+        Axis::Z => Vec3 { z: 1.0, ..origin },
     }
 }
 
@@ -40,9 +29,7 @@ pub fn unit_of(axis: Axis) -> Vec3
 fn reach_of(normal: Vec3, halves: Vec3) -> f32
     ensures { result ≡ Planes.reach binary32 (Values.as_point normal) (Values.as_point halves) }
 {
-    halves.x * floats::absolute(normal.x)
-        + halves.y * floats::absolute(normal.y)
-        + halves.z * floats::absolute(normal.z)
+    halves.dot(normal.map(|n| floats::absolute(n)))
 }
 
 impl Plane3 {

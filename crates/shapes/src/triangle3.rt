@@ -47,20 +47,12 @@ pub struct Dots {
     pub d6: f32,
 }
 
-impl Part {
-    // The number by which an answer tells the part.
-    pub fn number(self) -> u32
-        ensures { result ≡ Triangles.part_number (Values.as_part self) }
-    {
-        match self {
-            Part::Face => 0,
-            Part::CornerA => 1,
-            Part::CornerB => 2,
-            Part::CornerC => 3,
-            Part::EdgeAB => 4,
-            Part::EdgeAC => 5,
-            Part::EdgeBC => 6,
-        }
+// The number by which an answer tells the part.
+impl From<Part> for u32 {
+    ghost from_gives = { λ part number. number ≡ Triangles.part_number (Values.as_part part) };
+
+    fn from(part: Part) -> u32 {
+        part as u32
     }
 }
 
@@ -69,10 +61,9 @@ impl Spot {
     fn hold(self, bounds: Box3) -> Spot
         ensures { Values.as_spot result ≡ Triangles.moved (Boxes.held_in (Values.as_box bounds)) (Values.as_spot self) }
     {
-        let part = self.part;
         Spot {
             point: bounds.hold(self.point),
-            part,
+            ..self
         }
     }
 
@@ -80,10 +71,9 @@ impl Spot {
     fn plus_zero(self) -> Spot
         ensures { Values.as_spot result ≡ Triangles.moved Points.plus_zero (Values.as_spot self) }
     {
-        let part = self.part;
         Spot {
             point: self.point.plus_zero(),
-            part,
+            ..self
         }
     }
 }

@@ -19,6 +19,42 @@ pub struct Vec3 {
 }
 
 impl Vec3 {
+    // The vector whose coordinates are all v.
+    pub const fn splat(v: f32) -> Vec3
+        ensures { result ≡ record { x = v; y = v; z = v } }
+    {
+        Vec3 { x: v, y: v, z: v }
+    }
+
+    // f of both coordinates, on each axis.
+    // Kept: callers write `|p, q| floats::min2(p, q)`: for `self.zip(b, floats::min2)` the check finds no contract of a function that is re-exported.
+    fn zip<F: Fn(f32, f32) -> f32>(self, b: Vec3, f: F) -> Vec3
+        requires { F.IsAlwaysCallable f }
+        ensures x { F.post f self.x b.x result.x }
+        ensures y { F.post f self.y b.y result.y }
+        ensures z { F.post f self.z b.z result.z }
+    {
+        Vec3 {
+            x: f(self.x, b.x),
+            y: f(self.y, b.y),
+            z: f(self.z, b.z),
+        }
+    }
+
+    // f of the coordinate, on each axis.
+    pub(crate) fn map<F: Fn(f32) -> f32>(self, f: F) -> Vec3
+        requires { F.IsAlwaysCallable f }
+        ensures x { F.post f self.x result.x }
+        ensures y { F.post f self.y result.y }
+        ensures z { F.post f self.z result.z }
+    {
+        Vec3 {
+            x: f(self.x),
+            y: f(self.y),
+            z: f(self.z),
+        }
+    }
+
     // The coordinate on an axis.
     pub fn on(self, axis: Axis) -> f32
         ensures { result ≡ Points.on (Values.as_axis axis) (Values.as_point self) }
@@ -34,44 +70,28 @@ impl Vec3 {
     pub fn minus(self, b: Vec3) -> Vec3
         ensures { Values.as_point result ≡ Points.minus binary32 (Values.as_point self) (Values.as_point b) }
     {
-        Vec3 {
-            x: self.x - b.x,
-            y: self.y - b.y,
-            z: self.z - b.z,
-        }
+        self.zip(b, |p, q| p - q)
     }
 
     // The sum on each axis.
     pub fn plus(self, b: Vec3) -> Vec3
         ensures { Values.as_point result ≡ Points.plus binary32 (Values.as_point self) (Values.as_point b) }
     {
-        Vec3 {
-            x: self.x + b.x,
-            y: self.y + b.y,
-            z: self.z + b.z,
-        }
+        self.zip(b, |p, q| p + q)
     }
 
     // Each coordinate times s.
     pub fn scale(self, s: f32) -> Vec3
         ensures { Values.as_point result ≡ Points.scale binary32 (Values.as_point self) s }
     {
-        Vec3 {
-            x: self.x * s,
-            y: self.y * s,
-            z: self.z * s,
-        }
+        self.map(|p| p * s)
     }
 
     // Each coordinate divided by s.
     pub fn over(self, s: f32) -> Vec3
         ensures { Values.as_point result ≡ Points.divided_by binary32 (Values.as_point self) s }
     {
-        Vec3 {
-            x: self.x / s,
-            y: self.y / s,
-            z: self.z / s,
-        }
+        self.map(|p| p / s)
     }
 
     // The dot product, summed from the left.
@@ -96,22 +116,14 @@ impl Vec3 {
     pub fn smallest(self, b: Vec3) -> Vec3
         ensures { Values.as_point result ≡ Points.smallest (Values.as_point self) (Values.as_point b) }
     {
-        Vec3 {
-            x: floats::min2(self.x, b.x),
-            y: floats::min2(self.y, b.y),
-            z: floats::min2(self.z, b.z),
-        }
+        self.zip(b, |p, q| floats::min2(p, q))
     }
 
     // The larger coordinate on each axis, by `max2`.
     pub fn largest(self, b: Vec3) -> Vec3
         ensures { Values.as_point result ≡ Points.largest (Values.as_point self) (Values.as_point b) }
     {
-        Vec3 {
-            x: floats::max2(self.x, b.x),
-            y: floats::max2(self.y, b.y),
-            z: floats::max2(self.z, b.z),
-        }
+        self.zip(b, |p, q| floats::max2(p, q))
     }
 
     // Whether each coordinate is at most that of b.
@@ -132,11 +144,7 @@ impl Vec3 {
     pub fn plus_zero(self) -> Vec3
         ensures { Values.as_point result ≡ Points.plus_zero (Values.as_point self) }
     {
-        Vec3 {
-            x: floats::plus_zero(self.x),
-            y: floats::plus_zero(self.y),
-            z: floats::plus_zero(self.z),
-        }
+        self.map(|p| floats::plus_zero(p))
     }
 
     // The squared distance to p: the difference, and its dot product with itself.

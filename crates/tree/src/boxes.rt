@@ -9,8 +9,9 @@ ghost use Rattle.spec_tree.specs.Reasons as Reasons;
 ghost use Rattle.spec_tree.specs.Trees as Trees;
 ghost use Rattle.tree.specs.Needs as Needs;
 
-use crate::nodes::{kind_at, left_at, node_box, right_at, wide};
+use crate::nodes::{Node, node_at, node_box};
 use floats::same;
+use lists::drawing::Drawing;
 use lists::reading::box_at;
 use shapes::box3::Box3;
 use shapes::vec3::Vec3;
@@ -21,11 +22,9 @@ pub fn joined(triangles: &[f32], slice: &[u32]) -> Box3
     requires numbered { Order.EntriesBelow (Reading.triangle_count triangles.now) slice.now }
     ensures { Shapes.as_box result ≡ Trees.joined (Reading.box_at triangles.now) slice.now }
 {
-    let mut over = box_at(triangles, wide(slice[0]));
-    let mut i = 1;
-    while i < slice.len() {
-        over = over.union_box(box_at(triangles, wide(slice[i])));
-        i += 1;
+    let mut over = box_at(triangles, slice[0] as usize);
+    for t in &slice[1..] {
+        over = over.union_box(box_at(triangles, *t as usize));
     }
     over
 }
@@ -56,48 +55,43 @@ fn same_box(a: Box3, b: Box3) -> bool
 }
 
 // The box that a leaf's triangles give it, or a branch's children by the boxes that are stored for them.
-fn given_box(triangles: &[f32], order: &[u32], links: &[u32], boxes: &[f32], node: usize) -> Box3
-    requires { Needs.Boxable triangles.now order.now links.now boxes.now node }
-    ensures { Shapes.as_box result ≡ Reasons.box_given (Reading.box_at triangles.now) order.now links.now
-        boxes.now (eqb (Trees.kind_at links.now node) 1) node }
+fn given_box(drawing: &Drawing, node: usize) -> Box3
+    requires { Needs.Boxable drawing.now.triangles.now drawing.now.order.now drawing.now.links.now
+        drawing.now.boxes.now node }
+    ensures { Shapes.as_box result ≡ Reasons.box_given (Reading.box_at drawing.now.triangles.now) drawing.now.order.now drawing.now.links.now
+        drawing.now.boxes.now (eqb (Trees.kind_at drawing.now.links.now node) 1) node }
 {
-    let left = left_at(links, node);
-    let right = right_at(links, node);
-    if kind_at(links, node) == 1 {
-        return range_box(triangles, order, left, right);
+    match node_at(drawing.links, node) {
+        Node::Leaf { first, last } => range_box(drawing.triangles, drawing.order, first, last),
+        Node::Branch { left, right } => {
+            node_box(drawing.boxes, left).union_box(node_box(drawing.boxes, right))
+        }
     }
-    node_box(boxes, left).union_box(node_box(boxes, right))
 }
 
 // Whether the node has the box that its triangles or its children give it.
-fn is_boxed(triangles: &[f32], order: &[u32], links: &[u32], boxes: &[f32], node: usize) -> bool
-    requires { Needs.Boxable triangles.now order.now links.now boxes.now node }
-    ensures { result ≡ Reasons.is_boxed (Reading.box_at triangles.now) order.now links.now boxes.now node }
+fn is_boxed(drawing: &Drawing, node: usize) -> bool
+    requires { Needs.Boxable drawing.now.triangles.now drawing.now.order.now drawing.now.links.now
+        drawing.now.boxes.now node }
+    ensures { result ≡ Reasons.is_boxed (Reading.box_at drawing.now.triangles.now) drawing.now.order.now drawing.now.links.now
+        drawing.now.boxes.now node }
 {
-    same_box(
-        given_box(triangles, order, links, boxes, node),
-        node_box(boxes, node),
-    )
+    same_box(given_box(drawing, node), node_box(drawing.boxes, node))
 }
 
 // The first node whose box differs, with this node looked at too: `unlike` is the first before it, or the node itself where none differs.
-pub fn first_unlike(
-    triangles: &[f32],
-    order: &[u32],
-    links: &[u32],
-    boxes: &[f32],
-    node: usize,
-    unlike: usize,
-) -> usize
-    requires boxable { Needs.Boxable triangles.now order.now links.now boxes.now node }
-    requires before { unlike ≡ Reasons.first_failing (Reasons.is_boxed (Reading.box_at triangles.now) order.now links.now boxes.now) node }
-    ensures { result ≡ Reasons.first_failing (Reasons.is_boxed (Reading.box_at triangles.now) order.now links.now
-        boxes.now) (node + 1) }
+pub fn first_unlike(drawing: &Drawing, node: usize, unlike: usize) -> usize
+    requires boxable { Needs.Boxable drawing.now.triangles.now drawing.now.order.now drawing.now.links.now
+        drawing.now.boxes.now node }
+    requires before { unlike ≡ Reasons.first_failing (Reasons.is_boxed (Reading.box_at drawing.now.triangles.now) drawing.now.order.now drawing.now.links.now
+        drawing.now.boxes.now) node }
+    ensures { result ≡ Reasons.first_failing (Reasons.is_boxed (Reading.box_at drawing.now.triangles.now) drawing.now.order.now drawing.now.links.now
+        drawing.now.boxes.now) (node + 1) }
 {
     if unlike < node {
         return unlike;
     }
-    if is_boxed(triangles, order, links, boxes, node) {
+    if is_boxed(drawing, node) {
         return node + 1;
     }
     node

@@ -12,70 +12,36 @@ use crate::count::count_refusal;
 use crate::depth::depth_of;
 use crate::permutation::order_refusal;
 use crate::scan::nodes_refusal;
+use lists::drawing::Drawing;
+use lists::refusal::Refusal;
 use lists::tests::{triangle_count, triangles_refusal};
-use lists::verdict::Verdict;
 
 // The first of 71 to 75 that refuses: the lists are not the listing of a tree over the triangles.
-pub fn tree_refusal(
-    triangles: &[f32],
-    order: &[u32],
-    links: &[u32],
-    boxes: &[f32],
-    nodes: usize,
-) -> Verdict
-    requires { Reading.triangle_count triangles.now ≤ Limits.max_triangles }
-    ensures { Verdicts.as_verdict result
-        ≡ Refusals.tree_refusal triangles.now order.now links.now boxes.now nodes }
+pub fn tree_refusal(drawing: &Drawing) -> Result<(), Refusal>
+    requires { Reading.triangle_count drawing.now.triangles.now ≤ Limits.max_triangles }
+    ensures { Verdicts.as_verdict result ≡ Refusals.tree_refusal drawing.now.triangles.now drawing.now.order.now
+        drawing.now.links.now drawing.now.boxes.now drawing.now.nodes }
 {
-    let n = triangle_count(triangles);
-    let bad_order = order_refusal(n, order);
-    if bad_order.refuses() {
-        return bad_order;
-    }
-    let bad_count = count_refusal(n, links, boxes, nodes);
-    if bad_count.refuses() {
-        return bad_count;
-    }
-    nodes_refusal(triangles, order, links, boxes, n, nodes)
+    let n = triangle_count(drawing.triangles);
+    order_refusal(n, drawing.order)?;
+    count_refusal(n, drawing.links, drawing.boxes, drawing.nodes)?;
+    nodes_refusal(drawing, n)
 }
 
 // Tests 1 to 4 and 71 to 75: whether the lists hold a triangle list and a tree over it.
-pub fn check(
-    triangles: &[f32],
-    order: &[u32],
-    links: &[u32],
-    boxes: &[f32],
-    nodes: usize,
-) -> Verdict
-    ensures { Verdicts.as_verdict result
-        ≡ Refusals.check_refusal triangles.now order.now links.now boxes.now nodes }
+pub fn check(drawing: &Drawing) -> Result<(), Refusal>
+    ensures { Verdicts.as_verdict result ≡ Refusals.check_refusal drawing.now.triangles.now drawing.now.order.now
+        drawing.now.links.now drawing.now.boxes.now drawing.now.nodes }
 {
-    let bad_triangles = triangles_refusal(triangles);
-    if bad_triangles.refuses() {
-        return bad_triangles;
-    }
-    tree_refusal(triangles, order, links, boxes, nodes)
-}
-
-#[derive(Clone, Copy)]
-pub enum DepthFound {
-    Depth(usize),
-    Refused { number: usize, place: usize },
+    triangles_refusal(drawing.triangles)?;
+    tree_refusal(drawing)
 }
 
 // The number of the tree's levels, 1 for a lone leaf, or the first of the tests 1 to 4 and 71 to 75 that refuses.
-pub fn depth(
-    triangles: &[f32],
-    order: &[u32],
-    links: &[u32],
-    boxes: &[f32],
-    nodes: usize,
-) -> DepthFound
-    ensures { Values.as_depth_found result ≡ Depth.depth_answer triangles.now order.now links.now boxes.now nodes }
+pub fn depth(drawing: &Drawing) -> Result<usize, Refusal>
+    ensures { Values.as_depth_found result ≡ Depth.depth_answer drawing.now.triangles.now drawing.now.order.now
+        drawing.now.links.now drawing.now.boxes.now drawing.now.nodes }
 {
-    let verdict = check(triangles, order, links, boxes, nodes);
-    match verdict {
-        Verdict::Refused { number, place } => DepthFound::Refused { number, place },
-        Verdict::Passed => DepthFound::Depth(depth_of(links, nodes)),
-    }
+    check(drawing)?;
+    Ok(depth_of(drawing.links, drawing.nodes))
 }

@@ -5,7 +5,7 @@ ghost use Rattle.spec_lists.specs.Limits as Limits;
 ghost use Rattle.spec_tree.specs.Accepted as Accepted;
 ghost use Rattle.spec_tree.specs.Reasons as Reasons;
 
-use lists::verdict::{Verdict, refused_if};
+use lists::refusal::{Refusal, refused_if};
 
 // Whether there is a node, and the lists hold the links and boxes of `nodes` nodes.
 fn is_present(links: &[u32], boxes: &[f32], nodes: usize) -> bool
@@ -21,10 +21,10 @@ fn is_present(links: &[u32], boxes: &[f32], nodes: usize) -> bool
 }
 
 // 72: there are not 1 to 2n - 1 nodes, or the lists do not hold them all.
-pub fn count_refusal(n: usize, links: &[u32], boxes: &[f32], nodes: usize) -> Verdict
+pub fn count_refusal(n: usize, links: &[u32], boxes: &[f32], nodes: usize) -> Result<(), Refusal>
     requires { n ≤ Limits.max_triangles }
     ensures { Verdicts.as_verdict result ≡ Reasons.count_refusal n links.now boxes.now nodes }
 {
     let good = is_present(links, boxes, nodes) & (nodes < 2 * n);
-    refused_if(!good, 72, 0)
+    refused_if(!good, Refusal::BadNodeCount)
 }

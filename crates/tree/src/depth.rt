@@ -1,5 +1,5 @@
 // 74: the first node that is too deep; and the depth of a tree, which is the number of its levels, 1 for a lone leaf.
-ghost use Rattle.std.specs.Prelude.{◌≡◌, ◌-◌, ◌<◌, max};
+ghost use Rattle.std.specs.Prelude.{◌≡◌, ◌-◌, ◌<◌};
 ghost use Rattle.lists.specs.Values as Verdicts;
 ghost use Rattle.spec_tree.specs.Depth as Depth;
 ghost use Rattle.spec_tree.specs.Reasons as Reasons;
@@ -8,7 +8,7 @@ ghost use Rattle.spec_tree.specs.Ways as Ways;
 use crate::listing::first_of;
 use crate::nodes::{kind_at, left_at, right_at};
 use lists::limits;
-use lists::verdict::{Verdict, refused_if};
+use lists::refusal::{Refusal, refused_if};
 
 // The first node more than `levels` levels down in the listing that ends with this node, the next node where there is none.
 fn first_deep(links: &[u32], levels: usize, node: usize) -> usize
@@ -35,19 +35,12 @@ fn first_deep(links: &[u32], levels: usize, node: usize) -> usize
 }
 
 // 74: at the first node that is deeper than allowed.
-pub fn depth_refusal(links: &[u32], nodes: usize) -> Verdict
+pub fn depth_refusal(links: &[u32], nodes: usize) -> Result<(), Refusal>
     requires { Ways.OneTree links.now nodes }
     ensures { Verdicts.as_verdict result ≡ Reasons.depth_refusal links.now nodes }
 {
     let place = first_deep(links, limits::DEEPEST, nodes - 1);
-    refused_if(place < nodes, 74, place)
-}
-
-// The larger of the two.
-fn deeper(a: usize, b: usize) -> usize
-    ensures { result ≡ max a b }
-{
-    if a < b { b } else { a }
+    refused_if(place < nodes, Refusal::TooDeep(place))
 }
 
 // The levels from this node down, of which at most `most` are looked at.
@@ -63,7 +56,7 @@ fn depth_at(links: &[u32], most: usize, node: usize) -> usize
     }
     let left = depth_at(links, most - 1, left_at(links, node));
     let right = depth_at(links, most - 1, right_at(links, node));
-    deeper(left, right) + 1
+    left.max(right) + 1
 }
 
 // The depth of a tree that the check accepted.

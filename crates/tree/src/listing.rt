@@ -8,7 +8,7 @@ ghost use Rattle.spec_tree.specs.Ways as Ways;
 ghost use Rattle.tree.specs.Needs as Needs;
 
 use crate::nodes::{is_left_before, is_right_before, kind_at, left_at, right_at};
-use lists::verdict::{Verdict, refused_if};
+use lists::refusal::{Refusal, refused_if};
 
 // The first node of the listing that ends with this one: down the left children.
 pub fn first_of(links: &[u32], node: usize) -> usize
@@ -74,7 +74,7 @@ pub fn entry_after(links: &[u32], node: usize, entry: usize) -> usize
 }
 
 // 73 at the end: at the root where more than one tree is left or the cover ends short of n.
-pub fn end_refusal(n: usize, links: &[u32], nodes: usize, entry: usize) -> Verdict
+pub fn end_refusal(n: usize, links: &[u32], nodes: usize, entry: usize) -> Result<(), Refusal>
     requires some { 0 < nodes }
     requires there { 3 * nodes ≤ length links.now }
     requires scanned { Ways.Scanned n links.now nodes entry }
@@ -82,5 +82,5 @@ pub fn end_refusal(n: usize, links: &[u32], nodes: usize, entry: usize) -> Verdi
 {
     let root = nodes - 1;
     let whole = (first_of(links, root) == 0) & (entry == n);
-    refused_if(!whole, 73, root)
+    refused_if(!whole, Refusal::BadListing(root))
 }

@@ -1,13 +1,12 @@
 // 71: whether the order list is a permutation of the triangle numbers, and where not.
-ghost use Rattle.std.specs.Prelude.{◌≡◌, ◌≤◌, min, length};
+ghost use Rattle.std.specs.Prelude.{◌≡◌, ◌≤◌, length};
 ghost use Rattle.lists.specs.Values as Verdicts;
 ghost use Rattle.spec_lists.specs.Limits as Limits;
 ghost use Rattle.spec_tree.specs.Order as Order;
 ghost use Rattle.spec_tree.specs.Reasons as Reasons;
 
-use crate::nodes::wide;
 use lists::limits;
-use lists::verdict::{Verdict, refused_if};
+use lists::refusal::{Refusal, refused_if};
 
 // So many marks are cleared for a list that is no longer: over a small drawing, clearing all would take longer than the check.
 const FEW: usize = 256;
@@ -19,9 +18,8 @@ fn mark_all(n: usize, order: &[u32], seen: &mut [bool]) -> usize
     requires { Order.Unmarked n seen.old }
     ensures { result ≡ Reasons.first_failing (Reasons.is_new n order.now) (length order.now) }
 {
-    let mut i = 0;
-    while i < order.len() {
-        let k = wide(order[i]);
+    for (i, entry) in order.iter().enumerate() {
+        let k = *entry as usize;
         if k >= n {
             return i;
         }
@@ -29,9 +27,8 @@ fn mark_all(n: usize, order: &[u32], seen: &mut [bool]) -> usize
             return i;
         }
         seen[k] = true;
-        i += 1;
     }
-    i
+    order.len()
 }
 
 // The first entry that is no triangle's number or stands there a second time, the list's length where there is none.
@@ -51,19 +48,12 @@ fn first_bad_entry(n: usize, order: &[u32]) -> usize
     mark_all(n, order, &mut seen)
 }
 
-// The smaller of the two.
-fn smaller(a: usize, b: usize) -> usize
-    ensures { result ≡ min a b }
-{
-    if a < b { a } else { b }
-}
-
 // 71: at the first entry that is out of range or repeated; else, where there are not n entries, at the smaller of the two numbers.
-pub fn order_refusal(n: usize, order: &[u32]) -> Verdict
+pub fn order_refusal(n: usize, order: &[u32]) -> Result<(), Refusal>
     requires { n ≤ Limits.max_triangles }
     ensures { Verdicts.as_verdict result ≡ Reasons.order_refusal n order.now }
 {
     let place = first_bad_entry(n, order);
-    let bad = refused_if(place < order.len(), 71, place);
-    bad.or(refused_if(order.len() != n, 71, smaller(order.len(), n)))
+    refused_if(place < order.len(), Refusal::BadOrder(place))?;
+    refused_if(order.len() != n, Refusal::BadOrder(order.len().min(n)))
 }

@@ -10,39 +10,30 @@ ghost use Rattle.tree.specs.Needs as Needs;
 use crate::boxes::first_unlike;
 use crate::depth::depth_refusal;
 use crate::listing::{end_refusal, entry_after, goes_on};
-use lists::verdict::{Verdict, refused_if};
+use lists::drawing::Drawing;
+use lists::refusal::{Refusal, refused_if};
 
 // The first of 73 to 75 that refuses, over an order list and a count of nodes that passed.
-pub fn nodes_refusal(
-    triangles: &[f32],
-    order: &[u32],
-    links: &[u32],
-    boxes: &[f32],
-    n: usize,
-    nodes: usize,
-) -> Verdict
-    requires { Needs.Scannable triangles.now order.now links.now boxes.now n nodes }
-    ensures { Verdicts.as_verdict result ≡ Refusals.first_refusal (Reasons.listing_refusal n links.now nodes
-        ∷ Reasons.depth_refusal links.now nodes ∷ Reasons.box_refusal (Reading.box_at triangles.now) order.now
-        links.now boxes.now nodes ∷ []) }
+pub fn nodes_refusal(drawing: &Drawing, n: usize) -> Result<(), Refusal>
+    requires { Needs.Scannable drawing.now.triangles.now drawing.now.order.now drawing.now.links.now
+        drawing.now.boxes.now n drawing.now.nodes }
+    ensures { Verdicts.as_verdict result ≡ Refusals.first_refusal (Reasons.listing_refusal n drawing.now.links.now drawing.now.nodes
+        ∷ Reasons.depth_refusal drawing.now.links.now drawing.now.nodes
+        ∷ Reasons.box_refusal (Reading.box_at drawing.now.triangles.now) drawing.now.order.now
+        drawing.now.links.now drawing.now.boxes.now drawing.now.nodes ∷ []) }
 {
-    let mut node = 0;
+    let links = drawing.links;
+    let nodes = drawing.nodes;
     let mut entry = 0;
     let mut unlike = 0;
-    while node < nodes {
+    for node in 0..nodes {
         if !goes_on(n, links, node, entry) {
-            return Verdict::Refused {
-                number: 73,
-                place: node,
-            };
+            return Err(Refusal::BadListing(node));
         }
         entry = entry_after(links, node, entry);
-        unlike = first_unlike(triangles, order, links, boxes, node, unlike);
-        node += 1;
+        unlike = first_unlike(drawing, node, unlike);
     }
-    let bad_end = end_refusal(n, links, nodes, entry);
-    if bad_end.refuses() {
-        return bad_end;
-    }
-    depth_refusal(links, nodes).or(refused_if(unlike < nodes, 75, unlike))
+    end_refusal(n, links, nodes, entry)?;
+    depth_refusal(links, nodes)?;
+    refused_if(unlike < nodes, Refusal::BadBox(unlike))
 }

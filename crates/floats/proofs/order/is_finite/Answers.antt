@@ -1,7 +1,15 @@
--- `floats::order::is_finite` meets its contract: x - x is equal to itself where x is finite, and only there.
-use lib.Ieee.{binary32}
-use Rattle.spec_numbers.proofs.Exact.{difference_tells_finite}
+-- `floats::order::is_finite` meets its contract: the library's test is the definition, case by case.
+use Rattle.std.proofs.Common.{◌≡◌, refl, ◌∙◌}
+use lib.Ieee.{Float, nan, inf, fin}
+use lib.Ieee.Scale.{finite}
+use Rattle.std.specs.Float.{float_is_finite}
 use Rattle.floats.proofs.order.is_finite.Goals as goal
 
+same_test : (x : Float) → float_is_finite x ≡ finite x
+unfolding float_is_finite
+same_test nan = refl
+same_test (inf s) = refl
+same_test (fin s m e) = refl
+
 pub returns : goal.returns
-returns c = difference_tells_finite binary32 c.args.x
+returns c = c.is_finite.ensures.value ∙ same_test c.args.x

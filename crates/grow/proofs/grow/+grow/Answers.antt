@@ -37,19 +37,19 @@ slice_bounds-grow-end t c =
     omega (
       arith,
       cut_within binary32 _ _ c.args.strategy _ c.requires c.if-levels_remaining-slice.false _ (as_split c.try_slice.result)
-          c.try_slice.ensures _ (ap as_split c.in-At.is),
+          c.try_slice.ensures _ (ap as_split c.in-Some.is),
     )
 
 pub slice_bounds-grow-end-2 : goal.slice_bounds-grow-end-2
 slice_bounds-grow-end-2 t c =
     sym (left_long binary32 _ _ c.args.strategy _ c.requires c.if-levels_remaining-slice.false _ (as_split c.try_slice.result)
-    c.try_slice.ensures _ (ap as_split c.in-At.is))
+    c.try_slice.ensures _ (ap as_split c.in-Some.is))
 
 pub grow-left-requires : goal.grow-left-requires
 grow-left-requires t c = (
   omega (arith, some_remaining binary32 _ _ c.args.strategy _ c.requires c.if-levels_remaining-slice.false),
   left_needs binary32 _ _ c.args.strategy _ c.requires c.if-levels_remaining-slice.false _ (as_split c.try_slice.result)
-      c.try_slice.ensures _ (ap as_split c.in-At.is) _ c.try_slice.auto.scratch,
+      c.try_slice.ensures _ (ap as_split c.in-Some.is) _ c.try_slice.auto.scratch,
 )
 
 pub overflow_sub-levels_remaining-2 : goal.overflow_sub-levels_remaining-2
@@ -61,25 +61,25 @@ offset_bounds-slice-cut t c =
     omega (
       arith,
       cut_ends binary32 _ _ c.args.strategy _ c.requires c.if-levels_remaining-slice.false _ (as_split c.try_slice.result)
-          c.try_slice.ensures _ (ap as_split c.in-At.is),
+          c.try_slice.ensures _ (ap as_split c.in-Some.is),
     )
 
 pub slice_bounds-grow-count : goal.slice_bounds-grow-count
 slice_bounds-grow-count t c =
     cut_within_now binary32 _ _ c.args.strategy _ c.requires c.if-levels_remaining-slice.false _ (as_split c.try_slice.result)
-    c.try_slice.ensures _ (ap as_split c.in-At.is) _ _ _ _ _ _ c.grow-left.ensures
+    c.try_slice.ensures _ (ap as_split c.in-Some.is) _ _ _ _ _ _ c.grow-left.ensures
 
 pub slice_bounds-grow-start : goal.slice_bounds-grow-start
 slice_bounds-grow-start t c =
     cut_within_now binary32 _ _ c.args.strategy _ c.requires c.if-levels_remaining-slice.false _ (as_split c.try_slice.result)
-    c.try_slice.ensures _ (ap as_split c.in-At.is) _ _ _ _ _ _ c.grow-left.ensures
+    c.try_slice.ensures _ (ap as_split c.in-Some.is) _ _ _ _ _ _ c.grow-left.ensures
 
 pub overflow_add-entry : goal.overflow_add-entry
 overflow_add-entry t c =
     omega (
       arith,
       cut_ends binary32 _ _ c.args.strategy _ c.requires c.if-levels_remaining-slice.false _ (as_split c.try_slice.result)
-          c.try_slice.ensures _ (ap as_split c.in-At.is),
+          c.try_slice.ensures _ (ap as_split c.in-Some.is),
     )
 
 pub overflow_add-left : goal.overflow_add-left
@@ -87,27 +87,27 @@ overflow_add-left t c =
     omega (
       arith,
       left_root_few binary32 _ _ c.args.strategy _ c.requires c.if-levels_remaining-slice.false _ (as_split c.try_slice.result)
-          c.try_slice.ensures _ (ap as_split c.in-At.is) _ _ _ _ _ _ c.grow-left.ensures,
+          c.try_slice.ensures _ (ap as_split c.in-Some.is) _ _ _ _ _ _ c.grow-left.ensures,
     )
 
 pub grow-right-requires : goal.grow-right-requires
 grow-right-requires t c = (
   omega (arith, some_remaining binary32 _ _ c.args.strategy _ c.requires c.if-levels_remaining-slice.false),
   right_needs binary32 _ _ c.args.strategy _ c.requires c.if-levels_remaining-slice.false _ (as_split c.try_slice.result)
-      c.try_slice.ensures _ (ap as_split c.in-At.is) _ _ _ _ _ _ c.grow-left.ensures _
+      c.try_slice.ensures _ (ap as_split c.in-Some.is) _ _ _ _ _ _ c.grow-left.ensures _
       (c.grow-left.auto.scratch ∙ c.try_slice.auto.scratch),
 )
 
 pub put_branch-requires : goal.put_branch-requires
 put_branch-requires t c =
     branch_needs binary32 _ _ c.args.strategy _ c.requires c.if-levels_remaining-slice.false _ (as_split c.try_slice.result)
-    c.try_slice.ensures _ (ap as_split c.in-At.is) _ _ _ _ _ _ c.grow-left.ensures _ _ _ _ _ _
+    c.try_slice.ensures _ (ap as_split c.in-Some.is) _ _ _ _ _ _ c.grow-left.ensures _ _ _ _ _ _
     c.grow-right.ensures
 
 pub shape_of-slice : goal.shape_of-slice
 shape_of-slice t c =
     order_long binary32 _ _ c.args.strategy _ c.requires c.if-levels_remaining-slice.false _ (as_split c.try_slice.result)
-    c.try_slice.ensures _ (ap as_split c.in-At.is) _ _ _ _ _ _ c.grow-left.ensures _ _ _ _ _ _
+    c.try_slice.ensures _ (ap as_split c.in-Some.is) _ _ _ _ _ _ c.grow-left.ensures _ _ _ _ _ _
     c.grow-right.ensures
 
 pub shape_of-scratch : goal.shape_of-scratch
@@ -126,5 +126,5 @@ shape_of-boxes t c =
 pub returns : goal.returns
 returns t c =
     branch_gives binary32 _ _ c.args.strategy _ c.requires c.if-levels_remaining-slice.false _ (as_split c.try_slice.result)
-    c.try_slice.ensures _ (ap as_split c.in-At.is) _ _ _ _ _ _ c.grow-left.ensures _ _ _ _ _ _
+    c.try_slice.ensures _ (ap as_split c.in-Some.is) _ _ _ _ _ _ c.grow-left.ensures _ _ _ _ _ _
     c.grow-right.ensures _ _ _ _ _ c.put_branch.ensures

@@ -7,6 +7,6 @@ pub returns-then-i-slice : goal.returns-then-i-slice
 unfolding entry_at
 returns-then-i-slice c = rw (lt-ltb _ _ c.if-i-slice.true)
 
-pub returns : goal.returns
+pub returns-else-i-slice : goal.returns-else-i-slice
 unfolding entry_at
-returns c = rw (le-ltb _ _ c.if-i-slice.false)
+returns-else-i-slice c = rw (le-ltb _ _ c.if-i-slice.false)

@@ -1,29 +1,32 @@
 -- `records::bodies::body_at` meets its contract: each test is one of those of `is_record`.
-use mathlib.Core.Path.{sym, ◌∙◌}
 use native.Mathlib.Omega.{arith}
-use Rattle.spec_records.proofs.Records.{record_there, record_past, record_other}
+use Prim.Native.Nat.{◌+◌, ◌≤◌, ◌<◌}
+use lib.ListN.{length}
+use borrow.Author.Tests.{lt-leb}
+use Rattle.spec_records.specs.Records.{size_at}
+use Rattle.spec_records.proofs.Records.{record_past}
+use Rattle.records.proofs.Answers.{kind_decides}
 use Rattle.records.proofs.bodies.body_at.Goals as goal
+use Rattle.records.proofs.bodies.body_at.Goals.{then-size-room, else-size-room}
 
-pub returns-then-bytes-lt6 : goal.returns-then-bytes-lt6
-returns-then-bytes-lt6 c =
-    rw (record_past c.args.kind c.args.bytes.now c.args.at (omega arith))
+pub returns-in_err-checked_sub : goal.returns-in_err-checked_sub
+returns-in_err-checked_sub c =
+    rw (record_past c.args.kind c.args.bytes.now c.args.at (omega (arith, c.in_err-checked_sub.ensures))) c.from_residual.ensures
 
-pub returns-then-last-at : goal.returns-then-last-at
-returns-then-last-at c =
-    rw (record_past c.args.kind c.args.bytes.now c.args.at (omega arith))
-
-pub returns-then-last-at-2 : goal.returns-then-last-at-2
-returns-then-last-at-2 c =
-    rw (record_past c.args.kind c.args.bytes.now c.args.at (omega (arith, c.u32_at-size.ensures)))
-
-pub returns-then-u16_at-kind : goal.returns-then-u16_at-kind
-returns-then-u16_at-kind c =
-    rw (record_other c.args.kind c.args.bytes.now c.args.at (λ e. c.if-u16_at-kind.true (c.u16_at.ensures.value ∙ e)))
+pub returns-in_err-room : goal.returns-in_err-room
+returns-in_err-room c =
+    rw (record_past c.args.kind c.args.bytes.now c.args.at (omega (arith, c.in_ok-checked_sub.ensures, c.in_err-room.ensures)))
+    c.from_residual-in_err-room.ensures
 
 pub returns : goal.returns
 returns c =
-    rw (
-      record_there c.args.kind c.args.bytes.now c.args.at (omega (arith, c.u32_at-size.ensures))
-          (sym c.u16_at.ensures.value ∙ c.if-u16_at-kind.false),
-      ← c.u32_at-size.ensures,
-    )
+    let a = c.args in
+    elim c.if-size-room.branch [
+      | then-size-room w ↦
+          let fits : a.at + 6 + size_at a.bytes.now a.at ≤ length a.bytes.now = omega (arith, c.in_ok-checked_sub.ensures, c.in_ok-room.ensures, c.u32_at-size.ensures) in
+          rw (kind_decides a.kind a.bytes.now a.at fits, ← c.u32_at-size.ensures, ← w.u16_at.ensures.value, ← w.then_some-is) c.then_some.ensures
+      | else-size-room w ↦
+          let past : length a.bytes.now < a.at + 6 + size_at a.bytes.now a.at = omega (arith, c.in_ok-checked_sub.ensures, c.in_ok-room.ensures, c.u32_at-size.ensures) in
+          rw (record_past a.kind a.bytes.now a.at past)
+          (rw (w.then_some-is, lt-leb _ _ w.if-size-room.false) at c.then_some.ensures)
+    ]

@@ -8,13 +8,13 @@ use Rattle.records.proofs.bodies.has_settings.Goals as goal
 
 pub u16_at-requires : goal.u16_at-requires
 u16_at-requires c =
-    omega (arith, right_within (exactly_right 1 8 c.args.bytes.now 0 (sym c.has_body.ensures ∙ c.if-has_body.true)))
+    omega (arith, right_within (exactly_right 1 8 c.args.bytes.now 0 (sym c.if-has_body.ensures)))
 
 pub returns-then-has_body : goal.returns-then-has_body
 returns-then-has_body c =
     let s = c.args.bytes.now in
     c.is_known.ensures ∙ ap is_known c.u16_at.ensures.value
-    ∙ sym (version_decides s (sym c.has_body.ensures ∙ c.if-has_body.true))
+    ∙ sym (version_decides s (sym c.if-has_body.ensures))
 
-pub returns : goal.returns
-returns c = sym (settings_missing c.args.bytes.now (sym c.has_body.ensures ∙ c.if-has_body.false))
+pub returns-else-has_body : goal.returns-else-has_body
+returns-else-has_body c = c.if-has_body.false ∙ sym (settings_missing c.args.bytes.now (sym c.if-has_body.ensures))

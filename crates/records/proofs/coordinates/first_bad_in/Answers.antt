@@ -2,7 +2,7 @@
 -- The invariant: the answer is the index and the number of coordinates from there on.
 use mathlib.Core.Path.{◌≡◌, sym, ap, ◌∙◌}
 use mathlib.Core.List.{List}
-use Prim.Native.Nat.{ℕ, ◌+◌, ◌-◌, ◌*◌, ◌<◌}
+use Prim.Native.Nat.{ℕ, ◌+◌, ◌*◌, ◌<◌}
 use native.Mathlib.Omega.{arith}
 use lib.ListN.{get_or, length}
 use lib.Ieee.{binary32, nan, of_bits}
@@ -48,9 +48,3 @@ returns c =
     let s = a.bytes.now in
     let none = none_remaining (floats_in binary32 s a.start a.count) loop.i (rw (long s a.start a.count) c.loop-i-test.false) in
     omega (arith, loop.invariant)
-
-pub loop-i-init : goal.loop-i-init
-loop-i-init c = omega arith
-
-pub loop-i-smaller : goal.loop-i-smaller
-loop-i-smaller c = omega arith

@@ -1,19 +1,18 @@
 -- `tree::calls::check` meets its contract: the first of the two tests that refuses.
-use Rattle.spec_lists.proofs.Verdicts.{stops, goes_on, ends, did_pass}
+use mathlib.Core.Path.{sym}
+use Rattle.lists.proofs.Rows.{handed_on, refused_first, passed_first, last}
 use Rattle.spec_lists.proofs.Passed.{triangles_passed}
 use Rattle.spec_tree.specs.Refusals.{check_refusal}
 use Rattle.tree.proofs.calls.check.Goals as goal
 
-pub returns-then-refuses : goal.returns-then-refuses
+pub returns-in_err-triangles_refusal : goal.returns-in_err-triangles_refusal
 unfolding check_refusal
-returns-then-refuses c = stops _ _ _ _ c.triangles_refusal-bad_triangles.ensures c.refuses.ensures c.if-refuses.true
+returns-in_err-triangles_refusal c =
+    handed_on _ _ _ c.from_residual.ensures.1 (refused_first _ _ _ _ c.in_err-triangles_refusal.ensures)
 
 pub tree_refusal-requires : goal.tree_refusal-requires
-tree_refusal-requires c =
-    (triangles_passed _ (did_pass _ _ _ c.triangles_refusal-bad_triangles.ensures c.refuses.ensures c.if-refuses.false)).few
+tree_refusal-requires c = (triangles_passed _ (sym c.in_ok-triangles_refusal.ensures)).few
 
 pub returns : goal.returns
 unfolding check_refusal
-returns c =
-    goes_on _ _ _ _ _ c.triangles_refusal-bad_triangles.ensures c.refuses.ensures c.if-refuses.false
-    (ends _ _ c.tree_refusal.ensures)
+returns c = passed_first _ _ _ c.in_ok-triangles_refusal.ensures (last _ _ c.tree_refusal.ensures)

@@ -1,8 +1,8 @@
 -- `tree::calls::tree_refusal` meets its contract: 71, then 72, then the nodes of lists that passed both.
-use mathlib.Core.Path.{subst}
+use mathlib.Core.Path.{subst, sym}
 use Prim.Native.Nat.{ℕ}
 use native.Mathlib.Omega.{arith}
-use Rattle.spec_lists.proofs.Verdicts.{stops, goes_on, did_pass}
+use Rattle.lists.proofs.Rows.{handed_on, refused_first, passed_first}
 use Rattle.spec_tree.specs.Order.{EntriesBelow}
 use Rattle.spec_tree.specs.Reasons.{reason}
 use Rattle.spec_tree.specs.Refusals.{tree_refusal}
@@ -11,25 +11,24 @@ use Rattle.spec_tree.proofs.NewEntries.{order_passed}
 use Rattle.spec_tree.proofs.Counted.{count_passed}
 use Rattle.tree.proofs.calls.tree_refusal.Goals as goal
 
-pub returns-then-refuses : goal.returns-then-refuses
+pub returns-in_err-order_refusal : goal.returns-in_err-order_refusal
 unfolding tree_refusal reason
-returns-then-refuses c =
+returns-in_err-order_refusal c =
     rw (← c.triangle_count-n.ensures)
-    (stops _ _ _ _ c.order_refusal-bad_order.ensures c.refuses.ensures c.if-refuses.true)
+    (handed_on _ _ _ c.from_residual.ensures.1 (refused_first _ _ _ _ c.in_err-order_refusal.ensures))
 
-pub returns-then-refuses-2 : goal.returns-then-refuses-2
+pub returns-in_err-count_refusal : goal.returns-in_err-count_refusal
 unfolding tree_refusal reason
-returns-then-refuses-2 c =
+returns-in_err-count_refusal c =
     rw (← c.triangle_count-n.ensures)
-    (goes_on _ _ _ _ _ c.order_refusal-bad_order.ensures c.refuses.ensures c.if-refuses.false
-    (stops _ _ _ _ c.count_refusal-bad_count.ensures c.refuses-2.ensures c.if-refuses-2.true))
+    (handed_on _ _ _ c.from_residual-in_err-count_refusal.ensures.1
+    (passed_first _ _ _ c.in_ok-order_refusal.ensures (refused_first _ _ _ _ c.in_err-count_refusal.ensures)))
 
 pub nodes_refusal-requires : goal.nodes_refusal-requires
 nodes_refusal-requires c =
-    let order = c.args.order.now in
-    let passed = did_pass _ _ _ c.order_refusal-bad_order.ensures c.refuses.ensures c.if-refuses.false in
-    let permuted = test_permutes c.triangle_count-n.result order (order_passed _ _ passed) in
-    let count = count_passed _ _ _ _ (did_pass _ _ _ c.count_refusal-bad_count.ensures c.refuses-2.ensures c.if-refuses-2.false) in
+    let order = c.args.drawing.now.order.now in
+    let permuted = test_permutes c.triangle_count-n.result order (order_passed _ _ (sym c.in_ok-order_refusal.ensures)) in
+    let count = count_passed _ _ _ _ (sym c.in_ok-count_refusal.ensures) in
     record {
       some = count.some;
       links_there = count.links_there;
@@ -42,5 +41,4 @@ pub returns : goal.returns
 unfolding tree_refusal reason
 returns c =
     rw (← c.triangle_count-n.ensures)
-    (goes_on _ _ _ _ _ c.order_refusal-bad_order.ensures c.refuses.ensures c.if-refuses.false
-    (goes_on _ _ _ _ _ c.count_refusal-bad_count.ensures c.refuses-2.ensures c.if-refuses-2.false c.nodes_refusal.ensures))
+    (passed_first _ _ _ c.in_ok-order_refusal.ensures (passed_first _ _ _ c.in_ok-count_refusal.ensures c.nodes_refusal.ensures))

@@ -39,15 +39,12 @@ depth_at-right-requires t c = (
   rw c.right_at.ensures (descends_right _ _ c.requires (sym c.kind_at.ensures ∙ c.if-kind_at-ne2.false)),
 )
 
-pub deeper-requires : goal.deeper-requires
-deeper-requires t c = tt
-
 pub overflow_add-result : goal.overflow_add-result
 overflow_add-result t c =
     let args = c.args in
     omega (
       arith,
-      c.deeper.ensures,
+      c.max.ensures,
       c.depth_at-right.ensures,
       c.depth_at-left.ensures,
       depth_most args.links.now (args.most - 1) c.left_at.result,
@@ -64,5 +61,5 @@ returns t c =
       ← c.right_at.ensures,
       ← c.depth_at-left.ensures,
       ← c.depth_at-right.ensures,
-      c.deeper.ensures,
+      c.max.ensures,
     )

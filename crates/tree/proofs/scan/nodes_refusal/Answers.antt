@@ -3,7 +3,7 @@ use mathlib.Core.Path.{◌≡◌, refl, sym, ◌∙◌}
 use Prim.Native.Nat.{◌+◌, ◌-◌}
 use native.Mathlib.Omega.{arith}
 use Rattle.spec_lists.specs.Refusals.{first_refusal}
-use Rattle.spec_lists.proofs.Verdicts.{stops, goes_on, did_pass, or_test, ends}
+use Rattle.lists.proofs.Rows.{handed_on, refused_first, passed_first, last}
 use Rattle.spec_tree.specs.Reasons.{failing_from, refused_where, box_refusal}
 use Rattle.spec_tree.proofs.Scanning as Scanning
 use Rattle.tree.proofs.scan.nodes_refusal.Goals as goal
@@ -58,13 +58,13 @@ loop-node-preserved c =
       ),
     )
 
-pub end_refusal-bad_end-requires : goal.end_refusal-bad_end-requires
-end_refusal-bad_end-requires c =
-    let end : c.loop-node.node ≡ c.args.nodes = omega (arith, c.loop-node.invariant.0, c.loop-node-test.false) in
+pub end_refusal-requires : goal.end_refusal-requires
+end_refusal-requires c =
+    let end : c.loop-node.node ≡ c.args.drawing.now.nodes = omega (arith, c.loop-node.invariant.0, c.loop-node-test.false) in
     record { some = c.requires.some; there = c.requires.links_there; scanned = rw end at c.loop-node.invariant.1.0 }
 
-pub returns-then-refuses : goal.returns-then-refuses
-returns-then-refuses c = stops _ _ _ _ c.end_refusal-bad_end.ensures c.refuses.ensures c.if-refuses.true
+pub returns-in_err-end_refusal : goal.returns-in_err-end_refusal
+returns-in_err-end_refusal c = handed_on _ _ _ c.from_residual.ensures.1 (refused_first _ _ _ _ c.in_err-end_refusal.ensures)
 
 pub depth_refusal-requires : goal.depth_refusal-requires
 depth_refusal-requires c =
@@ -72,16 +72,18 @@ depth_refusal-requires c =
       triangles = c.args.n;
       some = c.requires.some;
       there = c.requires.links_there;
-      listed = did_pass _ _ _ c.end_refusal-bad_end.ensures c.refuses.ensures c.if-refuses.false;
+      listed = sym c.in_ok-end_refusal.ensures;
     }
+
+pub returns-in_err-depth_refusal : goal.returns-in_err-depth_refusal
+returns-in_err-depth_refusal c =
+    handed_on _ _ _ c.from_residual-in_err-depth_refusal.ensures.1
+    (passed_first _ _ _ c.in_ok-end_refusal.ensures (refused_first _ _ _ _ c.in_err-depth_refusal.ensures))
 
 pub returns : goal.returns
 unfolding refused_where box_refusal
 returns c =
-    let end : c.loop-node.node ≡ c.args.nodes = omega (arith, c.loop-node.invariant.0, c.loop-node-test.false) in
+    let end : c.loop-node.node ≡ c.args.drawing.now.nodes = omega (arith, c.loop-node.invariant.0, c.loop-node-test.false) in
     let unlike = rw end at c.loop-node.invariant.1.1 in
-    goes_on _ _ _ _ _ c.end_refusal-bad_end.ensures c.refuses.ensures c.if-refuses.false
-    (or_test _ _ _ _ _ (ends _ _ c.depth_refusal.ensures) (rw (← unlike) c.refused_if.ensures) c.or.ensures)
-
-pub loop-node-smaller : goal.loop-node-smaller
-loop-node-smaller c = omega arith
+    passed_first _ _ _ c.in_ok-end_refusal.ensures
+    (passed_first _ _ _ c.in_ok-depth_refusal.ensures (last _ _ (rw (← unlike) c.refused_if.ensures)))

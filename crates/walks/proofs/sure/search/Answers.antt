@@ -21,20 +21,21 @@ node_squared-squared-requires c =
     let safe = root_safe _ _ _ _ _ c.requires.searchable in
     (hangs_there _ _ _ _ safe.tree _ safe.hangs).boxes_there
 
-pub node_walk-requires : goal.node_walk-requires
-node_walk-requires c =
-    let most = c.requires.le_most in record {
-      node_safe = root_safe _ _ _ _ _ c.requires.searchable;
-      squared_value = c.node_squared-squared.ensures;
-      sound = start_sound _ _ _ _ (less_number _ (inf false) c.requires.false_value) most.0 most.1 c.start.ensures;
-    }
+pub node_walk-requires-clause-node_safe : goal.node_walk-requires-clause-node_safe
+node_walk-requires-clause-node_safe c = root_safe _ _ _ _ _ c.requires.searchable
+
+pub node_walk-requires-clause-sound : goal.node_walk-requires-clause-sound
+node_walk-requires-clause-sound c =
+    let most = c.requires.le_most in
+    start_sound _ _ _ _ (less_number _ (inf false) c.requires.false_value) most.0 most.1 c.start.ensures
 
 pub returns : goal.returns
 unfolding marked_walk
 returns c =
     let a = c.args in
+    let d = c.args.drawing.now in
     let walk = few_then binary32 _ _ _ _ _ _ _ _ (record { holds = c.start.ensures; measured_is = refl }) c.node_walk.ensures in
     reached_on (rw c.walk_limit.ensures at walk)
-    (marked_is_few binary32 a.triangles.now a.order.now a.links.now a.boxes.now _ a.nodes (entries_below _ _ _ _ _ c.requires.searchable)
+    (marked_is_few binary32 d.triangles.now d.order.now d.links.now d.boxes.now _ d.nodes (entries_below _ _ _ _ _ c.requires.searchable)
     (numbers_low _ _ _ _ _ c.requires.searchable) (as_point a.probe.point) a.most c.requires.le_most.0 (rule_of a.rule) a.probe.limit
     c.requires.false_value)

@@ -1,7 +1,10 @@
--- `shapes::box3::Box3::hold` meets its contract: what `held` ensures, on each axis.
+-- `shapes::box3::Box3::hold` meets its contract: what `largest` and then `smallest` ensure, on each axis.
+use mathlib.Core.Path.{ap, ◌∙◌}
+use Rattle.spec_shapes.specs.Points.{Point, smallest, largest}
 use Rattle.spec_shapes.specs.Boxes.{held_in}
+use Rattle.shapes.specs.Values.{as_point}
 use Rattle.shapes.proofs.box3.Box3.hold.Goals as goal
 
 pub returns : goal.returns
-unfolding held_in
-returns c = λ i. record { x = c.held.ensures i; y = c.held-2.ensures i; z = c.held-3.ensures i }
+unfolding held_in smallest largest
+returns c = c.smallest.ensures ∙ ap (λ (q : Point). smallest q (as_point c.args.self.max)) c.largest.ensures

@@ -1,7 +1,9 @@
--- `shapes::vec3::Vec3::largest` meets its contract: what `max2` ensures, on each axis.
+-- `shapes::vec3::Vec3::largest` meets its contract: the operation on each axis.
+use Rattle.std.proofs.Common.{rules}
 use Rattle.spec_shapes.specs.Points.{largest}
+use Rattle.shapes.proofs.Coordinates.{by_coordinates}
 use Rattle.shapes.proofs.vec3.Vec3.largest.Goals as goal
 
 pub returns : goal.returns
 unfolding largest
-returns c = λ i. record { x = c.max2.ensures i; y = c.max2-2.ensures i; z = c.max2-3.ensures i }
+returns c = by_coordinates _ _ (search rules) (search rules) (search rules)

@@ -1,7 +1,9 @@
--- `shapes::vec3::Vec3::plus_zero` meets its contract: what `plus_zero` ensures, on each axis.
+-- `shapes::vec3::Vec3::plus_zero` meets its contract: the operation on each axis.
+use Rattle.std.proofs.Common.{rules}
 use Rattle.spec_shapes.specs.Points.{plus_zero}
+use Rattle.shapes.proofs.Coordinates.{by_coordinates}
 use Rattle.shapes.proofs.vec3.Vec3.plus_zero.Goals as goal
 
 pub returns : goal.returns
 unfolding plus_zero
-returns c = λ i. record { x = c.plus_zero.ensures i; y = c.plus_zero-2.ensures i; z = c.plus_zero-3.ensures i }
+returns c = by_coordinates _ _ (search rules) (search rules) (search rules)

@@ -1,7 +1,9 @@
--- `shapes::vec3::Vec3::smallest` meets its contract: what `min2` ensures, on each axis.
+-- `shapes::vec3::Vec3::smallest` meets its contract: the operation on each axis.
+use Rattle.std.proofs.Common.{rules}
 use Rattle.spec_shapes.specs.Points.{smallest}
+use Rattle.shapes.proofs.Coordinates.{by_coordinates}
 use Rattle.shapes.proofs.vec3.Vec3.smallest.Goals as goal
 
 pub returns : goal.returns
 unfolding smallest
-returns c = λ i. record { x = c.min2.ensures i; y = c.min2-2.ensures i; z = c.min2-3.ensures i }
+returns c = by_coordinates _ _ (search rules) (search rules) (search rules)
