@@ -1,6 +1,6 @@
--- `grow::tries::rule` meets its contract: what the two rules ensure.
+-- `grow::tries::Cutter::rule` meets its contract: what the two rules ensure.
 use Rattle.spec_build.specs.Tries.{rule}
-use Rattle.grow.proofs.tries.rule.Goals as goal
+use Rattle.grow.proofs.tries.Cutter.rule.Goals as goal
 
 pub returns-in-Median : goal.returns-in-Median
 unfolding rule

@@ -1,8 +1,8 @@
--- `grow::tries::try_slice` meets its contract: what `union_of` and `try_axes` ensure.
+-- `grow::tries::Cutter::try_slice` meets its contract: what `union_of` and `try_axes` ensure.
 use native.Mathlib.Omega.{arith}
 use lib.Ieee.{binary32}
 use Rattle.spec_build.proofs.Trying.{try_rule_needs, tried_is}
-use Rattle.grow.proofs.tries.try_slice.Goals as goal
+use Rattle.grow.proofs.tries.Cutter.try_slice.Goals as goal
 
 pub union_of-parent-requires : goal.union_of-parent-requires
 union_of-parent-requires c =
