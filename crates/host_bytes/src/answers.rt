@@ -7,43 +7,40 @@ ghost use Rattle.spec_records.specs.Little.{little};
 ghost use Rattle.spec_search.specs.Answers.{words_of};
 ghost use Rattle.spec_search.specs.Calls.{most_few, point_words};
 ghost use Rattle.spec_host.specs.PointBytes.{answer_size, word_bytes};
-ghost use Rattle.walks.specs.Places as Places;
+ghost use Rattle.walks.specs.Places as Kept;
 ghost use Rattle.walks.specs.Values.{as_answer};
 
 use floats::bits_of;
-use records::entries::put_u32s;
+use records::entries::put_numbers;
 use records::numbers::put_u32;
-use tree::nodes::wide;
-use walks::answer::Answer;
-use walks::places::{BEST, MOST_AT, WHICH, answer_at};
+use walks::answer::Hit;
+use walks::places::{MOST_AT, Places};
 use walks::words::{ANSWER_WIDTH, put_answer};
 
 // How many bytes an answer takes.
 pub const ANSWER_SIZE: usize = 4 * ANSWER_WIDTH;
 
 // Writes the words of the answer, four bytes each, from `at` on.
-pub fn put_answer_bytes(out: &mut [u8], at: usize, answer: Answer)
+pub fn put_answer_bytes(out: &mut [u8], at: usize, answer: Option<Hit>)
     requires { at + answer_size ≤ length out.old }
     ensures { out.new ≡ overwrite at (word_bytes (words_of binary32 (as_answer answer))) out.old }
 {
     let mut words = [0u32; ANSWER_WIDTH];
     put_answer(&mut words, 0, answer);
-    put_u32s(&words, 0, ANSWER_WIDTH, out, at);
+    put_numbers::<4>(&words, 0, ANSWER_WIDTH, out, at);
 }
 
 // Writes the answers in all places, the nearest first, from `at` on.
-pub fn put_places_bytes(out: &mut [u8], at: usize, best: &[f32; BEST], which: &[u32; WHICH])
-    requires which_bound { Places.most_of which.now ≤ most_few }
-    requires which_in_bounds { at + answer_size * Places.most_of which.now ≤ length out.old }
+pub fn put_places_bytes(out: &mut [u8], at: usize, places: &Places)
+    requires which_bound { Kept.most_of places.now.which ≤ most_few }
+    requires which_in_bounds { at + answer_size * Kept.most_of places.now.which ≤ length out.old }
     ensures { out.new
-        ≡ overwrite at (word_bytes (point_words binary32 (Places.most_of which.now) (Places.answer_of best.now which.now)))
-        out.old }
+        ≡ overwrite at (word_bytes (point_words binary32 (Kept.most_of places.now.which)
+        (Kept.answer_of places.now.best places.now.which))) out.old }
 {
-    let most = wide(which[MOST_AT]);
-    let mut j = 0;
-    while j < most {
-        put_answer_bytes(out, at + ANSWER_SIZE * j, answer_at(best, which, j));
-        j += 1;
+    let most = places.which[MOST_AT] as usize;
+    for j in 0..most {
+        put_answer_bytes(out, at + ANSWER_SIZE * j, places.answer_at(j));
     }
 }
 

@@ -7,7 +7,7 @@ ghost use Rattle.lists.specs.Values.{as_verdict};
 ghost use Rattle.spec_host.specs.PointBytes.{numbers_of, point_bytes_refusal};
 
 use floats::plus_zero;
-use lists::verdict::{Verdict, refused_if};
+use lists::refusal::{Refusal, refused_if};
 use records::coordinates::first_bad_in;
 use records::entries::f32_at;
 use shapes::vec3::Vec3;
@@ -21,13 +21,13 @@ fn number_in(bytes: &[u8], i: usize) -> f32
 }
 
 // 8: the bytes are no whole points, or a number is no coordinate.
-pub fn point_bytes_refusal(bytes: &[u8]) -> Verdict
+pub fn point_bytes_refusal(bytes: &[u8]) -> Result<(), Refusal>
     ensures { as_verdict result ≡ point_bytes_refusal bytes.now }
 {
-    let ragged = refused_if(bytes.len() % 12 != 0, 8, bytes.len());
+    refused_if(bytes.len() % 12 != 0, Refusal::BadPoint(bytes.len()))?;
     let count = bytes.len() / 4;
     let at = first_bad_in(bytes, 0, count);
-    ragged.or(refused_if(at < count, 8, at))
+    refused_if(at < count, Refusal::BadPoint(at))
 }
 
 // Point k of the bytes.

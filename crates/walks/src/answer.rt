@@ -24,21 +24,8 @@ pub struct Probe {
     pub limit: f32,
 }
 
-// Nothing, or the surface point that was found, with its squared distance, the number of its triangle and that of the part that was hit.
-#[derive(Clone, Copy)]
-pub enum Answer {
-    Nothing,
-    Found {
-        x: f32,
-        y: f32,
-        z: f32,
-        squared: f32,
-        triangle: u32,
-        part: u32,
-    },
-}
-
-// The measure of one triangle.
+// The measure of one triangle: its surface point, with its squared distance, the number of the triangle and that of the part that was hit. What a search
+// answers is one, or nothing.
 #[derive(Clone, Copy)]
 pub struct Hit {
     pub point: Vec3,
@@ -50,6 +37,6 @@ pub struct Hit {
 // The best answer so far, and how many triangles were measured.
 #[derive(Clone, Copy)]
 pub struct Sought {
-    pub best: Answer,
+    pub best: Option<Hit>,
     pub measured: usize,
 }

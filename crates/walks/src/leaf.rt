@@ -8,61 +8,47 @@ ghost use Rattle.spec_tables.specs.Tables as Tables;
 ghost use Rattle.spec_tree.specs.Order as Order;
 ghost use Rattle.spec_search.specs.Answers as Answers;
 ghost use Rattle.spec_search.specs.Walk as Walk;
-ghost use Rattle.walks.specs.Places as Places;
+ghost use Rattle.walks.specs.Places as Kept;
 ghost use Rattle.walks.specs.Values as Values;
 
-use crate::answer::{Hit, Measures};
-use crate::kept::{keep_smaller, point_of};
-use crate::places::{BEST, WHICH, offer};
+use crate::answer::{Hit, Measures, Probe};
+use crate::places::Places;
+use lists::drawing::Drawing;
 use lists::reading::triangle_at;
 use shapes::triangle3::Spot;
 use shapes::vec3::Vec3;
-use tree::nodes::wide;
 
 // A triangle's point and its part, with the squared distance from p.
 fn hit_at(spot: Spot, p: Vec3, t: u32) -> Hit
     ensures { Values.as_hit result ≡ Answers.hit_at binary32 (Shapes.as_spot spot) (Shapes.as_point p) t }
 {
-    let point = spot.point;
-    let part = spot.part;
     Hit {
-        point,
-        squared: point.squared_distance(p),
+        point: spot.point,
+        squared: spot.point.squared_distance(p),
         triangle: t,
-        part: part.number(),
+        part: u32::from(spot.part),
     }
 }
 
+// Kept: `Measures` picks the step, since a closure or a type parameter makes two functions of the loop, and lays the closest point out in neither.
 // Measures one triangle and keeps its point where the walk keeps it.
-fn measure(
-    triangles: &[f32],
-    t: u32,
-    probe: &[f32; 4],
-    measures: Measures,
-    best: &mut [f32; BEST],
-    which: &mut [u32; WHICH],
-)
+fn measure(triangles: &[f32], t: u32, probe: &Probe, measures: Measures, places: &mut Places)
     requires t_in_bounds { 9 * t + 9 ≤ length triangles.now }
-    requires ready { Places.Ready measures best.old which.old }
-    ensures { Places.Holds measures best.new which.new (Places.most_of which.old)
-        (Places.took_by measures binary32 triangles.now (Values.point_of probe.now) (Values.fourth_of probe.now)
-        (Places.most_of which.old) t
-        (Places.kept_in measures best.old which.old)) }
+    requires ready { Kept.Ready measures places.old.best places.old.which }
+    ensures { Kept.Holds measures places.new.best places.new.which (Kept.most_of places.old.which)
+        (Kept.took_by measures binary32 triangles.now (Shapes.as_point probe.now.point) probe.now.limit
+        (Kept.most_of places.old.which) t
+        (Kept.kept_in measures places.old.best places.old.which)) }
 {
-    let p = point_of(probe);
-    let triangle = triangle_at(triangles, wide(t));
+    let p = probe.point;
+    let triangle = triangle_at(triangles, t as usize);
     let computed = triangle.closest_spot(p);
     match measures {
         Measures::Held => {
-            offer(
-                probe[3],
-                hit_at(triangle.held(p, computed), p, t),
-                best,
-                which,
-            );
+            places.offer(probe.limit, hit_at(triangle.held(p, computed), p, t));
         }
         Measures::Computed => {
-            keep_smaller(hit_at(computed, p, t), best, which);
+            places.keep_smaller(hit_at(computed, p, t));
         }
     }
 }
@@ -71,56 +57,50 @@ fn measure(
 fn measure_slice(
     triangles: &[f32],
     slice: &[u32],
-    probe: &[f32; 4],
+    probe: &Probe,
     measures: Measures,
     measured: usize,
-    best: &mut [f32; BEST],
-    which: &mut [u32; WHICH],
+    places: &mut Places,
 ) -> usize
     requires entries_below { Order.EntriesBelow (Reading.triangle_count triangles.now) slice.now }
     requires slice_bound { measured + length slice.now < 2 ^ 64 }
-    requires ready { Places.Ready measures best.old which.old }
-    ensures { Places.Reached measures best.new which.new result (Places.most_of which.old)
-        (Walk.took_all (Places.took_by measures binary32 triangles.now (Values.point_of probe.now) (Values.fourth_of probe.now)
-        (Places.most_of which.old))
-        slice.now (Places.sought_of measures best.old which.old measured)) }
+    requires ready { Kept.Ready measures places.old.best places.old.which }
+    ensures { Kept.Reached measures places.new.best places.new.which result (Kept.most_of places.old.which)
+        (Walk.took_all (Kept.took_by measures binary32 triangles.now (Shapes.as_point probe.now.point) probe.now.limit
+        (Kept.most_of places.old.which))
+        slice.now (Kept.sought_of measures places.old.best places.old.which measured)) }
 {
-    let mut i = 0;
-    while i < slice.len() {
-        measure(triangles, slice[i], probe, measures, best, which);
-        i += 1;
+    for t in slice {
+        measure(triangles, *t, probe, measures, places);
     }
-    measured + i
+    measured + slice.len()
 }
 
 // Measures the triangles of the entries from `first` up to `last`, the end not included, and answers how many were measured in all.
 pub fn measure_leaf(
-    triangles: &[f32],
-    order: &[u32],
+    drawing: &Drawing,
     first: usize,
     last: usize,
-    probe: &[f32; 4],
+    probe: &Probe,
     measures: Measures,
     measured: usize,
-    best: &mut [f32; BEST],
-    which: &mut [u32; WHICH],
+    places: &mut Places,
 ) -> usize
-    requires entries_below { Order.EntriesBelow (Reading.triangle_count triangles.now) order.now }
-    requires first_le_last { (first ≤ last) × (last ≤ length order.now) }
+    requires entries_below { Order.EntriesBelow (Reading.triangle_count drawing.now.triangles.now) drawing.now.order.now }
+    requires first_le_last { (first ≤ last) × (last ≤ length drawing.now.order.now) }
     requires first_bound { measured + (last - first) < 2 ^ 64 }
-    requires ready { Places.Ready measures best.old which.old }
-    ensures { Places.Reached measures best.new which.new result (Places.most_of which.old)
-        (Walk.took_all (Places.took_by measures binary32 triangles.now (Values.point_of probe.now) (Values.fourth_of probe.now)
-        (Places.most_of which.old))
-        (Tables.slice order.now first (last - first)) (Places.sought_of measures best.old which.old measured)) }
+    requires ready { Kept.Ready measures places.old.best places.old.which }
+    ensures { Kept.Reached measures places.new.best places.new.which result (Kept.most_of places.old.which)
+        (Walk.took_all (Kept.took_by measures binary32 drawing.now.triangles.now (Shapes.as_point probe.now.point) probe.now.limit
+        (Kept.most_of places.old.which))
+        (Tables.slice drawing.now.order.now first (last - first)) (Kept.sought_of measures places.old.best places.old.which measured)) }
 {
     measure_slice(
-        triangles,
-        &order[first..last],
+        drawing.triangles,
+        &drawing.order[first..last],
         probe,
         measures,
         measured,
-        best,
-        which,
+        places,
     )
 }

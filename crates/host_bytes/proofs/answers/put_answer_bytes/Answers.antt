@@ -12,6 +12,6 @@ use Rattle.host_bytes.proofs.answers.put_answer_bytes.Goals as goal
 pub returns : goal.returns
 returns c =
     let a = c.args in
-    c.put_u32s.ensures.put.written
+    c.put_numbers.ensures.put.written
     ∙ ap (λ (words : List ℕ). overwrite a.at (number_bytes 4 words 0 answer_width) a.out.now) c.put_answer.ensures
     ∙ ap (λ (new : List ℕ). overwrite a.at new a.out.now) (words_bytes (as_answer a.answer) _ refl)

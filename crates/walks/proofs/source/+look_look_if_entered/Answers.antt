@@ -4,12 +4,13 @@ use mathlib.Core.Path.{◌≡◌, refl, sym, ap, ◌∙◌}
 use mathlib.Core.Bool.{not}
 use native.Mathlib.Omega.{arith}
 use lib.Ieee.{binary32}
+use Rattle.shapes.specs.Values.{as_point}
 use Rattle.spec_search.specs.Source.{source_search}
 use Rattle.spec_search.proofs.Walked.{walk_skipped, walk_looked}
 use Rattle.spec_search.proofs.Steps.{hangs_there, leaf_needs, pair_needs, levels_remaining, root_leaf_answers, root_pair_answers, right_needs, then_left_needs, right_answers}
-use Rattle.walks.specs.Values.{point_of, fourth_of}
 use Rattle.walks.specs.declared.answer.Measures.TheVariants.{Computed}
 use Rattle.walks.specs.Places.{sought_of}
+use Rattle.walks.proofs.Links.{leaf_links, branch_links}
 use Rattle.walks.proofs.Reached.{reached_is, reached_on, reached_still, reached_then}
 use Prim.Native.Nat.{ℕ, ◌+◌, ◌-◌, ◌<◌}
 use Rattle.walks.proofs.source.+look_look_if_entered.Goals as goal
@@ -20,43 +21,48 @@ falls_in d t z e = omega arith
 falls_out : (d t : ℕ) → d + d + 1 ≡ t → d + d < t
 falls_out d t e = omega arith
 
-pub look-links_of-here-requires : goal.look-links_of-here-requires
-look-links_of-here-requires t c =
+pub look-node_at-requires : goal.look-node_at-requires
+look-node_at-requires t c =
     let a = c.args in
-    (hangs_there a.triangles.now a.order.now a.links.now a.boxes.now c.requires.node_safe.tree a.node c.requires.node_safe.hangs).links_there
+    let d = c.args.drawing.now in
+    (hangs_there d.triangles.now d.order.now d.links.now d.boxes.now c.requires.node_safe.tree a.node c.requires.node_safe.hangs).links_there
 
 pub look-measure_leaf-requires : goal.look-measure_leaf-requires
 look-measure_leaf-requires t c =
     let a = c.args in
+    let d = c.args.drawing.now in
     let wanted =
-    leaf_needs a.triangles.now a.order.now a.links.now a.boxes.now a.depth a.node a.measured _ _ _ c.links_of-here.ensures
-    c.requires.node_safe c.if-here-eq1.true in
+    leaf_needs d.triangles.now d.order.now d.links.now d.boxes.now a.depth a.node a.measured _ _ _ (leaf_links c.in-Leaf.ensures)
+    c.requires.node_safe refl in
     record { entries_below = wanted.0; first_le_last = wanted.1.0; first_bound = wanted.1.1; ready = c.requires.lent }
 
-pub look-returns-then-here-eq1 : goal.look-returns-then-here-eq1
-look-returns-then-here-eq1 t c =
+pub look-returns-in-Leaf : goal.look-returns-in-Leaf
+look-returns-in-Leaf t c =
     let a = c.args in
-    let how = source_search binary32 a.triangles.now a.boxes.now (point_of a.probe.now) (fourth_of a.probe.now) in
-    let s = sought_of Computed a.best.now a.which.now a.measured in
+    let d = c.args.drawing.now in
+    let how = source_search binary32 d.triangles.now d.boxes.now (as_point a.probe.now.point) a.probe.now.limit in
+    let s = sought_of Computed a.places.now.best a.places.now.which a.measured in
     reached_on c.measure_leaf.ensures
-    (root_leaf_answers a.triangles.now a.order.now a.links.now a.boxes.now a.depth a.node a.measured _ _ _
-    c.links_of-here.ensures c.requires.node_safe how s _ c.if-here-eq1.true refl)
+    (root_leaf_answers d.triangles.now d.order.now d.links.now d.boxes.now a.depth a.node a.measured _ _ _
+    (leaf_links c.in-Leaf.ensures) c.requires.node_safe how s _ refl refl)
 
 pub look-overflow_sub-below : goal.look-overflow_sub-below
 look-overflow_sub-below t c =
     let a = c.args in
-    levels_remaining a.triangles.now a.order.now a.links.now a.boxes.now a.depth a.node a.measured _ _ _
-    c.links_of-here.ensures c.requires.node_safe c.if-here-eq1.false
+    let d = c.args.drawing.now in
+    levels_remaining d.triangles.now d.order.now d.links.now d.boxes.now a.depth a.node a.measured _ _ _
+    (branch_links c.in-Branch.ensures) c.requires.node_safe c.in-Branch.ensures.no_leaf
 
 pub look-look_if_entered-then-requires : goal.look-look_if_entered-then-requires
 look-look_if_entered-then-requires t c =
-    let a = c.args in (
-      falls_in a.depth t (levels_remaining a.triangles.now a.order.now a.links.now a.boxes.now a.depth a.node a.measured _ _ _
-          c.links_of-here.ensures c.requires.node_safe c.if-here-eq1.false) (omega arith),
+    let a = c.args in
+    let d = c.args.drawing.now in (
+      falls_in a.depth t (levels_remaining d.triangles.now d.order.now d.links.now d.boxes.now a.depth a.node a.measured _ _ _
+          (branch_links c.in-Branch.ensures) c.requires.node_safe c.in-Branch.ensures.no_leaf) (omega arith),
       (
-        right_needs a.triangles.now a.order.now a.links.now a.boxes.now (a.depth - 1) _ _ a.measured
-            (pair_needs a.triangles.now a.order.now a.links.now a.boxes.now a.depth a.node a.measured _ _ _
-            c.links_of-here.ensures c.requires.node_safe c.if-here-eq1.false),
+        right_needs d.triangles.now d.order.now d.links.now d.boxes.now (a.depth - 1) _ _ a.measured
+            (pair_needs d.triangles.now d.order.now d.links.now d.boxes.now a.depth a.node a.measured _ _ _
+            (branch_links c.in-Branch.ensures) c.requires.node_safe c.in-Branch.ensures.no_leaf),
         c.requires.lent,
       ),
     )
@@ -64,53 +70,59 @@ look-look_if_entered-then-requires t c =
 pub look-look_if_entered-requires : goal.look-look_if_entered-requires
 look-look_if_entered-requires t c =
     let a = c.args in
-    let how = source_search binary32 a.triangles.now a.boxes.now (point_of a.probe.now) (fourth_of a.probe.now) in
-    let s = sought_of Computed a.best.now a.which.now a.measured in (
-      falls_in a.depth t (levels_remaining a.triangles.now a.order.now a.links.now a.boxes.now a.depth a.node a.measured _ _ _
-          c.links_of-here.ensures c.requires.node_safe c.if-here-eq1.false) (omega arith),
+    let d = c.args.drawing.now in
+    let how = source_search binary32 d.triangles.now d.boxes.now (as_point a.probe.now.point) a.probe.now.limit in
+    let s = sought_of Computed a.places.now.best a.places.now.which a.measured in (
+      falls_in a.depth t (levels_remaining d.triangles.now d.order.now d.links.now d.boxes.now a.depth a.node a.measured _ _ _
+          (branch_links c.in-Branch.ensures) c.requires.node_safe c.in-Branch.ensures.no_leaf) (omega arith),
       (
-        then_left_needs a.triangles.now a.order.now a.links.now a.boxes.now (a.depth - 1) _ _ a.measured
-            (pair_needs a.triangles.now a.order.now a.links.now a.boxes.now a.depth a.node a.measured _ _ _
-            c.links_of-here.ensures c.requires.node_safe c.if-here-eq1.false) how s _ refl
+        then_left_needs d.triangles.now d.order.now d.links.now d.boxes.now (a.depth - 1) _ _ a.measured
+            (pair_needs d.triangles.now d.order.now d.links.now d.boxes.now a.depth a.node a.measured _ _ _
+            (branch_links c.in-Branch.ensures) c.requires.node_safe c.in-Branch.ensures.no_leaf) how s _ refl
             (reached_is c.look_if_entered-then.ensures),
         c.look_if_entered-then.ensures.holds.lent,
       ),
     )
 
-pub look-returns : goal.look-returns
-look-returns t c =
+pub look-returns-in-Branch : goal.look-returns-in-Branch
+look-returns-in-Branch t c =
     let a = c.args in
-    let how = source_search binary32 a.triangles.now a.boxes.now (point_of a.probe.now) (fourth_of a.probe.now) in
-    let s = sought_of Computed a.best.now a.which.now a.measured in
+    let d = c.args.drawing.now in
+    let how = source_search binary32 d.triangles.now d.boxes.now (as_point a.probe.now.point) a.probe.now.limit in
+    let s = sought_of Computed a.places.now.best a.places.now.which a.measured in
     reached_on
-    (reached_then (λ most. how) a.order.now a.links.now (a.depth - 1) _ c.look_if_entered-then.ensures
+    (reached_then (λ most. how) d.order.now d.links.now (a.depth - 1) _ c.look_if_entered-then.ensures
     c.look_if_entered.ensures)
-    (root_pair_answers a.triangles.now a.order.now a.links.now a.boxes.now a.depth a.node a.measured _ _ _
-    c.links_of-here.ensures c.requires.node_safe how s _ c.if-here-eq1.false
-    (right_answers how a.order.now a.links.now (a.depth - 1) _ _ s _ _ refl refl refl))
+    (root_pair_answers d.triangles.now d.order.now d.links.now d.boxes.now a.depth a.node a.measured _ _ _
+    (branch_links c.in-Branch.ensures) c.requires.node_safe how s _ c.in-Branch.ensures.no_leaf
+    (right_answers how d.order.now d.links.now (a.depth - 1) _ _ s _ _ refl refl refl))
 
 pub look_if_entered-does_enter-requires : goal.look_if_entered-does_enter-requires
 look_if_entered-does_enter-requires t c =
     let a = c.args in
-    (hangs_there a.triangles.now a.order.now a.links.now a.boxes.now c.requires.node_safe.tree a.node c.requires.node_safe.hangs).boxes_there
+    let d = c.args.drawing.now in
+    (hangs_there d.triangles.now d.order.now d.links.now d.boxes.now c.requires.node_safe.tree a.node c.requires.node_safe.hangs).boxes_there
 
 pub look_if_entered-look-requires : goal.look_if_entered-look-requires
 look_if_entered-look-requires t c =
     let a = c.args in
+    let d = c.args.drawing.now in
     (falls_out a.depth t (omega arith), (c.requires.node_safe, c.requires.lent))
 
 pub look_if_entered-returns-then-does_enter : goal.look_if_entered-returns-then-does_enter
 look_if_entered-returns-then-does_enter t c =
     let a = c.args in
-    let how = source_search binary32 a.triangles.now a.boxes.now (point_of a.probe.now) (fourth_of a.probe.now) in
-    let s = sought_of Computed a.best.now a.which.now a.measured in
+    let d = c.args.drawing.now in
+    let how = source_search binary32 d.triangles.now d.boxes.now (as_point a.probe.now.point) a.probe.now.limit in
+    let s = sought_of Computed a.places.now.best a.places.now.which a.measured in
     reached_on c.look.ensures
-    (walk_looked how a.order.now a.links.now a.depth a.node s (ap not (sym c.does_enter.ensures ∙ c.if-does_enter.true)))
+    (walk_looked how d.order.now d.links.now a.depth a.node s (ap not (sym c.does_enter.ensures ∙ c.if-does_enter.true)))
 
 pub look_if_entered-returns : goal.look_if_entered-returns
 look_if_entered-returns t c =
     let a = c.args in
-    let how = source_search binary32 a.triangles.now a.boxes.now (point_of a.probe.now) (fourth_of a.probe.now) in
-    let s = sought_of Computed a.best.now a.which.now a.measured in
+    let d = c.args.drawing.now in
+    let how = source_search binary32 d.triangles.now d.boxes.now (as_point a.probe.now.point) a.probe.now.limit in
+    let s = sought_of Computed a.places.now.best a.places.now.which a.measured in
     reached_on (reached_still Computed a.measured c.requires.lent)
-    (sym (walk_skipped how a.order.now a.links.now a.depth a.node s (ap not (sym c.does_enter.ensures ∙ c.if-does_enter.false))))
+    (sym (walk_skipped how d.order.now d.links.now a.depth a.node s (ap not (sym c.does_enter.ensures ∙ c.if-does_enter.false))))

@@ -4,9 +4,4 @@ use Rattle.walks.proofs.source.does_enter.Goals as goal
 
 pub returns : goal.returns
 unfolding enters
-returns c = rw (
-  c.contains_point.ensures,
-  c.squared_distance.ensures,
-  c.point_of-p.ensures,
-  c.node_box-over.ensures,
-)
+returns c = rw (c.contains_point.ensures, c.squared_distance.ensures, c.node_box-over.ensures)

@@ -8,8 +8,8 @@ use Rattle.walks.specs.Places.{slot_at}
 use Rattle.walks.proofs.Reached.{reached_is}
 use Rattle.walks.proofs.source.search.Goals as goal
 
-pub overflow_sub-nodes : goal.overflow_sub-nodes
-overflow_sub-nodes c =
+pub overflow_sub-root : goal.overflow_sub-root
+overflow_sub-root c =
     root_there _ _ _ _ _ c.requires
 
 pub look-measured-requires : goal.look-measured-requires
@@ -19,4 +19,4 @@ look-measured-requires c =
 pub returns : goal.returns
 unfolding source_walk kept div of_bits eq slot_at
 returns c =
-    (λ i. record { best = c.answer_of-found.ensures i; measured = c.look-measured.result }) ∙ reached_is c.look-measured.ensures
+    (λ i. record { best = c.answer-best.ensures i; measured = c.look-measured.result }) ∙ reached_is c.look-measured.ensures

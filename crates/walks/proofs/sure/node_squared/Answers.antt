@@ -4,4 +4,4 @@ use Rattle.walks.proofs.sure.node_squared.Goals as goal
 
 pub returns : goal.returns
 unfolding node_squared
-returns c = rw (← c.node_box.ensures, ← c.point_of.ensures) c.held_squared.ensures
+returns c = rw (← c.node_box.ensures) c.held_squared.ensures

@@ -33,8 +33,9 @@ pub returns : goal.returns
 unfolding marked_walk
 returns c =
     let a = c.args in
+    let d = c.args.drawing.now in
     let walk = few_then binary32 _ _ _ _ _ _ _ _ (record { holds = c.start.ensures; measured_is = refl }) c.node_walk.ensures in
     reached_on (rw c.walk_limit.ensures at walk)
-    (marked_is_few binary32 a.triangles.now a.order.now a.links.now a.boxes.now _ a.nodes (entries_below _ _ _ _ _ c.requires.searchable)
+    (marked_is_few binary32 d.triangles.now d.order.now d.links.now d.boxes.now _ d.nodes (entries_below _ _ _ _ _ c.requires.searchable)
     (numbers_low _ _ _ _ _ c.requires.searchable) (as_point a.probe.point) a.most c.requires.le_most.0 (rule_of a.rule) a.probe.limit
     c.requires.false_value)
