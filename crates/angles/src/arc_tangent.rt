@@ -137,52 +137,48 @@ const ARCS: [u32; 1025] = [
     841739686, 842265256, 842790312, 843314857,
 ];
 
-// Two entries in a row, as u64: their products need it.
-#[derive(Clone, Copy)]
-struct Entries {
-    from: u64,
-    to: u64,
+// A quarter of a turn and a half, in units of 2^-30.
+const QUARTER_TURN: u64 = 1686629713;
+
+const HALF_TURN: u64 = 3373259426;
+
+// The table of arc tangents, lent to whoever computes an angle.
+#[derive(Drop)]
+pub struct ArcTable {
+    entries: [u32; 1025],
+    ghost is_arcs: { entries ≡ arcs },
 }
 
 // The table. A constant array is laid out anew, entry by entry, wherever it is named.
 // So who computes many angles names it once, here, and lends it to each.
-pub fn arc_table() -> [u32; 1025]
-    ensures { result ≡ arcs }
+pub fn arc_table() -> ArcTable
+    ensures { result.entries ≡ arcs }
 {
-    ARCS
+    ArcTable { entries: ARCS }
 }
 
-// An entry as a u64.
-fn wide(entry: u32) -> u64
-    ensures { result ≡ entry }
-{
-    entry as u64
-}
-
-// Entry k and the next one.
-fn entries_at(table: &[u32; 1025], k: usize) -> Entries
-    requires table_value { table.now ≡ arcs }
-    requires k_bound { k < 1024 }
-    ensures { (result.from ≡ entry k) × (result.to ≡ entry (k + 1)) }
-{
-    Entries {
-        from: wide(table[k]),
-        to: wide(table[k + 1]),
+impl ArcTable {
+    // Entry k, as u64: its products need it.
+    fn entry_at(&self, k: usize) -> u64
+        requires { k < 1025 }
+        ensures { result ≡ entry k }
+    {
+        u64::from(self.entries[k])
     }
-}
 
-// The arc tangent of u / 2^30, in units of 2^-30.
-fn arc_of(table: &[u32; 1025], u: u64) -> u64
-    requires table_value { table.now ≡ arcs }
-    requires u_bound { u ≤ 2 ^ 30 }
-    ensures { result ≡ Angle.arc u }
-{
-    let k = (u / 0x100000) as usize;
-    if k == 1024 {
-        return entries_at(table, 1023).to;
+    // The arc tangent of u / 2^30, in units of 2^-30.
+    fn arc_of(&self, u: u64) -> u64
+        requires { u ≤ 2 ^ 30 }
+        ensures { result ≡ Angle.arc u }
+    {
+        let k = (u / 0x100000) as usize;
+        let from = self.entry_at(k);
+        if k == 1024 {
+            return from;
+        }
+        let to = self.entry_at(k + 1);
+        from + (to - from) * (u % 0x100000) / 0x100000
     }
-    let e = entries_at(table, k);
-    e.from + (e.to - e.from) * (u % 0x100000) / 0x100000
 }
 
 // The smaller magnitude over the larger, rounded: from 0 to 1.
@@ -211,14 +207,13 @@ fn mirrored(turn: u64, back: bool, a: u64) -> u64
 }
 
 // The size of the angle in units of 2^-30, before it is rounded.
-fn angle_of(table: &[u32; 1025], n: f32, d: f32) -> u64
-    requires table_value { table.now ≡ arcs }
-    requires askable { Angle.Askable n d }
+fn angle_of(table: &ArcTable, n: f32, d: f32) -> u64
+    requires { Angle.Askable n d }
     ensures { result ≡ Angle.angle binary32 n d }
 {
-    let arc = arc_of(table, units_of(ratio_of(n, d)));
+    let arc = table.arc_of(units_of(ratio_of(n, d)));
     let steep = floats::absolute(n) > floats::absolute(d);
-    mirrored(3373259426, d < 0.0, mirrored(1686629713, steep, arc))
+    mirrored(HALF_TURN, d < 0.0, mirrored(QUARTER_TURN, steep, arc))
 }
 
 // a / 2^30 with a sign. Only the first step rounds.
@@ -230,23 +225,21 @@ fn rounded(negative: bool, a: u32) -> f32
 }
 
 // The arc tangent of n / d, in the quadrant of the point (d, n), within 2^-20.
-pub fn arc_tangent(table: &[u32; 1025], n: f32, d: f32) -> f32
-    requires table_value { table.now ≡ arcs }
-    requires askable { Angle.Askable n d }
+pub fn arc_tangent(table: &ArcTable, n: f32, d: f32) -> f32
+    requires { Angle.Askable n d }
     ensures { result ≡ Angle.arc_tangent binary32 n d }
 {
     rounded(n < 0.0, angle_of(table, n, d) as u32)
 }
 
 // The arc tangent of n / d by the lent table, or a NaN where it has none.
-pub fn angle_by(table: &[u32; 1025], n: f32, d: f32) -> f32
-    requires { table.now ≡ arcs }
+pub fn angle_by(table: &ArcTable, n: f32, d: f32) -> f32
     ensures { result ≡ Angle.angle_or_nan binary32 n d }
 {
     if floats::is_finite(n) & floats::is_finite(d) & (n != 0.0) {
         arc_tangent(table, n, d)
     } else {
-        0.0 / 0.0
+        f32::NAN
     }
 }
 

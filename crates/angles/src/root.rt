@@ -35,7 +35,7 @@ fn guess(n: u64) -> u64
     let x = std::num::nearest_u64_to_f64(n);
     let parabola = 4350332.1088 + x * (6.270408630371094e-8 - 6.69791303041338e-23 * x);
     let shifted = heron(x, heron(x, parabola)) + 4503599627370496.0;
-    if shifted != shifted {
+    if shifted.is_nan() {
         0
     } else {
         f64::to_bits(shifted) % 0x2000000
@@ -50,10 +50,8 @@ fn nearest_root(n: u64) -> u64
     ensures { result ≡ Root.nearer n (Root.whole_root 24 n) }
 {
     let g = guess(n);
-    if g * g < n + g {
-        if n <= g * g + g {
-            return g;
-        }
+    if g * g < n + g && n <= g * g + g {
+        return g;
     }
     let r = whole_root(n);
     if n - r * r > r { r + 1 } else { r }
@@ -113,6 +111,6 @@ pub fn root_or_nan(x: f32) -> f32
     if floats::is_finite(x) & (x >= 0.0) {
         root(x)
     } else {
-        0.0 / 0.0
+        f32::NAN
     }
 }

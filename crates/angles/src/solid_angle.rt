@@ -2,10 +2,9 @@
 ghost use Rattle.std.specs.Prelude.{◌≡◌};
 ghost use Rattle.std.specs.Float.{binary32};
 ghost use Rattle.shapes.specs.Values as Values;
-ghost use Rattle.spec_angles.specs.Table.{arcs};
 ghost use Rattle.spec_angles.specs.Winding as Winding;
 
-use crate::arc_tangent::{angle_by, arc_table};
+use crate::arc_tangent::{ArcTable, angle_by, arc_table};
 use crate::root::root_or_nan;
 use shapes::triangle3::Triangle3;
 use shapes::vec3::Vec3;
@@ -43,8 +42,7 @@ fn denominator_of(t: Triangle3) -> f32
 }
 
 // The solid angle, from the origin, of a triangle whose corners have length 1.
-fn unit_angle(table: &[u32; 1025], t: Triangle3) -> f32
-    requires { table.now ≡ arcs }
+fn unit_angle(table: &ArcTable, t: Triangle3) -> f32
     ensures { result ≡ Winding.unit_angle binary32 (Values.as_triangle t) }
 {
     let numerator = numerator_of(t);
@@ -55,8 +53,7 @@ fn unit_angle(table: &[u32; 1025], t: Triangle3) -> f32
 }
 
 // The solid angle of any triangle from the origin.
-fn origin_angle(table: &[u32; 1025], t: Triangle3) -> f32
-    requires { table.now ≡ arcs }
+fn origin_angle(table: &ArcTable, t: Triangle3) -> f32
     ensures { result ≡ Winding.origin_angle binary32 (Values.as_triangle t) }
 {
     let a = norm_of(t.a);
@@ -76,8 +73,7 @@ fn origin_angle(table: &[u32; 1025], t: Triangle3) -> f32
 }
 
 // The solid angle of the triangle from q, by the lent table of arc tangents.
-pub fn solid_angle_by(table: &[u32; 1025], t: Triangle3, q: Vec3) -> f32
-    requires { table.now ≡ arcs }
+pub fn solid_angle_by(table: &ArcTable, t: Triangle3, q: Vec3) -> f32
     ensures { result ≡ Winding.solid_angle binary32 (Values.as_triangle t) (Values.as_point q) }
 {
     origin_angle(table, seen_from(q, t))

@@ -4,30 +4,25 @@ ghost use Rattle.std.specs.Float.{binary32};
 ghost use Rattle.shapes.specs.Values as Shapes;
 ghost use Rattle.lists.specs.Values as Values;
 ghost use Rattle.spec_lists.specs.Reading as Reading;
-ghost use Rattle.spec_angles.specs.Table.{arcs};
 ghost use Rattle.spec_angles.specs.Windings as Windings;
 
-use crate::arc_tangent::arc_table;
+use crate::arc_tangent::{ArcTable, arc_table};
 use crate::solid_angle::solid_angle_by;
 use lists::reading::{point_at, triangle_at};
+use lists::refusal::{Refusal, room_refusal};
 use lists::tests::{point_count, points_refusal, triangle_count, triangles_refusal};
-use lists::verdict::{Verdict, room_refusal};
 use shapes::vec3::Vec3;
+use std::f32::consts::PI;
 
 // The sum of the triangles' solid angles, in the order of the list, over 4 * PI, by the lent table of arc tangents.
-pub fn winding_number_by(table: &[u32; 1025], triangles: &[f32], q: Vec3) -> f32
-    requires { table.now ≡ arcs }
+pub fn winding_number_by(table: &ArcTable, triangles: &[f32], q: Vec3) -> f32
     ensures { result ≡ Windings.winding_about binary32 triangles.now (Shapes.as_point q) }
 {
-    let count = triangle_count(triangles);
     let mut sum: f32 = 0.0;
-    let mut t = 0;
-    while t < count {
-        sum = sum + solid_angle_by(table, triangle_at(triangles, t), q);
-        t += 1;
+    for t in 0..triangle_count(triangles) {
+        sum += solid_angle_by(table, triangle_at(triangles, t), q);
     }
-    // PI is 40490fdb
-    sum / (4.0 * 3.14159274101257324)
+    sum / (4.0 * PI)
 }
 
 // The winding number about q, with a table of its own.
@@ -43,33 +38,27 @@ fn write_windings(triangles: &[f32], points: &[f32], out: &mut [f32])
     requires { Reading.point_count points.now ≤ length out.old }
     ensures { out.new ≡ Windings.written binary32 triangles.now points.now out.old }
 {
-    let count = point_count(points);
     let table = arc_table();
-    let mut k = 0;
-    while k < count {
+    for k in 0..point_count(points) {
         out[k] = winding_number_by(&table, triangles, point_at(points, 3 * k));
-        k += 1;
     }
 }
 
 // The first of the tests 1 to 4, 6 and 8 that refuses.
-fn winding_refusal(triangles: &[f32], points: &[f32], room: usize) -> Verdict
+fn winding_refusal(triangles: &[f32], points: &[f32], room: usize) -> Result<(), Refusal>
     ensures { Values.as_verdict result ≡ Windings.winding_refusal triangles.now points.now room }
 {
-    triangles_refusal(triangles)
-        .or(room_refusal(room, point_count(points)))
-        .or(points_refusal(points))
+    triangles_refusal(triangles)?;
+    room_refusal(room, point_count(points))?;
+    points_refusal(points)
 }
 
 // Writes the winding number of the triangles about each point to the front of `out`, one f32 a point. A refusal changes nothing.
-pub fn winding(triangles: &[f32], points: &[f32], out: &mut [f32]) -> Verdict
+pub fn winding(triangles: &[f32], points: &[f32], out: &mut [f32]) -> Result<(), Refusal>
     ensures verdict { Values.as_verdict result ≡ Windings.winding_refusal triangles.now points.now (length out.old) }
     ensures windings { out.new ≡ Windings.after_winding binary32 triangles.now points.now out.old }
 {
-    let verdict = winding_refusal(triangles, points, out.len());
-    if verdict.refuses() {
-        return verdict;
-    }
+    winding_refusal(triangles, points, out.len())?;
     write_windings(triangles, points, out);
-    verdict
+    Ok(())
 }

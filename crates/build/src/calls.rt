@@ -1,35 +1,28 @@
 // The build: a triangle list and settings become a tree in the lent lists, or a refusal that changes nothing.
-ghost use Rattle.std.specs.Prelude.{◌≡◌, ◌-◌};
+ghost use Rattle.std.specs.Prelude.{◌≡◌};
 ghost use Rattle.std.specs.Float.{binary32};
 ghost use Rattle.lists.specs.Values as Lists;
 ghost use Rattle.spec_lists.specs.Reading.{box_at};
 ghost use Rattle.spec_lists.specs.Refusals.{passes};
-ghost use Rattle.spec_build.specs.Build.{built_tree, build_refusal, BuildIs, TreeNeeds, TreeLeft};
+ghost use Rattle.spec_build.specs.Build.{built_tree, build_refusal, made, BuildIs, TreeNeeds, TreeLeft};
 ghost use Rattle.build.specs.Values as Values;
 
 use crate::tests::build_refusal;
 use grow::grow::grow;
-use grow::tables::{clear_f32s, clear_u32s, put_bounds, put_centres, put_order};
+use grow::tables::{put_bounds, put_centres, put_order};
+use lists::refusal::Refusal;
 use lists::settings::Settings;
 use lists::tests::triangle_count;
-use lists::verdict::Verdict;
+use splits::strategy::Strategy;
 
+// A tree that was built: its node count and its depth.
 #[derive(Clone, Copy)]
-pub enum Built {
-    Tree { nodes: usize, depth: usize },
-    Refused { number: usize, place: usize },
+pub struct Built {
+    pub nodes: usize,
+    pub depth: usize,
 }
 
-// How many levels may lie below the root: depth counts from 1.
-fn levels_below(maximum_depth: usize) -> usize
-    ensures { result ≡ maximum_depth - 1 }
-{
-    if maximum_depth == 0 {
-        0
-    } else {
-        maximum_depth - 1
-    }
-}
+// Kept: (c) the six lists flat, here and below: of a struct of `&mut` slices a caller learns nothing of what stands behind it.
 
 // Grows the tree of triangles and settings that passed. What the working lists hold afterwards is not said.
 fn grow_tree(
@@ -43,7 +36,7 @@ fn grow_tree(
     scratch: &mut [u32],
 ) -> Built
     requires { TreeNeeds triangles.now (Lists.as_settings settings) (record {
-      order = order.now;
+      order = order.old;
       links = links.old;
       boxes = boxes.old;
       bounds = bounds.old;
@@ -51,7 +44,7 @@ fn grow_tree(
       scratch = scratch.old;
     }) }
     ensures { TreeLeft (box_at triangles.now) (built_tree binary32 triangles.now (Lists.as_settings settings))
-        order.old links.old boxes.old (Values.as_built result) order.new links.new boxes.new }
+        order.old links.old boxes.old (made result.nodes result.depth) order.new links.new boxes.new }
 {
     let count = triangle_count(triangles);
     put_bounds(triangles, count, bounds);
@@ -60,9 +53,9 @@ fn grow_tree(
     let grown = grow(
         bounds,
         centres,
-        settings.strategy,
+        Strategy::of_number(settings.strategy),
         settings.leaf_minimum,
-        levels_below(settings.maximum_depth),
+        settings.maximum_depth.saturating_sub(1),
         &mut order[..count],
         scratch,
         0,
@@ -70,7 +63,7 @@ fn grow_tree(
         boxes,
         0,
     );
-    Built::Tree {
+    Built {
         nodes: grown.root + 1,
         depth: grown.levels,
     }
@@ -88,7 +81,7 @@ fn build_passed(
     scratch: &mut [u32],
 ) -> Built
     requires { build_refusal triangles.now (Lists.as_settings settings) (record {
-      order = order.now;
+      order = order.old;
       links = links.old;
       boxes = boxes.old;
       bounds = bounds.old;
@@ -96,14 +89,14 @@ fn build_passed(
       scratch = scratch.old;
     }) ≡ passes }
     ensures { BuildIs binary32 triangles.now (Lists.as_settings settings) (record {
-      order = order.entry.now;
+      order = order.old;
       links = links.old;
       boxes = boxes.old;
       bounds = bounds.old;
       centres = centres.old;
       scratch = scratch.old;
-    }) (Values.as_built result) (record {
-      order = order.exit.now;
+    }) (made result.nodes result.depth) (record {
+      order = order.new;
       links = links.new;
       boxes = boxes.new;
       bounds = bounds.new;
@@ -112,19 +105,15 @@ fn build_passed(
     }) }
 {
     let count = triangle_count(triangles);
+    let bounds = &mut bounds[..6 * count];
+    let centres = &mut centres[..3 * count];
+    let scratch = &mut scratch[..count];
     let built = grow_tree(
-        triangles,
-        settings,
-        order,
-        links,
-        boxes,
-        &mut bounds[0..6 * count],
-        &mut centres[0..3 * count],
-        &mut scratch[0..count],
+        triangles, settings, order, links, boxes, bounds, centres, scratch,
     );
-    clear_f32s(bounds, 6 * count);
-    clear_f32s(centres, 3 * count);
-    clear_u32s(scratch, count);
+    bounds.fill(0.0);
+    centres.fill(0.0);
+    scratch.fill(0);
     built
 }
 
@@ -133,45 +122,34 @@ fn build_passed(
 // A refusal changes nothing.
 pub fn build(
     triangles: &[f32],
-    strategy: usize,
-    leaf_minimum: usize,
-    maximum_depth: usize,
+    settings: Settings,
     order: &mut [u32],
     links: &mut [u32],
     boxes: &mut [f32],
     bounds: &mut [f32],
     centres: &mut [f32],
     scratch: &mut [u32],
-) -> Built
-    ensures { BuildIs binary32 triangles.now (record { strategy = strategy; leaf_minimum = leaf_minimum; maximum_depth = maximum_depth })
-        (record {
-          order = order.entry.now;
-          links = links.old;
-          boxes = boxes.old;
-          bounds = bounds.old;
-          centres = centres.old;
-          scratch = scratch.old;
-        }) (Values.as_built result) (record {
-          order = order.exit.now;
-          links = links.new;
-          boxes = boxes.new;
-          bounds = bounds.new;
-          centres = centres.new;
-          scratch = scratch.new;
-        }) }
+) -> Result<Built, Refusal>
+    ensures { BuildIs binary32 triangles.now (Lists.as_settings settings) (record {
+      order = order.old;
+      links = links.old;
+      boxes = boxes.old;
+      bounds = bounds.old;
+      centres = centres.old;
+      scratch = scratch.old;
+    }) (Values.as_built result) (record {
+      order = order.new;
+      links = links.new;
+      boxes = boxes.new;
+      bounds = bounds.new;
+      centres = centres.new;
+      scratch = scratch.new;
+    }) }
 {
-    let settings = Settings {
-        strategy,
-        leaf_minimum,
-        maximum_depth,
-    };
-    let verdict = build_refusal(
+    build_refusal(
         triangles, settings, order, links, boxes, bounds, centres, scratch,
-    );
-    if let Verdict::Refused { number, place } = verdict {
-        return Built::Refused { number, place };
-    }
-    build_passed(
+    )?;
+    Ok(build_passed(
         triangles, settings, order, links, boxes, bounds, centres, scratch,
-    )
+    ))
 }

@@ -5,9 +5,9 @@ ghost use Rattle.spec_lists.specs.Limits.{max_triangles};
 ghost use Rattle.spec_lists.specs.Refusals.{first_refusal};
 ghost use Rattle.spec_build.specs.Build.{room_tests, build_refusal};
 
+use lists::refusal::{Refusal, room_refusal};
 use lists::settings::{Settings, settings_refusal};
 use lists::tests::{triangle_count, triangles_refusal};
-use lists::verdict::{Verdict, room_refusal};
 
 // 6: a list is shorter than it needs to be for `count` triangles.
 fn lists_refusal(
@@ -18,10 +18,10 @@ fn lists_refusal(
     bounds: &[f32],
     centres: &[f32],
     scratch: &[u32],
-) -> Verdict
+) -> Result<(), Refusal>
     requires { (1 ≤ count) × (count ≤ max_triangles) }
     ensures { Lists.as_verdict result ≡ first_refusal (room_tests count (record {
-      order = order.entry.now;
+      order = order.now;
       links = links.now;
       boxes = boxes.now;
       bounds = bounds.now;
@@ -30,12 +30,12 @@ fn lists_refusal(
     })) }
 {
     let max_nodes = 2 * count - 1;
-    room_refusal(order.len(), count)
-        .or(room_refusal(links.len(), 3 * max_nodes))
-        .or(room_refusal(boxes.len(), 6 * max_nodes))
-        .or(room_refusal(bounds.len(), 6 * count))
-        .or(room_refusal(centres.len(), 3 * count))
-        .or(room_refusal(scratch.len(), count))
+    room_refusal(order.len(), count)?;
+    room_refusal(links.len(), 3 * max_nodes)?;
+    room_refusal(boxes.len(), 6 * max_nodes)?;
+    room_refusal(bounds.len(), 6 * count)?;
+    room_refusal(centres.len(), 3 * count)?;
+    room_refusal(scratch.len(), count)
 }
 
 // Tests 1 to 6.
@@ -48,9 +48,9 @@ pub fn build_refusal(
     bounds: &[f32],
     centres: &[f32],
     scratch: &[u32],
-) -> Verdict
+) -> Result<(), Refusal>
     ensures { Lists.as_verdict result ≡ build_refusal triangles.now (Lists.as_settings settings) (record {
-      order = order.entry.now;
+      order = order.now;
       links = links.now;
       boxes = boxes.now;
       bounds = bounds.now;
@@ -58,10 +58,8 @@ pub fn build_refusal(
       scratch = scratch.now;
     }) }
 {
-    let early = triangles_refusal(triangles).or(settings_refusal(settings));
-    if early.refuses() {
-        return early;
-    }
+    triangles_refusal(triangles)?;
+    settings_refusal(settings)?;
     lists_refusal(
         triangle_count(triangles),
         order,

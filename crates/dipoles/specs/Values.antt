@@ -1,9 +1,5 @@
 -- The matrices, sums and dipoles of the code as the records that the definitions speak of. The contracts compare by these.
-use Rattle.std.specs.Prelude.{List, get_or, Float}
-use Rattle.std.specs.Float.{nan}
 use Rattle.shapes.specs.Values.{as_point}
-use Rattle.spec_shapes.specs.Points.{Point}
-use Rattle.spec_tree.specs.Trees.{point_from}
 use Rattle.spec_dipoles.specs.Matrices as Matrices
 use Rattle.spec_dipoles.specs.Sums as Sums
 use Rattle.dipoles.specs.declared.matrix3.Matrix3.{Matrix3}
@@ -18,11 +14,3 @@ as_sums s = record { normal = as_point s.normal; moments = as_matrix s.moments; 
 
 abbrev pub as_dipole : Dipole → Sums.Dipole
 as_dipole d = record { first = as_point d.first; second = as_matrix d.second; radius = d.radius; centre = as_point d.centre }
-
--- ---- the probe: four numbers that are lent, a point and the accuracy scale
--- the point in the first three
-abbrev pub point_of : List Float → Point
-point_of four = point_from four 0
-
-abbrev pub fourth_of : List Float → Float
-fourth_of four = get_or four 3 nan

@@ -5,142 +5,92 @@ ghost use Rattle.shapes.specs.Values as Shapes;
 ghost use Rattle.lists.specs.Values as Verdicts;
 ghost use Rattle.spec_lists.specs.Reading as Reading;
 ghost use Rattle.spec_tables.specs.Tables as Tables;
-ghost use Rattle.spec_angles.specs.Table.{arcs};
 ghost use Rattle.spec_dipoles.specs.Calls as Calls;
 ghost use Rattle.spec_dipoles.specs.Stored as Stored;
 
 use crate::stored::{make_dipoles, store_sums};
 use crate::tests::{fast_refusal, sums_refusal};
-use crate::walk::walk;
-use angles::arc_tangent::arc_table;
+use crate::walk::{Probe, walk};
+use angles::arc_tangent::{ArcTable, arc_table};
+use lists::drawing::Drawing;
 use lists::limits;
 use lists::reading::point_at;
+use lists::refusal::Refusal;
 use lists::tests::point_count;
-use lists::verdict::Verdict;
 use shapes::vec3::Vec3;
 
 // Writes the dipole of each node to the front of `sums`, sixteen numbers a node: first order 3, second order 9 by columns, radius, centre 3.
-pub fn node_sums(
-    triangles: &[f32],
-    order: &[u32],
-    links: &[u32],
-    boxes: &[f32],
-    nodes: usize,
-    sums: &mut [f32],
-) -> Verdict
+pub fn node_sums(drawing: &Drawing, sums: &mut [f32]) -> Result<(), Refusal>
     ensures verdict { Verdicts.as_verdict result
-        ≡ Calls.sums_refusal triangles.now order.now links.now boxes.now nodes (length sums.old) }
+        ≡ Calls.sums_refusal drawing.now.triangles.now drawing.now.order.now drawing.now.links.now
+        drawing.now.boxes.now drawing.now.nodes (length sums.old) }
     ensures sums { sums.new
-        ≡ Calls.after_sums binary32 triangles.now order.now links.now boxes.now nodes sums.old }
+        ≡ Calls.after_sums binary32 drawing.now.triangles.now drawing.now.order.now drawing.now.links.now
+        drawing.now.boxes.now drawing.now.nodes sums.old }
 {
-    let verdict = sums_refusal(triangles, order, links, boxes, nodes, sums.len());
-    if verdict.refuses() {
-        return verdict;
-    }
-    store_sums(triangles, order, links, nodes, sums);
-    make_dipoles(boxes, nodes, sums);
-    verdict
+    sums_refusal(drawing, sums.len())?;
+    store_sums(drawing, sums);
+    make_dipoles(drawing, sums);
+    Ok(())
 }
 
-// The winding number about q by dipoles, with the lent table of arc tangents.
+// The winding number about p by dipoles, with the lent table of arc tangents.
 pub fn fast_winding_by(
-    table: &[u32; 1025],
-    triangles: &[f32],
-    order: &[u32],
-    links: &[u32],
-    nodes: usize,
+    table: &ArcTable,
+    drawing: &Drawing,
     sums: &[f32],
     accuracy: f32,
-    q: Vec3,
+    p: Vec3,
 ) -> f32
-    requires table { table.now ≡ arcs }
-    requires there { Stored.RootIn triangles.now order.now links.now sums.now nodes }
+    requires { Stored.RootIn drawing.now.triangles.now drawing.now.order.now drawing.now.links.now sums.now
+        drawing.now.nodes }
     ensures { result
-        ≡ Calls.fast_about binary32 triangles.now order.now links.now nodes sums.now accuracy
-        (Shapes.as_point q) }
+        ≡ Calls.fast_about binary32 drawing.now.triangles.now drawing.now.order.now drawing.now.links.now
+        drawing.now.nodes sums.now accuracy (Shapes.as_point p) }
 {
-    let probe = [q.x, q.y, q.z, accuracy];
+    let probe = Probe { point: p, accuracy };
     walk(
         table,
-        triangles,
-        order,
-        links,
+        drawing,
         sums,
         &probe,
         limits::DEEPEST,
-        nodes - 1,
+        drawing.nodes - 1,
     )
 }
 
 // Writes one winding number a point to the front of `out`. The table is laid out once for all of them.
-fn write_windings(
-    triangles: &[f32],
-    order: &[u32],
-    links: &[u32],
-    nodes: usize,
-    sums: &[f32],
-    points: &[f32],
-    accuracy: f32,
-    out: &mut [f32],
-)
-    requires there { Stored.RootIn triangles.now order.now links.now sums.now nodes }
+fn write_windings(drawing: &Drawing, sums: &[f32], points: &[f32], accuracy: f32, out: &mut [f32])
+    requires there { Stored.RootIn drawing.now.triangles.now drawing.now.order.now drawing.now.links.now sums.now
+        drawing.now.nodes }
     requires room { Reading.point_count points.now ≤ length out.old }
     ensures { out.new
-        ≡ Tables.overwrite 0 (Calls.fast_windings binary32 triangles.now order.now links.now nodes sums.now
-        accuracy points.now) out.old }
+        ≡ Tables.overwrite 0 (Calls.fast_windings binary32 drawing.now.triangles.now drawing.now.order.now
+        drawing.now.links.now drawing.now.nodes sums.now accuracy points.now) out.old }
 {
-    let count = point_count(points);
     let table = arc_table();
-    let mut k = 0;
-    while k < count {
-        out[k] = fast_winding_by(
-            &table,
-            triangles,
-            order,
-            links,
-            nodes,
-            sums,
-            accuracy,
-            point_at(points, 3 * k),
-        );
-        k += 1;
+    for k in 0..point_count(points) {
+        out[k] = fast_winding_by(&table, drawing, sums, accuracy, point_at(points, 3 * k));
     }
 }
 
 // Writes the winding number about each point, by the dipoles that are lent, to the front of `out`, one f32 a point.
 // A node is used as far where the point is farther from its centre than its radius times the accuracy scale and its far term is finite.
 pub fn fast_winding(
-    triangles: &[f32],
-    order: &[u32],
-    links: &[u32],
-    boxes: &[f32],
-    nodes: usize,
+    drawing: &Drawing,
     sums: &[f32],
     points: &[f32],
     accuracy: f32,
     out: &mut [f32],
-) -> Verdict
+) -> Result<(), Refusal>
     ensures verdict { Verdicts.as_verdict result
-        ≡ Calls.fast_refusal triangles.now order.now links.now boxes.now nodes sums.now
-        points.now accuracy (length out.old) }
+        ≡ Calls.fast_refusal drawing.now.triangles.now drawing.now.order.now drawing.now.links.now
+        drawing.now.boxes.now drawing.now.nodes sums.now points.now accuracy (length out.old) }
     ensures windings { out.new
-        ≡ Calls.after_fast binary32 triangles.now order.now links.now boxes.now nodes sums.now accuracy
-        points.now out.old }
+        ≡ Calls.after_fast binary32 drawing.now.triangles.now drawing.now.order.now drawing.now.links.now
+        drawing.now.boxes.now drawing.now.nodes sums.now accuracy points.now out.old }
 {
-    let verdict = fast_refusal(
-        triangles,
-        order,
-        links,
-        boxes,
-        nodes,
-        sums,
-        points,
-        accuracy,
-        out.len(),
-    );
-    if verdict.refuses() {
-        return verdict;
-    }
-    write_windings(triangles, order, links, nodes, sums, points, accuracy, out);
-    verdict
+    fast_refusal(drawing, sums, points, accuracy, out.len())?;
+    write_windings(drawing, sums, points, accuracy, out);
+    Ok(())
 }

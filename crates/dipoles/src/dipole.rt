@@ -31,11 +31,9 @@ pub fn dipole_of(over: Box3, sums: Sums) -> Dipole
     let centre = sums.centre.over(sums.area);
     let low = over.min.minus(centre);
     let high = over.max.minus(centre);
-    let first = sums.normal;
-    let moments = sums.moments;
     Dipole {
-        first,
-        second: moments.minus(outer(centre, first)),
+        first: sums.normal,
+        second: sums.moments.minus(outer(centre, sums.normal)),
         radius: root_or_nan(max2(low.dot(low), high.dot(high))),
         centre,
     }
@@ -93,9 +91,8 @@ pub fn put_dipole(out: &mut [f32], node: usize, d: Dipole)
     requires { 16 * node + 16 ≤ length out.old }
     ensures { out.new ≡ Tables.overwrite (16 * node) (Calls.sixteen_of (Values.as_dipole d)) out.old }
 {
-    let second = d.second;
     let columns = put_point(out, 16 * node, d.first);
-    let radius = put_matrix(out, columns, second);
+    let radius = put_matrix(out, columns, d.second);
     out[radius] = d.radius;
     put_point(out, radius + 1, d.centre);
 }

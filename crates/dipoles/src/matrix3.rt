@@ -71,11 +71,7 @@ fn down_column(sum: f32, a: Vec3, b: Vec3) -> f32
 pub fn zeros() -> Matrix3
     ensures { Values.as_matrix result ≡ Matrices.zeros }
 {
-    let origin = Vec3 {
-        x: 0.0,
-        y: 0.0,
-        z: 0.0,
-    };
+    let origin = Vec3::splat(0.0);
     Matrix3 {
         x: origin,
         y: origin,

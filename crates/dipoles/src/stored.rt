@@ -11,7 +11,8 @@ ghost use Rattle.dipoles.specs.Values as Values;
 
 use crate::dipole::{Dipole, dipole_at, dipole_of, put_dipole};
 use crate::sums::{Sums, leaf_sums};
-use tree::nodes::{kind_at, left_at, node_box, right_at};
+use lists::drawing::Drawing;
+use tree::nodes::{Node, node_at, node_box};
 
 // The sums that stand in the place of the node's dipole.
 fn restored_at(sums: &[f32], node: usize) -> Sums
@@ -19,14 +20,11 @@ fn restored_at(sums: &[f32], node: usize) -> Sums
     ensures { Values.as_sums result ≡ Stored.restored (Calls.dipole_at sums.now node) }
 {
     let d = dipole_at(sums, node);
-    let normal = d.first;
-    let moments = d.second;
-    let centre = d.centre;
     Sums {
-        normal,
-        moments,
+        normal: d.first,
+        moments: d.second,
         area: d.radius,
-        centre,
+        centre: d.centre,
     }
 }
 
@@ -35,73 +33,70 @@ fn store(out: &mut [f32], node: usize, sums: Sums)
     requires { 16 * node + 16 ≤ length out.old }
     ensures { out.new ≡ Tables.overwrite (16 * node) (Calls.sixteen_of (Stored.stored (Values.as_sums sums))) out.old }
 {
-    let first = sums.normal;
-    let second = sums.moments;
-    let centre = sums.centre;
     put_dipole(
         out,
         node,
         Dipole {
-            first,
-            second,
+            first: sums.normal,
+            second: sums.moments,
             radius: sums.area,
-            centre,
+            centre: sums.centre,
         },
     );
 }
 
 // The sums of the triangles that the order list numbers from `first` to before `last`.
-fn range_sums(triangles: &[f32], order: &[u32], first: usize, last: usize) -> Sums
-    requires numbered { Order.EntriesBelow (Reading.triangle_count triangles.now) order.now }
-    requires within { (first ≤ last) × (last ≤ length order.now) }
+fn range_sums(drawing: &Drawing, first: usize, last: usize) -> Sums
+    requires numbered { Order.EntriesBelow (Reading.triangle_count drawing.now.triangles.now) drawing.now.order.now }
+    requires within { (first ≤ last) × (last ≤ length drawing.now.order.now) }
     ensures { Values.as_sums result
-        ≡ Defined.leaf_sums binary32 (Reading.triangle_at triangles.now) (Tables.slice order.now first (last - first)) }
+        ≡ Defined.leaf_sums binary32 (Reading.triangle_at drawing.now.triangles.now)
+        (Tables.slice drawing.now.order.now first (last - first)) }
 {
-    leaf_sums(triangles, &order[first..last])
+    leaf_sums(drawing.triangles, &drawing.order[first..last])
 }
 
 // The sums of a node: a leaf's of its triangles, a branch's of its children's, which stand in the list.
-fn sums_from(triangles: &[f32], order: &[u32], links: &[u32], sums: &[f32], node: usize) -> Sums
-    requires { Stored.NodeIn triangles.now order.now links.now sums.now node }
+fn sums_from(drawing: &Drawing, sums: &[f32], node: usize) -> Sums
+    requires { Stored.NodeIn drawing.now.triangles.now drawing.now.order.now drawing.now.links.now sums.now node }
     ensures { Values.as_sums result
-        ≡ Stored.sums_from binary32 triangles.now order.now links.now sums.now node }
+        ≡ Stored.sums_from binary32 drawing.now.triangles.now drawing.now.order.now drawing.now.links.now sums.now
+        node }
 {
-    let left = left_at(links, node);
-    let right = right_at(links, node);
-    if kind_at(links, node) == 1 {
-        return range_sums(triangles, order, left, right);
+    match node_at(drawing.links, node) {
+        Node::Leaf { first, last } => range_sums(drawing, first, last),
+        Node::Branch { left, right } => {
+            let from_left = restored_at(sums, left);
+            let from_right = restored_at(sums, right);
+            from_left.plus(from_right)
+        }
     }
-    let from_left = restored_at(sums, left);
-    let from_right = restored_at(sums, right);
-    from_left.plus(from_right)
 }
 
 // Writes the sums of all nodes. Children stand before their parent, so that theirs are there when it comes.
-pub fn store_sums(triangles: &[f32], order: &[u32], links: &[u32], nodes: usize, out: &mut [f32])
-    requires readable { Stored.Readable triangles.now order.now links.now nodes }
-    requires room { 16 * nodes ≤ length out.old }
+pub fn store_sums(drawing: &Drawing, out: &mut [f32])
+    requires readable { Stored.Readable drawing.now.triangles.now drawing.now.order.now drawing.now.links.now
+        drawing.now.nodes }
+    requires room { 16 * drawing.now.nodes ≤ length out.old }
     ensures { out.new
-        ≡ Tables.overwrite 0 (Stored.stored_sums binary32 triangles.now order.now links.now nodes) out.old }
+        ≡ Tables.overwrite 0 (Stored.stored_sums binary32 drawing.now.triangles.now drawing.now.order.now
+        drawing.now.links.now drawing.now.nodes) out.old }
 {
-    let mut node = 0;
-    while node < nodes {
-        let sums = sums_from(triangles, order, links, out, node);
+    for node in 0..drawing.nodes {
+        let sums = sums_from(drawing, out, node);
         store(out, node, sums);
-        node += 1;
     }
 }
 
 // Writes the dipoles of all nodes, each over the sums of which it is made.
-pub fn make_dipoles(boxes: &[f32], nodes: usize, out: &mut [f32])
-    requires boxed { 6 * nodes ≤ length boxes.now }
-    requires room { 16 * nodes ≤ length out.old }
+pub fn make_dipoles(drawing: &Drawing, out: &mut [f32])
+    requires boxed { 6 * drawing.now.nodes ≤ length drawing.now.boxes.now }
+    requires room { 16 * drawing.now.nodes ≤ length out.old }
     ensures { out.new
-        ≡ Tables.overwrite 0 (Stored.made_dipoles binary32 boxes.now out.old nodes) out.old }
+        ≡ Tables.overwrite 0 (Stored.made_dipoles binary32 drawing.now.boxes.now out.old drawing.now.nodes) out.old }
 {
-    let mut k = 0;
-    while k < nodes {
-        let dipole = dipole_of(node_box(boxes, k), restored_at(out, k));
+    for k in 0..drawing.nodes {
+        let dipole = dipole_of(node_box(drawing.boxes, k), restored_at(out, k));
         put_dipole(out, k, dipole);
-        k += 1;
     }
 }

@@ -12,7 +12,6 @@ use angles::solid_angle::norm_of;
 use lists::reading::triangle_at;
 use shapes::triangle3::Triangle3;
 use shapes::vec3::Vec3;
-use tree::nodes::wide;
 
 // Normals times areas; centres times areas, each times its normal transposed; areas; centres times areas.
 #[derive(Clone, Copy)]
@@ -42,7 +41,7 @@ fn has_normal(t: Triangle3) -> bool
     ensures { result ≡ Defined.has_normal binary32 (Shapes.as_triangle t) }
 {
     let cross = cross_of(t);
-    !(cross.dot(cross) == 0.0)
+    cross.dot(cross) != 0.0
 }
 
 impl Sums {
@@ -55,10 +54,9 @@ impl Sums {
         let normal = cross.over(norm);
         let area = norm * 0.5;
         let weighted = centre_of(t).scale(area);
-        let moments = self.moments;
         Sums {
             normal: self.normal.plus(normal.scale(area)),
-            moments: moments.plus(outer(weighted, normal)),
+            moments: self.moments.plus(outer(weighted, normal)),
             area: self.area + area,
             centre: self.centre.plus(weighted),
         }
@@ -68,11 +66,9 @@ impl Sums {
     pub fn plus(self, right: Sums) -> Sums
         ensures { Values.as_sums result ≡ Defined.joined_sums binary32 (Values.as_sums self) (Values.as_sums right) }
     {
-        let moments = self.moments;
-        let right_moments = right.moments;
         Sums {
             normal: self.normal.plus(right.normal),
-            moments: moments.plus(right_moments),
+            moments: self.moments.plus(right.moments),
             area: self.area + right.area,
             centre: self.centre.plus(right.centre),
         }
@@ -83,11 +79,7 @@ impl Sums {
 fn no_sums() -> Sums
     ensures { Values.as_sums result ≡ Defined.no_sums }
 {
-    let origin = Vec3 {
-        x: 0.0,
-        y: 0.0,
-        z: 0.0,
-    };
+    let origin = Vec3::splat(0.0);
     Sums {
         normal: origin,
         moments: zeros(),
@@ -101,7 +93,7 @@ fn with_next(triangles: &[f32], sums: Sums, t: u32) -> Sums
     requires { 9 * t + 9 ≤ length triangles.now }
     ensures { Values.as_sums result ≡ Defined.with_next binary32 (Reading.triangle_at triangles.now) (Values.as_sums sums) t }
 {
-    let triangle = triangle_at(triangles, wide(t));
+    let triangle = triangle_at(triangles, t as usize);
     if has_normal(triangle) {
         return sums.with_triangle(triangle);
     }
@@ -114,10 +106,8 @@ pub fn leaf_sums(triangles: &[f32], slice: &[u32]) -> Sums
     ensures { Values.as_sums result ≡ Defined.leaf_sums binary32 (Reading.triangle_at triangles.now) slice.now }
 {
     let mut sums = no_sums();
-    let mut i = 0;
-    while i < slice.len() {
-        sums = with_next(triangles, sums, slice[i]);
-        i += 1;
+    for t in slice {
+        sums = with_next(triangles, sums, *t);
     }
     sums
 }

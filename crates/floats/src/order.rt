@@ -5,6 +5,7 @@ ghost use Rattle.spec_numbers.specs.Hold as Hold;
 ghost use Rattle.spec_numbers.specs.Values as Values;
 
 // The smaller of the two, the first where they are equal.
+// Kept: `f32::min` and `f32::max` leave open which of +0 and -0 they answer, and pass over a NaN; `Hold.smaller` and `Hold.larger` fix both.
 pub fn min2(a: f32, b: f32) -> f32
     ensures { result ≡ Hold.smaller a b }
 {

@@ -2,18 +2,19 @@
 // The nodes of the left subtree are written first, then those of the right one, then the branch itself.
 ghost use Rattle.std.specs.Float.{binary32};
 ghost use Rattle.shapes.specs.Values as Shapes;
+ghost use Rattle.splits.specs.Values as Rules;
 ghost use Rattle.spec_build.specs.Growing.{Growable, GrownIs};
 
 use crate::nodes::{Grown, put_branch, put_leaf};
 use crate::tries::try_slice;
-use splits::split::Split;
+use splits::strategy::Strategy;
 
 // Grows the tree of the slice, which begins at `entry` of the order list, and answers its root, levels and box.
 // `levels_remaining` levels remain below this one. The slice is left in the order of the leaves, and the nodes stand in the lists from `node` on.
 pub fn grow(
     bounds: &[f32],
     centres: &[f32],
-    strategy: usize,
+    strategy: Strategy,
     leaf_minimum: usize,
     levels_remaining: usize,
     slice: &mut [u32],
@@ -24,13 +25,13 @@ pub fn grow(
     node: usize,
 ) -> Grown
     requires { Growable binary32 bounds.now centres.now leaf_minimum levels_remaining slice.old scratch.old entry links.old boxes.old node }
-    ensures { GrownIs binary32 bounds.now strategy leaf_minimum levels_remaining slice.old slice.new entry
+    ensures { GrownIs binary32 bounds.now (Rules.number_of strategy) leaf_minimum levels_remaining slice.old slice.new entry
         links.old links.new boxes.old boxes.new node result.root result.levels (Shapes.as_box result.bounds) }
 {
     if (levels_remaining == 0) | (slice.len() <= leaf_minimum) {
         return put_leaf(bounds, slice, entry, links, boxes, node);
     }
-    let Split::At(cut) = try_slice(bounds, centres, strategy, slice, scratch) else {
+    let Some(cut) = try_slice(bounds, centres, strategy, slice, scratch) else {
         return put_leaf(bounds, slice, entry, links, boxes, node);
     };
     let left = grow(

@@ -1,5 +1,5 @@
 // Writes the nodes of a tree to the lent lists: three links and six box numbers each.
-ghost use Rattle.std.specs.Prelude.{◌≡◌, [], ◌∷◌, ◌+◌, ◌*◌, ◌≤◌, ◌<◌, max, length};
+ghost use Rattle.std.specs.Prelude.{◌≡◌, [], ◌∷◌, ◌+◌, ◌*◌, ◌≤◌, ◌<◌, length};
 ghost use Rattle.shapes.specs.Values as Shapes;
 ghost use Rattle.spec_tables.specs.Tables.{overwrite};
 ghost use Rattle.spec_tree.specs.Trees as Trees;
@@ -23,10 +23,7 @@ pub fn put_links(links: &mut [u32], node: usize, kind: u32, left: u32, right: u3
     requires { 3 * node + 3 ≤ length links.old }
     ensures { links.new ≡ overwrite (3 * node) (kind ∷ left ∷ right ∷ []) links.old }
 {
-    let at = 3 * node;
-    links[at] = kind;
-    links[at + 1] = left;
-    links[at + 2] = right;
+    links[3 * node..3 * node + 3].copy_from_slice(&[kind, left, right]);
 }
 
 // Writes a leaf over the slice, which begins at this entry of the order list, as node `node`.
@@ -52,13 +49,6 @@ pub fn put_leaf(
     }
 }
 
-// The larger of the two.
-fn deeper(a: usize, b: usize) -> usize
-    ensures { result ≡ max a b }
-{
-    if a < b { b } else { a }
-}
-
 // Writes a branch behind its two subtrees.
 pub fn put_branch(left: Grown, right: Grown, links: &mut [u32], boxes: &mut [f32]) -> Grown
     requires { BranchNeeds left.root left.levels right.root right.levels links.old boxes.old }
@@ -71,7 +61,7 @@ pub fn put_branch(left: Grown, right: Grown, links: &mut [u32], boxes: &mut [f32
     put_box(boxes, node, over);
     Grown {
         root: node,
-        levels: deeper(left.levels, right.levels) + 1,
+        levels: left.levels.max(right.levels) + 1,
         bounds: over,
     }
 }

@@ -1,8 +1,7 @@
-// The tables that a build makes once: the box of each triangle, the centre of each box on each axis, and the order list. Working lists are cleared here.
-ghost use Rattle.std.specs.Prelude.{◌≡◌, [], ◌∷◌, ◌+◌, ◌*◌, ◌^◌, ◌≤◌, ◌<◌, length, replicate};
+// The tables that a build makes once: the box of each triangle, the centre of each box on each axis, and the order list.
+ghost use Rattle.std.specs.Prelude.{◌≡◌, [], ◌∷◌, ◌+◌, ◌*◌, ◌^◌, ◌≤◌, ◌<◌, length};
 ghost use Rattle.std.specs.Float.{binary32};
 ghost use Rattle.shapes.specs.Values as Shapes;
-ghost use Rattle.spec_numbers.specs.Values.{zero};
 ghost use Rattle.spec_tables.specs.Tables.{overwrite, concat_map};
 ghost use Rattle.spec_lists.specs.Limits.{max_triangles};
 ghost use Rattle.spec_lists.specs.Reading as Reading;
@@ -15,20 +14,16 @@ ghost use Rattle.spec_build.specs.Growing.{rows, CentresNeeds, CentresPut, Centr
 use lists::reading::box_at;
 use shapes::box3::Box3;
 use shapes::vec3::Axis;
-use splits::table::centre_on;
+use splits::table::{centre_on, place_of};
 
 // Writes the box to place k of a table of boxes.
 pub fn put_box(boxes: &mut [f32], k: usize, b: Box3)
     requires { 6 * k + 6 ≤ length boxes.old }
     ensures { boxes.new ≡ overwrite (6 * k) (Trees.six_of (Shapes.as_box b)) boxes.old }
 {
-    let at = 6 * k;
-    boxes[at] = b.min.x;
-    boxes[at + 1] = b.min.y;
-    boxes[at + 2] = b.min.z;
-    boxes[at + 3] = b.max.x;
-    boxes[at + 4] = b.max.y;
-    boxes[at + 5] = b.max.z;
+    boxes[6 * k..6 * k + 6].copy_from_slice(&[
+        b.min.x, b.min.y, b.min.z, b.max.x, b.max.y, b.max.z,
+    ]);
 }
 
 // Writes the boxes of the first `count` triangles, six numbers each.
@@ -36,10 +31,8 @@ pub fn put_bounds(triangles: &[f32], count: usize, bounds: &mut [f32])
     requires { (9 * count ≤ length triangles.now) × (6 * count ≤ length bounds.old) }
     ensures { bounds.new ≡ overwrite 0 (concat_map (λ t. Trees.six_of (Reading.box_at triangles.now t)) count) bounds.old }
 {
-    let mut t = 0;
-    while t < count {
+    for t in 0..count {
         put_box(bounds, t, box_at(triangles, t));
-        t += 1;
     }
 }
 
@@ -48,11 +41,7 @@ pub fn first_key(axis: Axis, rows: usize) -> usize
     requires { 3 * rows < 2 ^ 64 }
     ensures { result ≡ place (Shapes.as_axis axis) * rows }
 {
-    match axis {
-        Axis::X => 0,
-        Axis::Y => rows,
-        Axis::Z => 2 * rows,
-    }
+    place_of(axis) * rows
 }
 
 // Writes the centres of the first `count` boxes on one axis to the front of the list.
@@ -61,10 +50,8 @@ fn put_keys(bounds: &[f32], axis: Axis, count: usize, keys: &mut [f32])
     ensures { keys.new
         ≡ overwrite 0 (concat_map (λ t. centre_on binary32 (box_in bounds.now) (Shapes.as_axis axis) t ∷ []) count) keys.old }
 {
-    let mut t = 0;
-    while t < count {
+    for t in 0..count {
         keys[t] = centre_on(bounds, t as u32, axis);
-        t += 1;
     }
 }
 
@@ -93,33 +80,7 @@ pub fn put_order(count: usize, order: &mut [u32])
     requires { (count ≤ max_triangles) × (count ≤ length order.old) }
     ensures { order.new ≡ overwrite 0 (range count) order.old }
 {
-    let mut number = 0;
-    while number < count {
+    for number in 0..count {
         order[number] = number as u32;
-        number += 1;
-    }
-}
-
-// Writes zeros to the first `count` entries of a working list.
-pub fn clear_f32s(list: &mut [f32], count: usize)
-    requires { count ≤ length list.old }
-    ensures { list.new ≡ overwrite 0 (replicate count zero) list.old }
-{
-    let mut i = 0;
-    while i < count {
-        list[i] = 0.0;
-        i += 1;
-    }
-}
-
-// The same for a working list of whole numbers.
-pub fn clear_u32s(list: &mut [u32], count: usize)
-    requires { count ≤ length list.old }
-    ensures { list.new ≡ overwrite 0 (replicate count 0) list.old }
-{
-    let mut i = 0;
-    while i < count {
-        list[i] = 0;
-        i += 1;
     }
 }

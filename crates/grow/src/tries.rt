@@ -15,7 +15,7 @@ use shapes::vec3::Axis;
 use sort::stable::sort_by_key;
 use splits::area::area_split;
 use splits::median::median_split;
-use splits::split::Split;
+use splits::strategy::Strategy;
 use splits::table::union_of;
 
 // Sorts the slice stably by the centres on the axis.
@@ -28,31 +28,37 @@ fn sort_on(centres: &[f32], axis: Axis, slice: &mut [u32], scratch: &mut [u32])
     sort_by_key(&centres[first..first + rows], slice, scratch);
 }
 
-// Where the rule cuts the slice as it stands. Strategy 1 is median, 2 is area.
-fn rule(bounds: &[f32], strategy: usize, axis: Axis, parent: Box3, slice: &[u32]) -> Split
+// Where the rule cuts the slice as it stands.
+fn rule(
+    bounds: &[f32],
+    strategy: Strategy,
+    axis: Axis,
+    parent: Box3,
+    slice: &[u32],
+) -> Option<usize>
     requires { RuleNeeds binary32 bounds.now slice.now }
     ensures { Rules.as_split result
-        ≡ Tries.rule binary32 strategy (Shapes.as_axis axis) (Shapes.as_box parent) (Splits.boxes_in bounds.now slice.now) }
+        ≡ Tries.rule binary32 (Rules.number_of strategy) (Shapes.as_axis axis) (Shapes.as_box parent) (Splits.boxes_in bounds.now slice.now) }
 {
-    if strategy == 1 {
-        return median_split(bounds, slice, axis, parent);
+    match strategy {
+        Strategy::Median => median_split(bounds, slice, axis, parent),
+        Strategy::Area => area_split(bounds, slice, axis, parent),
     }
-    area_split(bounds, slice, axis, parent)
 }
 
 // One try. Where it fails the slice stays as it was sorted.
 fn try_on(
     bounds: &[f32],
     centres: &[f32],
-    strategy: usize,
+    strategy: Strategy,
     axis: Axis,
     parent: Box3,
     slice: &mut [u32],
     scratch: &mut [u32],
-) -> Split
+) -> Option<usize>
     requires { Triable binary32 bounds.now centres.now slice.old scratch.old }
     ensures { Tries.split_as slice.new (Rules.as_split result)
-        ≡ Tries.tried_on binary32 (Splits.box_in bounds.now) strategy (Shapes.as_axis axis) (Shapes.as_box parent) slice.old }
+        ≡ Tries.tried_on binary32 (Splits.box_in bounds.now) (Rules.number_of strategy) (Shapes.as_axis axis) (Shapes.as_box parent) slice.old }
 {
     sort_on(centres, axis, slice, scratch);
     rule(bounds, strategy, axis, parent, slice)
@@ -62,41 +68,34 @@ fn try_on(
 fn try_axes(
     bounds: &[f32],
     centres: &[f32],
-    strategy: usize,
+    strategy: Strategy,
     parent: Box3,
     slice: &mut [u32],
     scratch: &mut [u32],
-) -> Split
+) -> Option<usize>
     requires { Triable binary32 bounds.now centres.now slice.old scratch.old }
     ensures { Tries.split_as slice.new (Rules.as_split result)
-        ≡ Tries.tried_within binary32 (Splits.box_in bounds.now) strategy (Shapes.as_box parent) slice.old }
+        ≡ Tries.tried_within binary32 (Splits.box_in bounds.now) (Rules.number_of strategy) (Shapes.as_box parent) slice.old }
 {
-    let axes = axes_by_size(parent.sizes());
-    let first = axes.first;
-    let second = axes.second;
-    let third = axes.third;
-    let once = try_on(bounds, centres, strategy, first, parent, slice, scratch);
-    if let Split::At(cut) = once {
-        return Split::At(cut);
+    for axis in axes_by_size(parent.sizes()) {
+        if let Some(cut) = try_on(bounds, centres, strategy, axis, parent, slice, scratch) {
+            return Some(cut);
+        }
     }
-    let twice = try_on(bounds, centres, strategy, second, parent, slice, scratch);
-    if let Split::At(cut) = twice {
-        return Split::At(cut);
-    }
-    try_on(bounds, centres, strategy, third, parent, slice, scratch)
+    None
 }
 
 // Where the slice is cut. The slice is left as the last try sorted it.
 pub fn try_slice(
     bounds: &[f32],
     centres: &[f32],
-    strategy: usize,
+    strategy: Strategy,
     slice: &mut [u32],
     scratch: &mut [u32],
-) -> Split
+) -> Option<usize>
     requires { Triable binary32 bounds.now centres.now slice.old scratch.old }
     ensures { Tries.split_as slice.new (Rules.as_split result)
-        ≡ Tries.tried binary32 (Splits.box_in bounds.now) strategy slice.old }
+        ≡ Tries.tried binary32 (Splits.box_in bounds.now) (Rules.number_of strategy) slice.old }
 {
     let parent = union_of(bounds, slice);
     try_axes(bounds, centres, strategy, parent, slice, scratch)

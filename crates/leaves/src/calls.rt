@@ -9,7 +9,7 @@ use lists::drawing::Drawing;
 use lists::refusal::Refusal;
 use shapes::box3::Box3;
 use tree::calls::check;
-use tree::nodes::{kind_at, left_at, node_box, right_at};
+use tree::nodes::{Node, node_at, node_box};
 
 // A leaf: its triangles are the entries from `first` up to `last`, the end not included.
 #[derive(Clone, Copy)]
@@ -18,19 +18,6 @@ pub struct LeafNode {
     pub first: usize,
     pub last: usize,
     pub over: Box3,
-}
-
-// The leaf at this node.
-fn leaf_at(links: &[u32], boxes: &[f32], node: usize) -> LeafNode
-    requires { (3 * node + 3 ≤ length links.now) × (6 * node + 6 ≤ length boxes.now) }
-    ensures { Values.as_leaf result ≡ Leaves.leaf_at links.now boxes.now node }
-{
-    LeafNode {
-        node,
-        first: left_at(links, node),
-        last: right_at(links, node),
-        over: node_box(boxes, node),
-    }
 }
 
 // The k-th of the leaves from this node on, counted from 0. From node 0 on that is the tree's k-th leaf.
@@ -47,11 +34,20 @@ pub fn leaf_from(
 {
     let mut remaining = k;
     for node in from..nodes {
-        if kind_at(links, node) == 1 {
-            if remaining == 0 {
-                return Some(leaf_at(links, boxes, node));
+        match node_at(links, node) {
+            Node::Leaf { first, last } => {
+                if remaining == 0 {
+                    let over = node_box(boxes, node);
+                    return Some(LeafNode {
+                        node,
+                        first,
+                        last,
+                        over,
+                    });
+                }
+                remaining -= 1;
             }
-            remaining -= 1;
+            Node::Branch { .. } => {}
         }
     }
     None
@@ -64,8 +60,9 @@ pub fn leaf_count(links: &[u32], nodes: usize) -> usize
 {
     let mut count = 0;
     for node in 0..nodes {
-        if kind_at(links, node) == 1 {
-            count += 1;
+        match node_at(links, node) {
+            Node::Leaf { .. } => count += 1,
+            Node::Branch { .. } => {}
         }
     }
     count

@@ -27,6 +27,7 @@ fn put_word(out: &mut [u8], at: usize, word: &[u8]) -> usize
     next
 }
 
+// Kept: (d) decimal and hex apart. As one, `put_spaced(out, at, |out, next| put_hex(out, next, n))`, each call would say more than now.
 // Writes a space and the number in decimal.
 fn put_spaced_decimal(out: &mut [u8], at: usize, n: usize) -> usize
     requires { at + 21 ≤ length out.old }

@@ -11,263 +11,164 @@ ghost use Rattle.walks.specs.Values as Values;
 
 use crate::query::{few_at, source_at};
 use crate::rules::{choice_refusal, most_by};
+use lists::drawing::Drawing;
 use lists::reading::point_at;
+use lists::refusal::{Refusal, room_refusal};
 use lists::tests::{distance_refusal, point_count, points_refusal, triangles_refusal};
-use lists::verdict::{Verdict, room_refusal};
 use tree::calls::tree_refusal;
-use tree::nodes::wide;
 use walks::answer::Query;
-use walks::places::{BEST, WHICH};
+use walks::places::{BEST, Places, WHICH};
 use walks::words::{ANSWER_WIDTH, put_answer, put_places};
 
 // The first of the tests 1 to 6, 71 to 75, 8 and 9 that refuses.
 fn query_refusal(
     query: Query,
-    triangles: &[f32],
-    order: &[u32],
-    links: &[u32],
-    boxes: &[f32],
-    nodes: usize,
+    drawing: &Drawing,
     points: &[f32],
     distance: f32,
     room: usize,
-) -> Verdict
+) -> Result<(), Refusal>
     ensures { Verdicts.as_verdict result
-        ≡ Calls.query_refusal (Values.as_query query) triangles.now order.now links.now boxes.now nodes
-        points.now distance room }
+        ≡ Calls.query_refusal (Values.as_query query) drawing.now.triangles.now drawing.now.order.now drawing.now.links.now drawing.now.boxes.now
+        drawing.now.nodes points.now distance room }
 {
-    let drawing = triangles_refusal(triangles);
-    if drawing.refuses() {
-        return drawing;
-    }
-    let choice = choice_refusal(query);
-    if choice.refuses() {
-        return choice;
-    }
-    let answers = room / ANSWER_WIDTH;
-    let fits = room_refusal(answers / most_by(query), point_count(points));
-    if fits.refuses() {
-        return fits;
-    }
-    tree_refusal(triangles, order, links, boxes, nodes)
-        .or(points_refusal(points))
-        .or(distance_refusal(distance))
+    triangles_refusal(drawing.triangles)?;
+    choice_refusal(query)?;
+    room_refusal(room / ANSWER_WIDTH / most_by(query), point_count(points))?;
+    tree_refusal(drawing)?;
+    points_refusal(points)?;
+    distance_refusal(distance)
 }
 
 // Writes the nearest few at all points to the front of the list.
 fn put_few(
-    triangles: &[f32],
-    order: &[u32],
-    links: &[u32],
-    boxes: &[f32],
-    nodes: usize,
+    drawing: &Drawing,
     points: &[f32],
     distance: f32,
     rule: u32,
     most: usize,
     answers: &mut [u32],
 )
-    requires askable { Calls.Askable triangles.now order.now links.now boxes.now nodes points.now distance }
+    requires askable { Calls.Askable drawing.now.triangles.now drawing.now.order.now drawing.now.links.now drawing.now.boxes.now
+        drawing.now.nodes points.now distance }
     requires le_most { (1 ≤ most) × (most ≤ Calls.most_few) }
     requires points_in_bounds { (Answers.answer_width * most) * Reading.point_count points.now ≤ length answers.old }
     ensures { answers.new
-        ≡ Tables.overwrite 0 (Calls.few_words binary32 most (Calls.few_answer binary32 (Rules.rule_of rule) most triangles.now distance)
-        points.now) answers.old }
+        ≡ Tables.overwrite 0 (Calls.few_words binary32 most (Calls.few_answer binary32 (Rules.rule_of rule) most drawing.now.triangles.now
+        distance) points.now) answers.old }
 {
-    let count = point_count(points);
     let width = ANSWER_WIDTH * most;
-    let mut best = [0.0; BEST];
-    let mut which = [0u32; WHICH];
-    let mut k: usize = 0;
-    while k < count {
+    let mut places = Places {
+        best: [0.0; BEST],
+        which: [0; WHICH],
+    };
+    let count = point_count(points);
+    for k in 0..count {
         let touched = point_at(points, 3 * k);
-        few_at(
-            triangles, order, links, boxes, nodes, touched, distance, rule, most, &mut best,
-            &mut which,
-        );
-        put_places(answers, width * k, &best, &which);
-        k += 1;
+        few_at(drawing, touched, distance, rule, most, &mut places);
+        put_places(answers, width * k, &places);
     }
 }
 
 // Writes the source's answers at all points to the front of the list.
-fn put_source(
-    triangles: &[f32],
-    order: &[u32],
-    links: &[u32],
-    boxes: &[f32],
-    nodes: usize,
-    points: &[f32],
-    distance: f32,
-    answers: &mut [u32],
-)
-    requires askable { Calls.Askable triangles.now order.now links.now boxes.now nodes points.now distance }
+fn put_source(drawing: &Drawing, points: &[f32], distance: f32, answers: &mut [u32])
+    requires askable { Calls.Askable drawing.now.triangles.now drawing.now.order.now drawing.now.links.now drawing.now.boxes.now
+        drawing.now.nodes points.now distance }
     requires points_in_bounds { Answers.answer_width * Reading.point_count points.now ≤ length answers.old }
     ensures { answers.new
-        ≡ Tables.overwrite 0 (Calls.few_words binary32 1 (λ p j. Calls.source_answer binary32 triangles.now order.now
-        links.now boxes.now nodes distance p) points.now) answers.old }
+        ≡ Tables.overwrite 0 (Calls.few_words binary32 1 (λ p j. Calls.source_answer binary32 drawing.now.triangles.now
+        drawing.now.order.now drawing.now.links.now drawing.now.boxes.now drawing.now.nodes distance p) points.now) answers.old }
 {
-    let count = point_count(points);
-    let mut k = 0;
-    while k < count {
+    for k in 0..point_count(points) {
         let p = point_at(points, 3 * k);
-        let answer = source_at(triangles, order, links, boxes, nodes, p, distance);
-        put_answer(answers, ANSWER_WIDTH * k, answer);
-        k += 1;
+        put_answer(answers, ANSWER_WIDTH * k, source_at(drawing, p, distance));
     }
 }
 
 // Writes the answers at all points to the front of the list.
-fn put_answers(
-    query: Query,
-    triangles: &[f32],
-    order: &[u32],
-    links: &[u32],
-    boxes: &[f32],
-    nodes: usize,
-    points: &[f32],
-    distance: f32,
-    answers: &mut [u32],
-)
-    requires askable { Calls.Askable triangles.now order.now links.now boxes.now nodes points.now distance }
+fn put_answers(query: Query, drawing: &Drawing, points: &[f32], distance: f32, answers: &mut [u32])
+    requires askable { Calls.Askable drawing.now.triangles.now drawing.now.order.now drawing.now.links.now drawing.now.boxes.now
+        drawing.now.nodes points.now distance }
     requires points_in_bounds { (Answers.answer_width * Calls.most_by (Values.as_query query)) * Reading.point_count points.now ≤ length answers.old }
     requires bound { (1 ≤ Calls.most_by (Values.as_query query)) × (Calls.most_by (Values.as_query query) ≤ Calls.most_few) }
     ensures { answers.new
         ≡ Tables.overwrite 0 (Calls.few_words binary32 (Calls.most_by (Values.as_query query)) (Calls.answer_by binary32 (Values.as_query query)
-        triangles.now order.now links.now boxes.now nodes distance) points.now)
+        drawing.now.triangles.now drawing.now.order.now drawing.now.links.now drawing.now.boxes.now
+        drawing.now.nodes distance) points.now)
         answers.old }
 {
     match query {
-        Query::Sure { rule } => {
-            put_few(
-                triangles, order, links, boxes, nodes, points, distance, rule, 1, answers,
-            );
-        }
+        Query::Sure { rule } => put_few(drawing, points, distance, rule, 1, answers),
         Query::Few { rule, most } => {
-            put_few(
-                triangles,
-                order,
-                links,
-                boxes,
-                nodes,
-                points,
-                distance,
-                rule,
-                wide(most),
-                answers,
-            );
+            put_few(drawing, points, distance, rule, most as usize, answers)
         }
-        Query::Source => {
-            put_source(
-                triangles, order, links, boxes, nodes, points, distance, answers,
-            );
-        }
+        Query::Source => put_source(drawing, points, distance, answers),
     }
 }
 
 // Tests the lists, and writes the answers. A refusal changes nothing.
 fn ask(
     query: Query,
-    triangles: &[f32],
-    order: &[u32],
-    links: &[u32],
-    boxes: &[f32],
-    nodes: usize,
+    drawing: &Drawing,
     points: &[f32],
     distance: f32,
     answers: &mut [u32],
-) -> Verdict
+) -> Result<(), Refusal>
     ensures verdict { Verdicts.as_verdict result
-        ≡ Calls.query_refusal (Values.as_query query) triangles.now order.now links.now boxes.now nodes
-        points.now distance (length answers.old) }
+        ≡ Calls.query_refusal (Values.as_query query) drawing.now.triangles.now drawing.now.order.now drawing.now.links.now drawing.now.boxes.now
+        drawing.now.nodes points.now distance (length answers.old) }
     ensures answers { answers.new
-        ≡ Calls.after_few binary32 (Calls.most_by (Values.as_query query)) (Calls.answer_by binary32 (Values.as_query query) triangles.now
-        order.now links.now boxes.now nodes distance) points.now (Verdicts.as_verdict result)
+        ≡ Calls.after_few binary32 (Calls.most_by (Values.as_query query)) (Calls.answer_by binary32 (Values.as_query query)
+        drawing.now.triangles.now drawing.now.order.now drawing.now.links.now drawing.now.boxes.now
+        drawing.now.nodes distance) points.now (Verdicts.as_verdict result)
         answers.old }
 {
-    let verdict = query_refusal(
-        query,
-        triangles,
-        order,
-        links,
-        boxes,
-        nodes,
-        points,
-        distance,
-        answers.len(),
-    );
-    if verdict.refuses() {
-        return verdict;
-    }
-    put_answers(
-        query, triangles, order, links, boxes, nodes, points, distance, answers,
-    );
-    verdict
+    query_refusal(query, drawing, points, distance, answers.len())?;
+    put_answers(query, drawing, points, distance, answers);
+    Ok(())
 }
 
 // For each point the nearest held surface point within the search distance, the lowest triangle number among equals:
 // what a scan of all triangles finds. By rule 1 what is exactly at the distance is not within it, by rule 2 it is.
 // `answers` holds an answer a point at its front. A refusal changes nothing.
 pub fn sure_query(
-    triangles: &[f32],
-    order: &[u32],
-    links: &[u32],
-    boxes: &[f32],
-    nodes: usize,
+    drawing: &Drawing,
     points: &[f32],
     distance: f32,
     rule: u32,
     answers: &mut [u32],
-) -> Verdict
+) -> Result<(), Refusal>
     ensures verdict { Verdicts.as_verdict result
-        ≡ Calls.query_refusal (Answers.sure rule) triangles.now order.now links.now boxes.now nodes
-        points.now distance (length answers.old) }
+        ≡ Calls.query_refusal (Answers.sure rule) drawing.now.triangles.now drawing.now.order.now drawing.now.links.now drawing.now.boxes.now
+        drawing.now.nodes points.now distance (length answers.old) }
     ensures answers { answers.new
-        ≡ Calls.after_query binary32 (Calls.sure_answer binary32 (Rules.rule_of rule) triangles.now distance) points.now
+        ≡ Calls.after_query binary32 (Calls.sure_answer binary32 (Rules.rule_of rule) drawing.now.triangles.now distance) points.now
         (Verdicts.as_verdict result) answers.old }
 {
-    ask(
-        Query::Sure { rule },
-        triangles,
-        order,
-        links,
-        boxes,
-        nodes,
-        points,
-        distance,
-        answers,
-    )
+    ask(Query::Sure { rule }, drawing, points, distance, answers)
 }
 
 // For each point so many answers, 1 to 16: the nearest held surface points within the search distance, one of each triangle, rising, the lower triangle
 // number first among equals, and nothing in the spare places: what a scan of all triangles finds, as `sure_query`, which finds the first of them.
 // `answers` holds so many answers a point at its front. A refusal changes nothing.
 pub fn few_query(
-    triangles: &[f32],
-    order: &[u32],
-    links: &[u32],
-    boxes: &[f32],
-    nodes: usize,
+    drawing: &Drawing,
     points: &[f32],
     distance: f32,
     rule: u32,
     most: u32,
     answers: &mut [u32],
-) -> Verdict
+) -> Result<(), Refusal>
     ensures verdict { Verdicts.as_verdict result
-        ≡ Calls.query_refusal (Answers.few rule most) triangles.now order.now links.now boxes.now nodes
-        points.now distance (length answers.old) }
+        ≡ Calls.query_refusal (Answers.few rule most) drawing.now.triangles.now drawing.now.order.now drawing.now.links.now drawing.now.boxes.now
+        drawing.now.nodes points.now distance (length answers.old) }
     ensures answers { answers.new
-        ≡ Calls.after_few binary32 most (Calls.few_answer binary32 (Rules.rule_of rule) most triangles.now distance) points.now
+        ≡ Calls.after_few binary32 most (Calls.few_answer binary32 (Rules.rule_of rule) most drawing.now.triangles.now distance) points.now
         (Verdicts.as_verdict result) answers.old }
 {
     ask(
         Query::Few { rule, most },
-        triangles,
-        order,
-        links,
-        boxes,
-        nodes,
+        drawing,
         points,
         distance,
         answers,
@@ -277,31 +178,18 @@ pub fn few_query(
 // For each point what the search of the Rust answers, with its leaf range repaired. `answers` holds an answer a point at its front.
 // A refusal changes nothing.
 pub fn source_query(
-    triangles: &[f32],
-    order: &[u32],
-    links: &[u32],
-    boxes: &[f32],
-    nodes: usize,
+    drawing: &Drawing,
     points: &[f32],
     distance: f32,
     answers: &mut [u32],
-) -> Verdict
+) -> Result<(), Refusal>
     ensures verdict { Verdicts.as_verdict result
-        ≡ Calls.query_refusal Answers.source triangles.now order.now links.now boxes.now nodes
-        points.now distance (length answers.old) }
+        ≡ Calls.query_refusal Answers.source drawing.now.triangles.now drawing.now.order.now drawing.now.links.now drawing.now.boxes.now
+        drawing.now.nodes points.now distance (length answers.old) }
     ensures answers { answers.new
-        ≡ Calls.after_query binary32 (Calls.source_answer binary32 triangles.now order.now links.now
-        boxes.now nodes distance) points.now (Verdicts.as_verdict result) answers.old }
+        ≡ Calls.after_query binary32 (Calls.source_answer binary32 drawing.now.triangles.now drawing.now.order.now drawing.now.links.now drawing.now.boxes.now
+        drawing.now.nodes distance) points.now
+        (Verdicts.as_verdict result) answers.old }
 {
-    ask(
-        Query::Source,
-        triangles,
-        order,
-        links,
-        boxes,
-        nodes,
-        points,
-        distance,
-        answers,
-    )
+    ask(Query::Source, drawing, points, distance, answers)
 }

@@ -5,32 +5,36 @@ ghost use Rattle.spec_search.specs.Rules.{rule_refusal};
 ghost use Rattle.spec_search.specs.Calls.{most_refusal, choice_refusal, most_by};
 ghost use Rattle.walks.specs.Values.{as_query};
 
-use lists::verdict::{Verdict, refused_if};
-use tree::nodes::wide;
+use lists::refusal::{Refusal, refused_if};
 use walks::answer::Query;
 
 // 5: a rule other than 1 and 2.
-pub fn rule_refusal(rule: u32) -> Verdict
+#[tactic(auto, unfolding(spec_search::specs::Rules::rule_refusal))]
+pub fn rule_refusal(rule: u32) -> Result<(), Refusal>
     ensures { as_verdict result ≡ rule_refusal rule }
 {
-    refused_if(!((rule == 1) | (rule == 2)), 5, 0)
+    refused_if(!((rule == 1) | (rule == 2)), Refusal::BadSetting)
 }
 
 // 5: so many answers a point, other than 1 to 16.
-pub fn most_refusal(most: u32) -> Verdict
+#[tactic(auto, unfolding(spec_search::specs::Calls::most_refusal))]
+pub fn most_refusal(most: u32) -> Result<(), Refusal>
     ensures { as_verdict result ≡ most_refusal most }
 {
-    refused_if(!((most >= 1) & (most <= 16)), 5, 0)
+    refused_if(!((most >= 1) & (most <= 16)), Refusal::BadSetting)
 }
 
 // 5 of a sure query's rule, and of how many answers are asked for. The source query has neither.
-pub fn choice_refusal(query: Query) -> Verdict
+pub fn choice_refusal(query: Query) -> Result<(), Refusal>
     ensures { as_verdict result ≡ choice_refusal (as_query query) }
 {
     match query {
         Query::Sure { rule } => rule_refusal(rule),
-        Query::Few { rule, most } => rule_refusal(rule).or(most_refusal(most)),
-        Query::Source => Verdict::Passed,
+        Query::Few { rule, most } => {
+            rule_refusal(rule)?;
+            most_refusal(most)
+        }
+        Query::Source => Ok(()),
     }
 }
 
@@ -39,8 +43,7 @@ pub fn most_by(query: Query) -> usize
     ensures { result ≡ most_by (as_query query) }
 {
     match query {
-        Query::Sure { .. } => 1,
-        Query::Few { rule: _, most } => wide(most),
-        Query::Source => 1,
+        Query::Few { rule: _, most } => most as usize,
+        Query::Sure { .. } | Query::Source => 1,
     }
 }

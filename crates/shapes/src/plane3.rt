@@ -29,9 +29,7 @@ pub fn unit_of(axis: Axis) -> Vec3
 fn reach_of(normal: Vec3, halves: Vec3) -> f32
     ensures { result ≡ Planes.reach binary32 (Values.as_point normal) (Values.as_point halves) }
 {
-    halves.x * floats::absolute(normal.x)
-        + halves.y * floats::absolute(normal.y)
-        + halves.z * floats::absolute(normal.z)
+    halves.dot(normal.map(|n| floats::absolute(n)))
 }
 
 impl Plane3 {

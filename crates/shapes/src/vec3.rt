@@ -27,6 +27,7 @@ impl Vec3 {
     }
 
     // f of both coordinates, on each axis.
+    // Kept: callers write `|p, q| floats::min2(p, q)`: for `self.zip(b, floats::min2)` the check finds no contract of a function that is re-exported.
     fn zip<F: Fn(f32, f32) -> f32>(self, b: Vec3, f: F) -> Vec3
         requires { F.IsAlwaysCallable f }
         ensures x { F.post f self.x b.x result.x }
@@ -41,7 +42,7 @@ impl Vec3 {
     }
 
     // f of the coordinate, on each axis.
-    fn map<F: Fn(f32) -> f32>(self, f: F) -> Vec3
+    pub(crate) fn map<F: Fn(f32) -> f32>(self, f: F) -> Vec3
         requires { F.IsAlwaysCallable f }
         ensures x { F.post f self.x result.x }
         ensures y { F.post f self.y result.y }

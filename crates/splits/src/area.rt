@@ -8,29 +8,23 @@ ghost use Rattle.splits.specs.Values as Values;
 
 use crate::bucketing::{Span, bucket_of, centre_span, fill};
 use crate::costs::{Cheapest, cheapest_of, costs_of};
-use crate::split::Split;
 use shapes::box3::Box3;
 use shapes::vec3::Axis;
 
 // Cuts before the first entry whose box lies in a bucket later than k.
-fn first_later(bounds: &[f32], slice: &[u32], axis: Axis, within: Span, k: usize) -> Split
+fn first_later(bounds: &[f32], slice: &[u32], axis: Axis, within: Span, k: usize) -> Option<usize>
     requires { Splits.AllInTable bounds.now slice.now }
     ensures { Values.as_split result
         ≡ Area.first_later (Area.bucket_between binary32 (Shapes.as_axis axis) within.lo within.hi) k
         (Splits.boxes_in bounds.now slice.now) 0 }
 {
-    let mut i = 0;
-    while i < slice.len() {
-        if k < bucket_of(bounds, slice[i], axis, within) {
-            return Split::At(i);
-        }
-        i += 1;
-    }
-    Split::Nowhere
+    slice
+        .iter()
+        .position(|t| k < bucket_of(bounds, *t, axis, within))
 }
 
 // Cuts at the first smallest cost, if that is below the cost of a leaf, which is the count of the slice. Where a cost is a NaN it cuts nowhere.
-fn cut_by(bounds: &[f32], slice: &[u32], axis: Axis, within: Span, best: Cheapest) -> Split
+fn cut_by(bounds: &[f32], slice: &[u32], axis: Axis, within: Span, best: Cheapest) -> Option<usize>
     requires slice_len_bound { length slice.now < 2 ^ 28 }
     requires all_in_table { Splits.AllInTable bounds.now slice.now }
     ensures { Values.as_split result
@@ -41,11 +35,11 @@ fn cut_by(bounds: &[f32], slice: &[u32], axis: Axis, within: Span, best: Cheapes
     if best.are_numbers & (best.cost < leaf_cost) {
         return first_later(bounds, slice, axis, within, best.index);
     }
-    Split::Nowhere
+    None
 }
 
 // Cuts where the rule says, or nowhere.
-pub fn area_split(bounds: &[f32], slice: &[u32], axis: Axis, parent: Box3) -> Split
+pub fn area_split(bounds: &[f32], slice: &[u32], axis: Axis, parent: Box3) -> Option<usize>
     requires slice_len_bound { length slice.now < 2 ^ 28 }
     requires boxed { Splits.Boxed binary32 bounds.now slice.now }
     ensures { Values.as_split result

@@ -49,12 +49,10 @@ pub fn centre_span(bounds: &[f32], slice: &[u32], axis: Axis) -> Span
     let none = Box3::empty();
     let mut lo = none.min.x;
     let mut hi = none.max.x;
-    let mut i = 0;
-    while i < slice.len() {
-        let centre = centre_on(bounds, slice[i], axis);
+    for t in slice {
+        let centre = centre_on(bounds, *t, axis);
         lo = floats::min2(lo, centre);
         hi = floats::max2(hi, centre);
-        i += 1;
     }
     Span { lo, hi }
 }
@@ -68,14 +66,9 @@ pub fn fill(bounds: &[f32], slice: &[u32], axis: Axis, within: Span) -> Buckets
         (Splits.boxes_in bounds.now slice.now) }
 {
     let mut buckets = Buckets::empty();
-    let mut i = 0;
-    while i < slice.len() {
-        let t = slice[i];
-        let k = bucket_of(bounds, t, axis, within);
-        let old = buckets.each[k];
-        let new = old.with_box(box_at(bounds, t));
-        buckets.each[k] = new;
-        i += 1;
+    for t in slice {
+        let k = bucket_of(bounds, *t, axis, within);
+        buckets.each[k] = buckets.each[k].with_box(box_at(bounds, *t));
     }
     buckets
 }

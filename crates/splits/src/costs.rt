@@ -30,7 +30,7 @@ fn cost_of(parent: Box3, left: Bucket, right: Bucket) -> f32
     ensures { result ≡ Area.cost binary32 (Shapes.as_box parent) (Values.as_bucket left) (Values.as_bucket right) }
 {
     if (left.count == 0) | (right.count == 0) {
-        return 1.0 / 0.0;
+        return f32::INFINITY;
     }
     0.125 + (weight_of(left) + weight_of(right)) / parent.area()
 }
@@ -42,10 +42,8 @@ fn right_sides(buckets: Buckets) -> Buckets
 {
     let mut sides = Buckets::empty();
     let mut right = Bucket::empty();
-    let mut i = Buckets::LAST;
-    while i > 0 {
-        right = right.merged(buckets.each[i]);
-        i -= 1;
+    for i in (0..Buckets::LAST).rev() {
+        right = right.merged(buckets.each[i + 1]);
         sides.each[i] = right;
     }
     sides
@@ -61,11 +59,9 @@ pub fn costs_of(buckets: Buckets, parent: Box3) -> [f32; Buckets::CUTS]
     let rights = right_sides(buckets);
     let mut costs = [0.0; Buckets::CUTS];
     let mut left = Bucket::empty();
-    let mut i = 0;
-    while i < Buckets::CUTS {
+    for i in 0..Buckets::CUTS {
         left = left.merged(buckets.each[i]);
         costs[i] = cost_of(parent, left, rights.each[i]);
-        i += 1;
     }
     costs
 }
@@ -78,7 +74,7 @@ impl Cheapest {
         Cheapest {
             seen: 0,
             index: 0,
-            cost: 1.0 / 0.0,
+            cost: f32::INFINITY,
             are_numbers: true,
         }
     }
@@ -89,7 +85,7 @@ impl Cheapest {
         ensures { Values.as_cheapest result ≡ Area.with_cost (Values.as_cheapest self) cost }
     {
         let seen = self.seen + 1;
-        let are_numbers = self.are_numbers & (cost == cost);
+        let are_numbers = self.are_numbers & !cost.is_nan();
         if cost < self.cost {
             return Cheapest {
                 seen,
@@ -100,9 +96,8 @@ impl Cheapest {
         }
         Cheapest {
             seen,
-            index: self.index,
-            cost: self.cost,
             are_numbers,
+            ..self
         }
     }
 }
@@ -112,10 +107,8 @@ pub fn cheapest_of(costs: [f32; Buckets::CUTS]) -> Cheapest
     ensures { Values.as_cheapest result ≡ Area.cheapest_of costs }
 {
     let mut best = Cheapest::none_yet();
-    let mut i = 0;
-    while i < Buckets::CUTS {
-        best = best.with_cost(costs[i]);
-        i += 1;
+    for cost in costs {
+        best = best.with_cost(cost);
     }
     best
 }

@@ -7,5 +7,5 @@ pub mod bucketing;
 pub mod buckets;
 pub mod costs;
 pub mod median;
-pub mod split;
+pub mod strategy;
 pub mod table;

@@ -6,7 +6,6 @@ ghost use Rattle.spec_splits.specs.Splits as Splits;
 ghost use Rattle.spec_splits.specs.Median as Median;
 ghost use Rattle.splits.specs.Values as Cuts;
 
-use crate::split::Split;
 use crate::table::{box_at, centre_on, union_of};
 use shapes::box3::Box3;
 use shapes::plane3::{Plane3, unit_of};
@@ -31,14 +30,9 @@ fn all_meet(bounds: &[f32], slice: &[u32], plane: Plane3) -> bool
     requires { Splits.AllInTable bounds.now slice.now }
     ensures { result ≡ Median.all_meet binary32 (Shapes.as_plane plane) (Splits.boxes_in bounds.now slice.now) }
 {
-    let mut i = 0;
-    while i < slice.len() {
-        if !plane.intersects_box3(box_at(bounds, slice[i])) {
-            return false;
-        }
-        i += 1;
-    }
-    true
+    slice
+        .iter()
+        .all(|t| plane.intersects_box3(box_at(bounds, *t)))
 }
 
 // Whether the plane between the two neighbours of the cut cuts or touches every box of the slice.
@@ -71,25 +65,19 @@ fn are_both_large(bounds: &[f32], slice: &[u32], cut: usize, parent: Box3) -> bo
     requires all_in_table { Splits.AllInTable bounds.now slice.now }
     ensures { result ≡ Median.are_both_large binary32 (Shapes.as_box parent) (Splits.boxes_in bounds.now slice.now) cut }
 {
-    if is_large(bounds, &slice[..cut], parent) {
-        return is_large(bounds, &slice[cut..], parent);
-    }
-    false
+    is_large(bounds, &slice[..cut], parent) && is_large(bounds, &slice[cut..], parent)
 }
 
 // Cuts in the middle. Where the plane there cuts or touches every box, or both children are large, it cuts nowhere.
-pub fn median_split(bounds: &[f32], slice: &[u32], axis: Axis, parent: Box3) -> Split
+pub fn median_split(bounds: &[f32], slice: &[u32], axis: Axis, parent: Box3) -> Option<usize>
     requires in_bounds { 2 ≤ length slice.now }
     requires boxed { Splits.Boxed binary32 bounds.now slice.now }
     ensures { Cuts.as_split result
         ≡ Median.median_split binary32 (Shapes.as_axis axis) (Shapes.as_box parent) (Splits.boxes_in bounds.now slice.now) }
 {
     let cut = slice.len() / 2;
-    if all_meet_at(bounds, slice, axis, cut) {
-        return Split::Nowhere;
+    if all_meet_at(bounds, slice, axis, cut) || are_both_large(bounds, slice, cut, parent) {
+        return None;
     }
-    if are_both_large(bounds, slice, cut, parent) {
-        return Split::Nowhere;
-    }
-    Split::At(cut)
+    Some(cut)
 }

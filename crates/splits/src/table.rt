@@ -36,7 +36,7 @@ pub fn box_at(bounds: &[f32], t: u32) -> Box3
 }
 
 // Where the coordinate of an axis stands in a point.
-fn place_of(axis: Axis) -> usize
+pub fn place_of(axis: Axis) -> usize
     ensures { result ≡ Splits.place (Shapes.as_axis axis) }
 {
     match axis {
@@ -62,10 +62,8 @@ pub fn union_of(bounds: &[f32], slice: &[u32]) -> Box3
     ensures { Shapes.as_box result ≡ Splits.union_of binary32 (Splits.boxes_in bounds.now slice.now) }
 {
     let mut joined = box_at(bounds, slice[0]);
-    let mut i = 1;
-    while i < slice.len() {
-        joined = joined.union_box(box_at(bounds, slice[i]));
-        i += 1;
+    for t in &slice[1..] {
+        joined = joined.union_box(box_at(bounds, *t));
     }
     joined
 }

@@ -17,8 +17,8 @@ use Rattle.spec_stl.specs.Calls as Calls
 use Rattle.spec_stl.specs.Calls.{counted_by, read_refusal, triangles_after, write_refusal, bytes_after}
 use Rattle.spec_stl.proofs.Facets.{length_read, count_read}
 use Rattle.spec_stl.proofs.Kept.{size_right, read_passed, write_passed, write_passes, count_back, good_few, good_back, written_is_read, stl_kept}
-use Rattle.stl.specs.declared.calls.Counted.{Counted}
-use Rattle.stl.specs.declared.calls.Counted.TheVariants.{Count}
+use Rattle.std.specs.Prelude.{Result, Ok}
+use Rattle.lists.specs.declared.refusal.Refusal.{Refusal}
 use Rattle.stl.specs.Values.{as_counted, ReadIs, WrittenIs}
 
 -- ---- an answer that is a count: the tests passed, and it is the count
@@ -28,8 +28,8 @@ count_parts (refused number place) count n e = absurd (let z : ◌≡◌ {A = �
 
 -- ---- written, then read
 -- the n bytes that were written, into a list with room, give the same triangles, bit for bit
-pub written_then_read : (xs : List Float) → AllFit binary32 xs → {out out' : List ℕ} {n : ℕ} → WrittenIs xs out (Count n) out'
-    → {t t' : List Float} {r : Counted} → 9 * triangle_count xs ≤ length t → ReadIs (take n out') t r t'
+pub written_then_read : (xs : List Float) → AllFit binary32 xs → {out out' : List ℕ} {n : ℕ} → WrittenIs xs out (Ok n) out'
+    → {t t' : List Float} {r : Result ℕ Refusal} → 9 * triangle_count xs ≤ length t → ReadIs (take n out') t r t'
     → (as_counted r ≡ Calls.counted (triangle_count xs)) × (t' ≡ overwrite 0 xs t)
 unfolding triangles_after bytes_after
 written_then_read xs fit {out} {out'} {n} w {t} {t'} {r} room is =
@@ -44,8 +44,8 @@ written_then_read xs fit {out} {out'} {n} w {t} {t'} {r} room is =
 
 -- ---- read, then written
 -- the n triangles that were read, into bytes with room, give the bytes that were read, with zeros for header, normals and attributes
-pub read_then_written : {s : List ℕ} → Bytes s → {t t' : List Float} {n : ℕ} → ReadIs s t (Count n) t'
-    → {out out' : List ℕ} {r : Counted} → stl_size n ≤ length out → WrittenIs (take (9 * n) t') out r out'
+pub read_then_written : {s : List ℕ} → Bytes s → {t t' : List Float} {n : ℕ} → ReadIs s t (Ok n) t'
+    → {out out' : List ℕ} {r : Result ℕ Refusal} → stl_size n ≤ length out → WrittenIs (take (9 * n) t') out r out'
     → (as_counted r ≡ Calls.counted (length s)) × (out' ≡ overwrite 0 (blanked s) out)
 unfolding triangles_after bytes_after
 read_then_written {s} ok {t} {t'} {n} is {out} {out'} {r} room w =

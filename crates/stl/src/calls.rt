@@ -7,61 +7,43 @@ ghost use Rattle.stl.specs.Values.{ReadIs, WrittenIs};
 
 use crate::get::{corners_refusal, count_of, read_facets, size_refusal};
 use crate::put::put_stl;
+use lists::refusal::{Refusal, room_refusal};
 use lists::tests::{triangle_count, triangles_refusal};
-use lists::verdict::{Verdict, room_refusal};
-
-// A refusal, or how many triangles were read or bytes written.
-#[derive(Clone, Copy)]
-pub enum Counted {
-    Refused { number: usize, place: usize },
-    Count(usize),
-}
 
 // 11, then 2 to 4 of the triangles that the bytes hold, then 6.
-fn read_refusal(bytes: &[u8], room: usize) -> Verdict
+fn read_refusal(bytes: &[u8], room: usize) -> Result<(), Refusal>
     ensures { as_verdict result ≡ read_refusal bytes.now room }
 {
-    let wrong_size = size_refusal(bytes);
-    if wrong_size.refuses() {
-        return wrong_size;
-    }
+    size_refusal(bytes)?;
     let count = count_of(bytes);
-    corners_refusal(bytes, count).or(room_refusal(room, 9 * count))
+    corners_refusal(bytes, count)?;
+    room_refusal(room, 9 * count)
 }
 
 // Leaves the triangles of an STL at the front of the list and answers how many there are. Entries behind them stay as they were.
 // Header, normals and attributes are not looked at.
-pub fn read_stl(bytes: &[u8], triangles: &mut [f32]) -> Counted
+pub fn read_stl(bytes: &[u8], triangles: &mut [f32]) -> Result<usize, Refusal>
     ensures { ReadIs bytes.now triangles.old result triangles.new }
 {
-    match read_refusal(bytes, triangles.len()) {
-        Verdict::Refused { number, place } => Counted::Refused { number, place },
-        Verdict::Passed => {
-            let count = count_of(bytes);
-            read_facets(bytes, count, triangles);
-            Counted::Count(count)
-        }
-    }
+    read_refusal(bytes, triangles.len())?;
+    let count = count_of(bytes);
+    read_facets(bytes, count, triangles);
+    Ok(count)
 }
 
 // 1 to 4, then 6.
-fn write_refusal(triangles: &[f32], given: usize) -> Verdict
+fn write_refusal(triangles: &[f32], given: usize) -> Result<(), Refusal>
     ensures { as_verdict result ≡ write_refusal triangles.now given }
 {
-    let bad_triangles = triangles_refusal(triangles);
-    if bad_triangles.refuses() {
-        return bad_triangles;
-    }
+    triangles_refusal(triangles)?;
     room_refusal(given, 84 + 50 * triangle_count(triangles))
 }
 
 // Writes the STL of the triangles to the front of `out` and answers how many bytes it has. The bytes behind them stay as they were.
 // Header, normals and attributes are zeros.
-pub fn write_stl(triangles: &[f32], out: &mut [u8]) -> Counted
+pub fn write_stl(triangles: &[f32], out: &mut [u8]) -> Result<usize, Refusal>
     ensures { WrittenIs triangles.now out.old result out.new }
 {
-    match write_refusal(triangles, out.len()) {
-        Verdict::Refused { number, place } => Counted::Refused { number, place },
-        Verdict::Passed => Counted::Count(put_stl(triangles, out)),
-    }
+    write_refusal(triangles, out.len())?;
+    Ok(put_stl(triangles, out))
 }

@@ -14,12 +14,9 @@ fn put_zeros(count: usize, out: &mut [u8], at: usize) -> usize
     ensures put { Put at (zeros count) out.old out.new result }
     ensures value { result ≡ at + count }
 {
-    let mut i = 0;
-    while i < count {
-        out[at + i] = 0;
-        i += 1;
-    }
-    at + i
+    let next = at + count;
+    out[at..next].fill(0);
+    next
 }
 
 // Writes facet i: no normal, the corners of triangle i, no attribute.
@@ -40,10 +37,8 @@ fn put_facets(triangles: &[f32], count: usize, out: &mut [u8], at: usize) -> usi
     ensures value { result ≡ at + 50 * count }
 {
     let mut next = at;
-    let mut i = 0;
-    while i < count {
+    for i in 0..count {
         next = put_facet(triangles, i, out, next);
-        i += 1;
     }
     next
 }

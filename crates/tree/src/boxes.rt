@@ -9,7 +9,7 @@ ghost use Rattle.spec_tree.specs.Reasons as Reasons;
 ghost use Rattle.spec_tree.specs.Trees as Trees;
 ghost use Rattle.tree.specs.Needs as Needs;
 
-use crate::nodes::{kind_at, left_at, node_box, right_at};
+use crate::nodes::{Node, node_at, node_box};
 use floats::same;
 use lists::drawing::Drawing;
 use lists::reading::box_at;
@@ -61,12 +61,12 @@ fn given_box(drawing: &Drawing, node: usize) -> Box3
     ensures { Shapes.as_box result ≡ Reasons.box_given (Reading.box_at drawing.now.triangles.now) drawing.now.order.now drawing.now.links.now
         drawing.now.boxes.now (eqb (Trees.kind_at drawing.now.links.now node) 1) node }
 {
-    let left = left_at(drawing.links, node);
-    let right = right_at(drawing.links, node);
-    if kind_at(drawing.links, node) == 1 {
-        return range_box(drawing.triangles, drawing.order, left, right);
+    match node_at(drawing.links, node) {
+        Node::Leaf { first, last } => range_box(drawing.triangles, drawing.order, first, last),
+        Node::Branch { left, right } => {
+            node_box(drawing.boxes, left).union_box(node_box(drawing.boxes, right))
+        }
     }
-    node_box(drawing.boxes, left).union_box(node_box(drawing.boxes, right))
 }
 
 // Whether the node has the box that its triangles or its children give it.

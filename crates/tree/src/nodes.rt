@@ -2,6 +2,7 @@
 ghost use Rattle.std.specs.Prelude.{◌≡◌, ◌+◌, ◌*◌, ◌≤◌, eqb, length};
 ghost use Rattle.shapes.specs.Values as Shapes;
 ghost use Rattle.spec_tree.specs.Trees as Trees;
+ghost use Rattle.tree.specs.Values as Values;
 
 use shapes::box3::Box3;
 use shapes::vec3::Vec3;
@@ -42,6 +43,29 @@ pub fn right_at(links: &[u32], node: usize) -> usize
     ensures { result ≡ Trees.right_at links.now node }
 {
     links[3 * node + 2] as usize
+}
+
+// What stands at a node: a leaf's entries of the order list, from `first` up to `last`, the end not included; or a branch's two children.
+#[derive(Clone, Copy)]
+pub enum Node {
+    Leaf { first: usize, last: usize },
+    Branch { left: usize, right: usize },
+}
+
+// What stands at the node of a tree: kind 1 is a leaf, and all else a branch. The check, which meets any kinds, reads them as they are.
+pub fn node_at(links: &[u32], node: usize) -> Node
+    requires { 3 * node + 3 ≤ length links.now }
+    ensures { Values.StandsAt links.now node result }
+{
+    let left = left_at(links, node);
+    let right = right_at(links, node);
+    if kind_at(links, node) == 1 {
+        return Node::Leaf {
+            first: left,
+            last: right,
+        };
+    }
+    Node::Branch { left, right }
 }
 
 // Whether a branch's left child stands just before `next`.

@@ -1,4 +1,5 @@
-pub mod Unique
 pub mod Counting
-pub mod Slots
+pub mod Links
 pub mod Reached
+pub mod Slots
+pub mod Unique

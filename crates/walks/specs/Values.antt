@@ -1,15 +1,12 @@
--- The queries, hits and answers of the code as the definitions' own, and what stands at a node as what its links say. The contracts compare by these.
-use Rattle.std.specs.Prelude.{List, ℕ, ◌≢◌, Option, Some, None}
+-- The queries, hits and answers of the code as the definitions' own. The contracts compare by these.
+use Rattle.std.specs.Prelude.{Option, Some, None}
 use Rattle.shapes.specs.Values.{as_point}
 use Rattle.spec_search.specs.Answers as Answers
-use Rattle.spec_search.specs.Safe.{LinksAre}
 use Rattle.spec_search.specs.Walk as Walk
 use Rattle.walks.specs.declared.answer.Query.{Query}
 use Rattle.walks.specs.declared.answer.Query.TheVariants.{Sure, Few, Source}
 use Rattle.walks.specs.declared.answer.Hit.{Hit}
 use Rattle.walks.specs.declared.answer.Sought.{Sought}
-use Rattle.walks.specs.declared.links.Node.{Node}
-use Rattle.walks.specs.declared.links.Node.TheVariants.{Leaf, Branch}
 
 abbrev pub as_query : Query → Answers.Query
 as_query (Sure rule) = Answers.sure rule
@@ -25,8 +22,3 @@ as_answer (Some h) = Answers.found (as_hit h)
 
 abbrev pub as_sought : Sought → Walk.Sought Answers.Answer
 as_sought s = record { best = as_answer s.best; measured = s.measured }
-
--- what stands at a node, by its three links: kind 1 is a leaf, and all else a branch
-abbrev pub StandsAt : List ℕ → ℕ → Node → Type 0
-StandsAt links node (Leaf first last) = LinksAre links node 1 first last
-StandsAt links node (Branch left right) = (kind : ℕ) × ((kind ≢ 1) × LinksAre links node kind left right)

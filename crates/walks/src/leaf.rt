@@ -22,10 +22,9 @@ use shapes::vec3::Vec3;
 fn hit_at(spot: Spot, p: Vec3, t: u32) -> Hit
     ensures { Values.as_hit result ≡ Answers.hit_at binary32 (Shapes.as_spot spot) (Shapes.as_point p) t }
 {
-    let point = spot.point;
     Hit {
-        point,
-        squared: point.squared_distance(p),
+        point: spot.point,
+        squared: spot.point.squared_distance(p),
         triangle: t,
         part: u32::from(spot.part),
     }

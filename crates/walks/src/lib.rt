@@ -5,7 +5,6 @@
 pub mod answer;
 pub mod kept;
 pub mod leaf;
-pub mod links;
 pub mod places;
 pub mod source;
 pub mod sure;

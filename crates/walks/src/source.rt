@@ -12,11 +12,10 @@ ghost use Rattle.walks.specs.Values as Values;
 
 use crate::answer::{Measures, Probe, Sought};
 use crate::leaf::measure_leaf;
-use crate::links::{Node, node_at};
 use crate::places::{BEST, Places, WHICH};
 use lists::drawing::Drawing;
 use lists::limits;
-use tree::nodes::node_box;
+use tree::nodes::{Node, node_at, node_box};
 
 // Whether a child is entered: its box holds the point, or is nearer than the limit.
 fn does_enter(boxes: &[f32], node: usize, probe: &Probe) -> bool

@@ -18,11 +18,10 @@ ghost use Rattle.walks.specs.Values as Values;
 
 use crate::answer::{Measures, Probe};
 use crate::leaf::measure_leaf;
-use crate::links::{Node, node_at};
 use crate::places::Places;
 use lists::drawing::Drawing;
 use lists::limits;
-use tree::nodes::node_box;
+use tree::nodes::{Node, node_at, node_box};
 
 // The squared distance from the point to a node's box.
 fn node_squared(boxes: &[f32], node: usize, probe: &Probe) -> f32

@@ -18,7 +18,7 @@ unfolding of_bits
 arc_tangent-requires c =
     let n = c.args.n in
     let d = c.args.d in
-    record { table_value = c.requires; askable = askable_is n d (passed (tested n d _ _ true c.is_finite.ensures c.is_finite-2.ensures c.if-is_finite-n.true)) }
+    askable_is n d (passed (tested n d _ _ true c.is_finite.ensures c.is_finite-2.ensures c.if-is_finite-n.true))
 
 pub returns-then-is_finite-n : goal.returns-then-is_finite-n
 unfolding of_bits angle_or_nan

@@ -30,24 +30,23 @@ module _ (n d t : Float) (k : Askable n d) (T' : t ≡ ratio binary32 n d) where
         all a b r A B S R = rw (R, W, S, A, B, V', U, T') refl
 
 pub units_of-requires : goal.units_of-requires
-units_of-requires c = at_most_one _ _ _ c.requires.askable c.ratio_of.ensures
+units_of-requires c = at_most_one _ _ _ c.requires c.ratio_of.ensures
 
 pub arc_of-arc-requires : goal.arc_of-arc-requires
-arc_of-arc-requires c =
-    record { table_value = c.requires.table_value; u_bound = few _ _ _ c.requires.askable c.ratio_of.ensures _ c.units_of.ensures }
+arc_of-arc-requires c = few _ _ _ c.requires c.ratio_of.ensures _ c.units_of.ensures
 
 pub mirrored-requires : goal.mirrored-requires
 mirrored-requires c =
-    in_quarter _ _ _ c.requires.askable c.ratio_of.ensures _ c.units_of.ensures _ c.arc_of-arc.ensures
+    in_quarter _ _ _ c.requires c.ratio_of.ensures _ c.units_of.ensures _ c.arc_of-arc.ensures
 
 pub mirrored-requires-2 : goal.mirrored-requires-2
 mirrored-requires-2 c =
-    in_half _ _ _ c.requires.askable c.ratio_of.ensures _ c.units_of.ensures _ c.arc_of-arc.ensures _ _
+    in_half _ _ _ c.requires c.ratio_of.ensures _ c.units_of.ensures _ c.arc_of-arc.ensures _ _
     c.mirrored.ensures
 
 pub returns : goal.returns
 unfolding of_bits
 returns c =
-    all _ _ _ c.requires.askable c.ratio_of.ensures _ c.units_of.ensures _ c.arc_of-arc.ensures _ _
+    all _ _ _ c.requires c.ratio_of.ensures _ c.units_of.ensures _ c.arc_of-arc.ensures _ _
     c.mirrored.ensures
     _ _ _ c.absolute.ensures c.absolute-2.ensures refl c.mirrored-2.ensures

@@ -1,8 +1,8 @@
--- `angles::arc_tangent::arc_table` meets its contract: the array is the table of the definitions.
+-- `angles::arc_tangent::arc_table` hands out the table of the definitions.
+use Rattle.std.proofs.Common.{refl}
 use Rattle.spec_angles.specs.Table.{arcs}
-use Rattle.std.proofs.Common.{rules}
 use Rattle.angles.proofs.arc_tangent.arc_table.Goals as goal
 
-pub returns : goal.returns
+pub invariant_of-result : goal.invariant_of-result
 unfolding arcs
-returns c = search rules
+invariant_of-result c = record { is_arcs = refl }

@@ -6,7 +6,7 @@ use Rattle.spec_angles.proofs.Arc.{angle_most}
 use Rattle.angles.proofs.arc_tangent.arc_tangent.Goals as goal
 
 pub overflow_cast-angle_of : goal.overflow_cast-angle_of
-overflow_cast-angle_of c = omega (arith, angle_most binary32 _ _ c.requires.askable, c.angle_of.ensures)
+overflow_cast-angle_of c = omega (arith, angle_most binary32 _ _ c.requires, c.angle_of.ensures)
 
 pub returns : goal.returns
 unfolding of_bits arc_tangent

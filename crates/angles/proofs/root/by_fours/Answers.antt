@@ -8,24 +8,6 @@ use Rattle.angles.proofs.root.by_fours.Goals as goal
 pub overflow_sub-spare : goal.overflow_sub-spare
 overflow_sub-spare c = omega (arith, spare_of c.args.significand c.requires.0 c.requires.1)
 
-pub overflow_sub-rest : goal.overflow_sub-rest
-overflow_sub-rest c = omega (arith, spare_of c.args.significand c.requires.0 c.requires.1)
-
-pub overflow_sub-rest-2 : goal.overflow_sub-rest-2
-overflow_sub-rest-2 c = omega (arith, spare_of c.args.significand c.requires.0 c.requires.1)
-
-pub overflow_add-shift : goal.overflow_add-shift
-overflow_add-shift c = omega (arith, spare_of c.args.significand c.requires.0 c.requires.1)
-
-pub overflow_add-shift-2 : goal.overflow_add-shift-2
-overflow_add-shift-2 c = omega (arith, spare_of c.args.significand c.requires.0 c.requires.1)
-
-pub overflow_cast-result-2 : goal.overflow_cast-result-2
-overflow_cast-result-2 c = omega (arith, spare_of c.args.significand c.requires.0 c.requires.1)
-
-pub overflow_shl-result : goal.overflow_shl-result
-overflow_shl-result c = omega (arith, spare_of c.args.significand c.requires.0 c.requires.1)
-
 pub returns : goal.returns
 returns c = split_of c.args.significand c.args.power (count_leading_zeros 32 c.args.significand) (spare_of c.args.significand c.requires.0 c.requires.1)
     c.requires.2 c.requires.3

@@ -1,5 +1,5 @@
 -- `angles::root::root` meets its contract: the bits that it puts together are those of the value nearest the root, and there is only one.
-use Rattle.std.proofs.Common.{◌≡◌, ℕ, ◌+◌, ◌-◌, ◌*◌, ◌^◌, ◌<◌, not, T, sym, inl, inr, eq-zero-or-pos, arith, T_not}
+use Rattle.std.proofs.Common.{◌≡◌, ℕ, ◌+◌, ◌*◌, ◌^◌, ◌<◌, not, T, sym, inl, inr, eq-zero-or-pos, arith, T_not}
 use lib.Ieee.{Float, binary32, fits, eq, of_bits, to_bits}
 use lib.Ieee.Bits.{of_bits-to_bits}
 use Rattle.spec_numbers.specs.Values.{zero}

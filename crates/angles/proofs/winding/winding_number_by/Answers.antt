@@ -1,8 +1,7 @@
 -- `angles::winding::winding_number_by` meets its contract. The invariant: `sum` is that of the first t solid angles.
--- The measure is the number of triangles that remain.
-use Rattle.std.proofs.Common.{◌-◌, ◌∙◌, arith}
+use Rattle.std.proofs.Common.{◌∙◌, arith}
 use lib.Ieee.{of_bits}
-use Rattle.spec_lists.specs.Reading.{triangle_at, triangle_count}
+use Rattle.spec_lists.specs.Reading.{triangle_count}
 use Rattle.spec_angles.proofs.Windings.{sum_start, sum_more, sum_end, number_about}
 use Rattle.angles.proofs.winding.winding_number_by.Goals as goal
 
@@ -12,7 +11,7 @@ loop-t-init c = sum_start _ _ _ _
 
 pub triangle_at-requires : goal.triangle_at-requires
 unfolding triangle_count
-triangle_at-requires c = omega (arith, c.triangle_count-count.ensures)
+triangle_at-requires c = omega (arith, c.triangle_count-t-end.ensures)
 
 pub loop-t-preserved : goal.loop-t-preserved
 loop-t-preserved c =
@@ -23,10 +22,4 @@ pub returns : goal.returns
 unfolding of_bits
 returns c =
     sum_end _ _ _ _ _ _ c.loop-t-test.false c.loop-t.invariant
-    ∙ number_about _ _ _ _ c.triangle_count-count.ensures
-
-pub overflow_add-t : goal.overflow_add-t
-overflow_add-t c = omega arith
-
-pub loop-t-smaller : goal.loop-t-smaller
-loop-t-smaller c = omega arith
+    ∙ number_about _ _ _ _ c.triangle_count-t-end.ensures

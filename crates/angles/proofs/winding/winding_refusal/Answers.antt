@@ -1,11 +1,22 @@
--- `angles::winding::winding_refusal` meets its contract: three tests in a row.
-use Rattle.spec_lists.proofs.Verdicts.{ends, or_test}
+-- `angles::winding::winding_refusal` meets its contract: the first of the three tests that refuses.
+use Rattle.lists.proofs.Rows.{handed_on, refused_first, passed_first, last}
 use Rattle.spec_angles.specs.Windings.{winding_refusal}
 use Rattle.angles.proofs.winding.winding_refusal.Goals as goal
+
+pub returns-in_err-triangles_refusal : goal.returns-in_err-triangles_refusal
+unfolding winding_refusal
+returns-in_err-triangles_refusal c =
+    handed_on _ _ _ c.from_residual.ensures.1 (refused_first _ _ _ _ c.in_err-triangles_refusal.ensures)
+
+pub returns-in_err-room_refusal : goal.returns-in_err-room_refusal
+unfolding winding_refusal
+returns-in_err-room_refusal c =
+    handed_on _ _ _ c.from_residual-in_err-room_refusal.ensures.1
+    (passed_first _ _ _ c.in_ok-triangles_refusal.ensures
+    (refused_first _ _ _ _ (rw c.point_count.ensures at c.in_err-room_refusal.ensures)))
 
 pub returns : goal.returns
 unfolding winding_refusal
 returns c =
-    or_test _ _ _ _ _ (or_test _ _ _ _ _ (ends _ _ c.triangles_refusal.ensures)
-    (rw c.point_count.ensures at c.room_refusal.ensures) c.or.ensures)
-    c.points_refusal.ensures c.or-2.ensures
+    passed_first _ _ _ c.in_ok-triangles_refusal.ensures
+    (passed_first _ _ _ (rw c.point_count.ensures at c.in_ok-room_refusal.ensures) (last _ _ c.points_refusal.ensures))

@@ -1,6 +1,5 @@
 -- `angles::winding::write_windings` meets its contract. The invariant: the first k winding numbers stand in `out`.
--- The measure is the number of points that remain.
-use Rattle.std.proofs.Common.{◌-◌, arith}
+use Rattle.std.proofs.Common.{arith}
 use Rattle.spec_lists.proofs.Reading.{point_inside}
 use Rattle.spec_angles.proofs.Windings.{about_start, about_more, windings_end}
 use Rattle.angles.proofs.winding.write_windings.Goals as goal
@@ -8,34 +7,14 @@ use Rattle.angles.proofs.winding.write_windings.Goals as goal
 pub loop-k-init : goal.loop-k-init
 loop-k-init c = about_start _ _ _ _
 
-pub overflow_mul-k : goal.overflow_mul-k
-overflow_mul-k c =
-    omega (arith, point_inside _ _ (rw c.point_count-count.ensures at c.loop-k-test.true))
-
 pub point_at-requires : goal.point_at-requires
 point_at-requires c =
-    point_inside _ _ (rw c.point_count-count.ensures at c.loop-k-test.true)
-
-pub winding_number_by-requires : goal.winding_number_by-requires
-winding_number_by-requires c = c.arc_table-table.ensures
-
-pub bounds-out-k : goal.bounds-out-k
-bounds-out-k c =
-    omega (arith, c.requires, c.point_count-count.ensures, c.loop-k.invariant.run.long, c.loop-k-test.true)
+    point_inside _ _ (rw c.point_count-k-end.ensures at c.loop-k-test.true)
 
 pub loop-k-preserved : goal.loop-k-preserved
 loop-k-preserved c =
-    about_more _ _ _ _ _ _ _ _ (omega (arith, c.requires, c.point_count-count.ensures))
+    about_more _ _ _ _ _ _ _ _ (omega (arith, c.requires, c.point_count-k-end.ensures))
     c.loop-k-test.true c.loop-k.invariant c.point_at.ensures c.winding_number_by.ensures
 
-pub shape_of-out : goal.shape_of-out
-shape_of-out c = c.loop-k.invariant.run.long
-
 pub returns : goal.returns
-returns c = windings_end _ _ _ _ _ _ _ c.point_count-count.ensures c.loop-k-test.false c.loop-k.invariant
-
-pub overflow_add-k : goal.overflow_add-k
-overflow_add-k c = omega arith
-
-pub loop-k-smaller : goal.loop-k-smaller
-loop-k-smaller c = omega arith
+returns c = windings_end _ _ _ _ _ _ _ c.point_count-k-end.ensures c.loop-k-test.false c.loop-k.invariant

@@ -1,27 +1,29 @@
 -- `build::tests::build_refusal` meets its contract: two tests and then, for triangles that passed, the room.
+use mathlib.Core.Path.{sym}
 use native.Mathlib.Omega.{arith}
-use Rattle.spec_lists.proofs.Verdicts.{ends, or_test, row_stops, row_goes_on, row_passed}
+use Rattle.lists.proofs.Rows.{handed_on, refused_first, passed_first}
 use Rattle.spec_lists.proofs.Passed.{triangles_passed}
 use Rattle.spec_build.specs.Build.{build_refusal}
 use Rattle.build.proofs.tests.build_refusal.Goals as goal
 
-pub returns-then-refuses : goal.returns-then-refuses
+pub returns-in_err-triangles_refusal : goal.returns-in_err-triangles_refusal
 unfolding build_refusal
-returns-then-refuses c =
-    row_stops _ _ _ _
-    (or_test _ _ _ _ _ (ends _ _ c.triangles_refusal.ensures) c.settings_refusal.ensures c.or-early.ensures)
-    c.refuses.ensures c.if-refuses.true
+returns-in_err-triangles_refusal c =
+    handed_on _ _ _ c.from_residual.ensures.1 (refused_first _ _ _ _ c.in_err-triangles_refusal.ensures)
+
+pub returns-in_err-settings_refusal : goal.returns-in_err-settings_refusal
+unfolding build_refusal
+returns-in_err-settings_refusal c =
+    handed_on _ _ _ c.from_residual-in_err-settings_refusal.ensures.1
+    (passed_first _ _ _ c.in_ok-triangles_refusal.ensures (refused_first _ _ _ _ c.in_err-settings_refusal.ensures))
 
 pub lists_refusal-requires : goal.lists_refusal-requires
 lists_refusal-requires c =
-    let good = triangles_passed _ (row_passed _ _ _ (or_test _ _ _ _ _ (ends _ _ c.triangles_refusal.ensures)
-    c.settings_refusal.ensures c.or-early.ensures) c.refuses.ensures c.if-refuses.false).0 in
+    let good = triangles_passed _ (sym c.in_ok-triangles_refusal.ensures) in
     (omega (arith, good.some, c.triangle_count.ensures), omega (arith, good.few, c.triangle_count.ensures))
 
 pub returns : goal.returns
 unfolding build_refusal
 returns c =
-    row_goes_on _ _ _ _ _
-    (or_test _ _ _ _ _ (ends _ _ c.triangles_refusal.ensures) c.settings_refusal.ensures c.or-early.ensures)
-    c.refuses.ensures c.if-refuses.false
-    (rw c.triangle_count.ensures at c.lists_refusal.ensures)
+    passed_first _ _ _ c.in_ok-triangles_refusal.ensures
+    (passed_first _ _ _ c.in_ok-settings_refusal.ensures (rw c.triangle_count.ensures at c.lists_refusal.ensures))

@@ -1,11 +1,6 @@
 -- `dipoles::calls::fast_winding_by` meets its contract: the walk from the root.
 use Rattle.spec_dipoles.specs.Calls.{fast_about}
-use Rattle.spec_dipoles.proofs.Fast.{root_in}
 use Rattle.dipoles.proofs.calls.fast_winding_by.Goals as goal
-
-pub walk-requires : goal.walk-requires
-walk-requires c =
-    record { table = c.requires.table; there = root_in _ _ _ _ _ c.requires.there }
 
 pub returns : goal.returns
 unfolding fast_about

@@ -1,6 +1,4 @@
 -- `dipoles::calls::write_windings` meets its contract. The invariant: the first k winding numbers stand in `out`.
--- The measure is the number of points that remain.
-use Prim.Native.Nat.{◌-◌}
 use native.Mathlib.Omega.{arith}
 use Rattle.spec_lists.proofs.Reading.{point_inside}
 use Rattle.spec_angles.proofs.Windings.{about_start, about_more}
@@ -10,36 +8,15 @@ use Rattle.dipoles.proofs.calls.write_windings.Goals as goal
 pub loop-k-init : goal.loop-k-init
 loop-k-init c = about_start _ _ _ _
 
-pub overflow_mul-k : goal.overflow_mul-k
-overflow_mul-k c =
-    omega (arith, c.well_formed, point_inside _ _ (rw c.point_count-count.ensures at c.loop-k-test.true))
-
 pub point_at-requires : goal.point_at-requires
 point_at-requires c =
-    point_inside _ _ (rw c.point_count-count.ensures at c.loop-k-test.true)
-
-pub fast_winding_by-requires : goal.fast_winding_by-requires
-fast_winding_by-requires c =
-    record { table = c.arc_table-table.ensures; there = c.requires.there }
-
-pub bounds-out-k : goal.bounds-out-k
-bounds-out-k c =
-    omega (arith, c.requires.room, c.point_count-count.ensures, c.loop-k.invariant.run.long, c.loop-k-test.true)
+    point_inside _ _ (rw c.point_count-k-end.ensures at c.loop-k-test.true)
 
 pub loop-k-preserved : goal.loop-k-preserved
 loop-k-preserved c =
-    about_more _ _ _ _ _ _ _ _ (omega (arith, c.requires.room, c.point_count-count.ensures)) c.loop-k-test.true c.loop-k.invariant
+    about_more _ _ _ _ _ _ _ _ (omega (arith, c.requires.room, c.point_count-k-end.ensures)) c.loop-k-test.true c.loop-k.invariant
     c.point_at.ensures c.fast_winding_by.ensures
-
-pub shape_of-out : goal.shape_of-out
-shape_of-out c = c.loop-k.invariant.run.long
 
 pub returns : goal.returns
 returns c =
-    fast_end _ _ _ _ _ _ _ _ _ _ _ _ c.point_count-count.ensures c.loop-k-test.false c.loop-k.invariant
-
-pub overflow_add-k : goal.overflow_add-k
-overflow_add-k c = omega arith
-
-pub loop-k-smaller : goal.loop-k-smaller
-loop-k-smaller c = omega arith
+    fast_end _ _ _ _ _ _ _ _ _ _ _ _ c.point_count-k-end.ensures c.loop-k-test.false c.loop-k.invariant

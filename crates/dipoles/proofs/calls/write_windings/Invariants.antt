@@ -1,6 +1,4 @@
 -- `dipoles::calls::write_windings` meets its contract. The invariant: the first k winding numbers stand in `out`.
--- The measure is the number of points that remain.
-use Prim.Native.Nat.{◌-◌}
 use lib.Ieee.{binary32}
 use Rattle.spec_angles.proofs.Windings.{AboutPut}
 use Rattle.spec_dipoles.specs.Calls.{fast_about}
@@ -8,7 +6,5 @@ use Rattle.dipoles.proofs.calls.write_windings.Given as goal
 
 abbrev pub invariant-loop-k : goal.invariant-loop-k
 invariant-loop-k l =
-    AboutPut (fast_about binary32 l.triangles l.order l.links l.nodes l.sums l.accuracy) l.points l.initial.out l.count l.out l.k
-
-abbrev pub decreases-loop-k : goal.decreases-loop-k
-decreases-loop-k l = l.count - l.k
+    let d = l.drawing in
+    AboutPut (fast_about binary32 d.triangles.now d.order.now d.links.now d.nodes l.sums l.accuracy) l.points l.initial.out l.k-end l.out l.k

@@ -1,16 +1,8 @@
 -- `dipoles::dipole::put_point` meets its contract: three stores are one write.
 use mathlib.Core.Path.{refl}
-use native.Mathlib.Omega.{arith}
-use lib.ListN.{length-set}
 use Rattle.spec_tables.proofs.Stores.{three_stores}
 use borrow.Author.Rules.{rules}
 use Rattle.dipoles.proofs.dipole.put_point.Goals as goal
 
 pub returns : goal.returns
 returns c = record { written = three_stores _ _ _ _ _ (search rules); behind = refl; within = search rules }
-
-pub bounds-out-at-2 : goal.bounds-out-at-2
-bounds-out-at-2 c = simp length-set (omega arith)
-
-pub bounds-out-at-3 : goal.bounds-out-at-3
-bounds-out-at-3 c = simp length-set (omega arith)

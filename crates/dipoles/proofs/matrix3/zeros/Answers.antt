@@ -6,4 +6,4 @@ use Rattle.dipoles.proofs.matrix3.zeros.Goals as goal
 
 pub returns : goal.returns
 unfolding zeros of_bits
-returns c = refl
+returns c = rw c.splat-origin.ensures refl

@@ -1,38 +1,14 @@
 -- `dipoles::stored::make_dipoles` meets its contract: before each turn the dipoles of the nodes before it stand in the list, and behind them the sums.
-use Prim.Native.Nat.{◌-◌}
-use native.Mathlib.Omega.{arith}
 use Rattle.spec_dipoles.proofs.Storing.{make_start, make_more, make_end}
 use Rattle.dipoles.proofs.stored.make_dipoles.Goals as goal
 
 pub loop-k-init : goal.loop-k-init
 loop-k-init c = make_start _ _ _ _
 
-pub node_box-requires : goal.node_box-requires
-node_box-requires c = omega (arith, c.requires.boxed, c.loop-k-test.true)
-
-pub restored_at-requires : goal.restored_at-requires
-restored_at-requires c =
-    omega (arith, c.requires.room, c.loop-k.invariant.run.long, c.loop-k-test.true)
-
-pub put_dipole-requires : goal.put_dipole-requires
-put_dipole-requires c =
-    omega (arith, c.requires.room, c.loop-k.invariant.run.long, c.loop-k-test.true)
-
-pub overflow_add-k : goal.overflow_add-k
-overflow_add-k c =
-    omega (arith, c.loop-k-test.true, c.well_formed.1.0)
-
-pub loop-k-smaller : goal.loop-k-smaller
-loop-k-smaller c =
-    omega (arith, c.loop-k-test.true)
-
 pub loop-k-preserved : goal.loop-k-preserved
 loop-k-preserved c =
     make_more _ _ _ _ _ _ _ _ _ _ c.requires.room c.loop-k-test.true c.loop-k.invariant c.node_box.ensures c.restored_at.ensures
     c.dipole_of-dipole.ensures c.put_dipole.ensures
-
-pub shape_of-out : goal.shape_of-out
-shape_of-out c = c.loop-k.invariant.run.long
 
 pub returns : goal.returns
 returns c = make_end _ _ _ _ _ _ c.loop-k-test.false c.loop-k.invariant

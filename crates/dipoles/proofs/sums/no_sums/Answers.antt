@@ -5,4 +5,4 @@ use Rattle.dipoles.proofs.sums.no_sums.Goals as goal
 
 pub returns : goal.returns
 unfolding no_sums of_bits
-returns c = rw c.zeros.ensures
+returns c = rw (c.zeros.ensures, c.splat-origin.ensures)

@@ -1,25 +1,26 @@
--- `dipoles::tests::sums_refusal` meets its contract: two tests and then, for triangles that passed, the tree check.
-use Rattle.spec_lists.proofs.Verdicts.{ends, or_test, row_stops, row_goes_on, row_passed}
+-- `dipoles::tests::sums_refusal` meets its contract: the first of the three tests that refuses.
+use mathlib.Core.Path.{sym}
+use Rattle.lists.proofs.Rows.{handed_on, refused_first, passed_first, last}
 use Rattle.spec_lists.proofs.Passed.{triangles_passed}
 use Rattle.spec_dipoles.specs.Calls.{sums_refusal}
 use Rattle.dipoles.proofs.tests.sums_refusal.Goals as goal
 
-pub returns-then-refuses : goal.returns-then-refuses
+pub returns-in_err-triangles_refusal : goal.returns-in_err-triangles_refusal
 unfolding sums_refusal
-returns-then-refuses c =
-    row_stops _ _ _ _
-    (or_test _ _ _ _ _ (ends _ _ c.triangles_refusal.ensures) c.room_refusal.ensures c.or-early.ensures)
-    c.refuses.ensures c.if-refuses.true
+returns-in_err-triangles_refusal c =
+    handed_on _ _ _ c.from_residual.ensures.1 (refused_first _ _ _ _ c.in_err-triangles_refusal.ensures)
+
+pub returns-in_err-room_refusal : goal.returns-in_err-room_refusal
+unfolding sums_refusal
+returns-in_err-room_refusal c =
+    handed_on _ _ _ c.from_residual-in_err-room_refusal.ensures.1
+    (passed_first _ _ _ c.in_ok-triangles_refusal.ensures (refused_first _ _ _ _ c.in_err-room_refusal.ensures))
 
 pub tree_refusal-requires : goal.tree_refusal-requires
-tree_refusal-requires c =
-    (triangles_passed _ (row_passed _ _ _
-    (or_test _ _ _ _ _ (ends _ _ c.triangles_refusal.ensures) c.room_refusal.ensures c.or-early.ensures)
-    c.refuses.ensures c.if-refuses.false).0).few
+tree_refusal-requires c = (triangles_passed _ (sym c.in_ok-triangles_refusal.ensures)).few
 
 pub returns : goal.returns
 unfolding sums_refusal
 returns c =
-    row_goes_on _ _ _ _ _
-    (or_test _ _ _ _ _ (ends _ _ c.triangles_refusal.ensures) c.room_refusal.ensures c.or-early.ensures)
-    c.refuses.ensures c.if-refuses.false (ends _ _ c.tree_refusal.ensures)
+    passed_first _ _ _ c.in_ok-triangles_refusal.ensures
+    (passed_first _ _ _ c.in_ok-room_refusal.ensures (last _ _ c.tree_refusal.ensures))

@@ -1,6 +1,4 @@
--- `dipoles::walk::slice_winding` meets its contract. The invariant: `sum` is that of the first i solid angles.
--- The measure is the number of triangles that remain.
-use Prim.Native.Nat.{◌-◌}
+-- `dipoles::walk::slice_winding` meets its contract. The invariant: `sum` is that of the solid angles so far.
 use lib.ListN.{length, get_or}
 use lib.Ieee.{binary32}
 use Rattle.shapes.specs.Values.{as_point}
@@ -8,8 +6,5 @@ use Rattle.spec_lists.specs.Reading.{triangle_at}
 use Rattle.spec_angles.proofs.Windings.{Summed}
 use Rattle.dipoles.proofs.walk.slice_winding.Given as goal
 
-abbrev pub invariant-loop-i : goal.invariant-loop-i
-invariant-loop-i l = Summed binary32 (λ j. triangle_at l.triangles (get_or l.slice j 0)) (as_point l.q) (length l.slice) l.sum l.i
-
-abbrev pub decreases-loop-i : goal.decreases-loop-i
-decreases-loop-i l = length l.slice - l.i
+abbrev pub invariant-loop-t : goal.invariant-loop-t
+invariant-loop-t l = Summed binary32 (λ j. triangle_at l.triangles (get_or l.slice j 0)) (as_point l.q) (length l.slice) l.sum l.t-index

@@ -1,4 +1,4 @@
--- `grow::nodes::put_branch` meets its contract: what `union_box`, `put_links`, `put_box` and `deeper` ensure.
+-- `grow::nodes::put_branch` meets its contract: what `union_box`, `put_links`, `put_box` and `max` ensure.
 use mathlib.Core.Path.{refl, ap, ◌∙◌}
 use Prim.Native.Nat.{ℕ, ◌+◌, ◌*◌}
 use Rattle.spec_tables.specs.Tables.{overwrite}
@@ -13,6 +13,6 @@ returns c =
       boxes_are = c.put_box.ensures
           ∙ ap (λ (b : Box). overwrite (6 * (c.args.right.root + 1)) (six_of b) c.args.boxes.now) c.union_box-over.ensures;
       root_is = refl;
-      levels_are = ap (λ (n : ℕ). n + 1) c.deeper.ensures;
+      levels_are = ap (λ (n : ℕ). n + 1) c.max.ensures;
       box_is = c.union_box-over.ensures;
     }

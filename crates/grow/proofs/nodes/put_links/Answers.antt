@@ -1,15 +1,7 @@
--- `grow::nodes::put_links` meets its contract: three stores are one write.
-use native.Mathlib.Omega.{arith}
-use lib.ListN.{length-set}
-use Rattle.spec_tables.proofs.Stores.{three_stores}
-use borrow.Author.Rules.{rules}
+-- `grow::nodes::put_links` meets its contract: three numbers that are written over a part of the list.
+use Rattle.std.proofs.Common.{◌*◌, arith}
+use Rattle.grow.proofs.Stored.{part_overwritten}
 use Rattle.grow.proofs.nodes.put_links.Goals as goal
 
 pub returns : goal.returns
-returns c = three_stores _ _ _ _ _ (search rules)
-
-pub bounds-links-at-2 : goal.bounds-links-at-2
-bounds-links-at-2 c = simp length-set (omega arith)
-
-pub bounds-links-at-3 : goal.bounds-links-at-3
-bounds-links-at-3 c = simp length-set (omega arith)
+returns c = rw c.copy_from_slice.ensures.after (part_overwritten (3 * c.args.node) _ c.args.links.now _ (omega arith))

@@ -1,5 +1,4 @@
 -- `grow::tables::put_keys` meets its contract: a turn stores one centre behind those that stand there.
-use Prim.Native.Nat.{◌-◌}
 use native.Mathlib.Omega.{arith}
 use lib.Ieee.{binary32}
 use Rattle.shapes.specs.Values.{as_axis}
@@ -22,9 +21,6 @@ pub loop-t-preserved : goal.loop-t-preserved
 loop-t-preserved c =
     run_store_front (centre_on binary32 (box_in c.args.bounds.now) (as_axis c.args.axis)) _ _ _ _ _ c.requires.room
     c.loop-t-test.true c.loop-t.invariant c.centre_on.ensures
-
-pub shape_of-keys : goal.shape_of-keys
-shape_of-keys c = c.loop-t.invariant.long
 
 pub returns : goal.returns
 returns c = run_end _ 0 _ _ _ _ c.loop-t-test.false c.loop-t.invariant

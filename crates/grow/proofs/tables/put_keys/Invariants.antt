@@ -1,5 +1,4 @@
 -- `grow::tables::put_keys` meets its contract: a turn stores one centre behind those that stand there.
-use Prim.Native.Nat.{◌-◌}
 use mathlib.Core.List.{[], ◌∷◌}
 use lib.Ieee.{binary32}
 use Rattle.shapes.specs.Values.{as_axis}
@@ -10,6 +9,3 @@ use Rattle.grow.proofs.tables.put_keys.Given as goal
 
 abbrev pub invariant-loop-t : goal.invariant-loop-t
 invariant-loop-t l = Run (λ k. centre_on binary32 (box_in l.bounds) (as_axis l.axis) k ∷ []) 0 l.count l.initial.keys l.keys l.t
-
-abbrev pub decreases-loop-t : goal.decreases-loop-t
-decreases-loop-t l = l.count - l.t

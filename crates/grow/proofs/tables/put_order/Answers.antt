@@ -1,7 +1,7 @@
 -- `grow::tables::put_order` meets its contract: a turn stores one number behind those that stand there.
 use mathlib.Core.Path.{refl, ap, ◌∙◌}
 use mathlib.Core.List.{List}
-use Prim.Native.Nat.{ℕ, ◌-◌}
+use Prim.Native.Nat.{ℕ}
 use native.Mathlib.Omega.{arith}
 use Rattle.spec_tables.specs.Tables.{overwrite}
 use Rattle.spec_tables.proofs.Runs.{run_start, run_end}
@@ -17,9 +17,6 @@ bounds-order-number c = omega (arith, c.loop-number.invariant.long)
 
 pub loop-number-preserved : goal.loop-number-preserved
 loop-number-preserved c = run_store_front (λ (k : ℕ). k) _ _ _ _ _ c.requires.1 c.loop-number-test.true c.loop-number.invariant refl
-
-pub shape_of-order : goal.shape_of-order
-shape_of-order c = c.loop-number.invariant.long
 
 pub returns : goal.returns
 returns c =

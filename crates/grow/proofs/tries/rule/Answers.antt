@@ -1,12 +1,11 @@
 -- `grow::tries::rule` meets its contract: what the two rules ensure.
-use borrow.Author.Tests.{eq-eqb, ne_eqb}
 use Rattle.spec_build.specs.Tries.{rule}
 use Rattle.grow.proofs.tries.rule.Goals as goal
 
-pub returns-then-strategy-eq1 : goal.returns-then-strategy-eq1
+pub returns-in-Median : goal.returns-in-Median
 unfolding rule
-returns-then-strategy-eq1 c = rw (eq-eqb c.args.strategy 1 c.if-strategy-eq1.true) c.median_split.ensures
+returns-in-Median c = rw c.in-Median.is c.median_split.ensures
 
-pub returns : goal.returns
+pub returns-in-Area : goal.returns-in-Area
 unfolding rule
-returns c = rw (ne_eqb c.args.strategy 1 c.if-strategy-eq1.false) c.area_split.ensures
+returns-in-Area c = rw c.in-Area.is c.area_split.ensures

@@ -2,28 +2,11 @@
 use mathlib.Core.Path.{ap, ◌∙◌}
 use mathlib.Core.List.{List}
 use Prim.Native.Nat.{ℕ}
-use native.Mathlib.Omega.{arith}
 use lib.Ieee.{binary32}
 use Rattle.spec_tables.specs.Tables.{overwrite}
 use Rattle.spec_search.specs.Rules.{rule_of}
 use Rattle.spec_search.proofs.Calls.{few_words_same, one_is_sure}
 use Rattle.queries.proofs.calls.put_answers.Goals as goal
-
-pub put_few-requires : goal.put_few-requires
-put_few-requires c =
-    record { askable = c.requires.askable; le_most = (omega arith, omega arith); points_in_bounds = rw c.in-Sure.is at c.requires.points_in_bounds }
-
-pub put_few-requires-in-Few : goal.put_few-requires-in-Few
-put_few-requires-in-Few c =
-    record {
-      askable = c.requires.askable;
-      le_most = rw c.wide.ensures (rw c.in-Few.is at c.requires.bound);
-      points_in_bounds = rw c.wide.ensures (rw c.in-Few.is at c.requires.points_in_bounds);
-    }
-
-pub put_source-requires : goal.put_source-requires
-put_source-requires c =
-    record { askable = c.requires.askable; points_in_bounds = rw c.in-Source.is at c.requires.points_in_bounds }
 
 pub returns-in-Sure : goal.returns-in-Sure
 returns-in-Sure c =
@@ -31,11 +14,11 @@ returns-in-Sure c =
     rw c.in-Sure.is
     (c.put_few.ensures
     ∙ ap (λ (new : List ℕ). overwrite 0 new a.answers.now)
-    (few_words_same binary32 1 _ _ a.points.now (one_is_sure binary32 (rule_of _) a.triangles.now a.distance)))
+    (few_words_same binary32 1 _ _ a.points.now (one_is_sure binary32 (rule_of _) a.drawing.now.triangles.now a.distance)))
 
 pub returns-in-Few : goal.returns-in-Few
 returns-in-Few c =
-    rw c.in-Few.is (rw c.wide.ensures at c.put_few-in-Few.ensures)
+    rw c.in-Few.is c.put_few-in-Few.ensures
 
 pub returns-in-Source : goal.returns-in-Source
 returns-in-Source c =

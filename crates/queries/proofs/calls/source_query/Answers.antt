@@ -7,9 +7,10 @@ use Rattle.queries.proofs.calls.source_query.Goals as goal
 
 pub returns : goal.returns
 returns c =
-    let a = c.args in record {
+    let a = c.args in
+    let d = a.drawing.now in record {
       verdict = c.ask.ensures.verdict;
       answers = c.ask.ensures.answers ∙ after_one binary32
-          (source_answer binary32 a.triangles.now a.order.now a.links.now a.boxes.now a.nodes a.distance) a.points.now _
+          (source_answer binary32 d.triangles.now d.order.now d.links.now d.boxes.now d.nodes a.distance) a.points.now _
           a.answers.now;
     }

@@ -8,8 +8,9 @@ use Rattle.queries.proofs.calls.sure_query.Goals as goal
 
 pub returns : goal.returns
 returns c =
-    let a = c.args in record {
+    let a = c.args in
+    let d = a.drawing.now in record {
       verdict = c.ask.ensures.verdict;
-      answers = c.ask.ensures.answers ∙ after_one binary32 (sure_answer binary32 (rule_of a.rule) a.triangles.now a.distance)
+      answers = c.ask.ensures.answers ∙ after_one binary32 (sure_answer binary32 (rule_of a.rule) d.triangles.now a.distance)
           a.points.now _ a.answers.now;
     }

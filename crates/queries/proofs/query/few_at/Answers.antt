@@ -15,26 +15,25 @@ use Rattle.spec_search.proofs.Marked.{marked_answers}
 use Rattle.walks.proofs.Reached.{reached_answers}
 use Rattle.queries.proofs.query.few_at.Goals as goal
 
-pub search-requires : goal.search-requires
+pub search-requires-clause-false_value : goal.search-requires-clause-false_value
 unfolding limit_squared
-search-requires c =
-    let pre = c.requires in
-    record { searchable = pre.searchable; false_value = limit_bounded binary32 c.args.distance pre.good_distance; le_most = pre.le_most; lent = pre.lent }
+search-requires-clause-false_value c = limit_bounded binary32 c.args.distance c.requires.good_distance
 
 pub returns : goal.returns
 unfolding few_answer limit_squared
 returns c =
     let a = c.args in
+    let d = a.drawing.now in
     let pre = c.requires in
     let p = as_point a.p in
     let limit = limit_of binary32 (rule_of a.rule) a.distance in
-    let walk = few_walk binary32 a.triangles.now a.order.now a.links.now a.boxes.now a.nodes p a.most limit in
+    let walk = few_walk binary32 d.triangles.now d.order.now d.links.now d.boxes.now d.nodes p a.most limit in
     let held = reached_answers limit.squared walk (marker limit.squared) c.search.ensures
-    (λ j l. marked_answers binary32 a.triangles.now a.order.now a.links.now a.boxes.now _ a.nodes (entries_below _ _ _ _ _ pre.searchable)
+    (λ j l. marked_answers binary32 d.triangles.now d.order.now d.links.now d.boxes.now _ d.nodes (entries_below _ _ _ _ _ pre.searchable)
     (numbers_low _ _ _ _ _ pre.searchable) p a.most pre.le_most.0 (rule_of a.rule) limit.squared
     (limit_bounded binary32 a.distance pre.good_distance) j (marker limit.squared) l) in
-    let scanned = walk_is_scan binary32 a.triangles.now p a.most limit pre.searchable.triangles_good pre.finite a.order.now a.links.now
-    a.boxes.now a.nodes pre.searchable.tree_accepted in
+    let scanned = walk_is_scan binary32 d.triangles.now p a.most limit pre.searchable.triangles_good pre.finite d.order.now d.links.now
+    d.boxes.now d.nodes pre.searchable.tree_accepted in
     record {
       lent = held.lent;
       most_is = held.most_is;

@@ -8,4 +8,4 @@ use Rattle.queries.proofs.query.source_at.Goals as goal
 
 pub returns : goal.returns
 unfolding source_answer limit_squared
-returns c = ap (λ (s : Sought Answer). s.best) c.search-found.ensures
+returns c = ap (λ (s : Sought Answer). s.best) c.search.ensures

@@ -1,14 +1,11 @@
--- `queries::rules::choice_refusal` meets its contract: the sure query's rule is tested, then how many are asked for, and the source query has neither.
-use Rattle.spec_lists.proofs.Verdicts.{ends, or_test}
+-- `queries::rules::choice_refusal` meets its contract: a query for the nearest few has its rule tested, and then how many are asked for.
+use Rattle.lists.proofs.Rows.{handed_on, refused_first, passed_first, last}
 use Rattle.queries.proofs.rules.choice_refusal.Goals as goal
 
-pub returns-in-Sure : goal.returns-in-Sure
-returns-in-Sure c = rw c.in-Sure.is c.rule_refusal.ensures
+pub returns-in_err-rule_refusal-in-Few : goal.returns-in_err-rule_refusal-in-Few
+returns-in_err-rule_refusal-in-Few c =
+    rw c.in-Few.is (handed_on _ _ _ c.from_residual.ensures.1 (refused_first _ _ _ _ c.in_err-rule_refusal-in-Few.ensures))
 
-pub returns-in-Few : goal.returns-in-Few
-returns-in-Few c =
-    rw c.in-Few.is
-    (or_test _ _ _ _ _ (ends _ _ c.rule_refusal-in-Few.ensures) c.most_refusal.ensures c.or.ensures)
-
-pub returns-in-Source : goal.returns-in-Source
-returns-in-Source c = rw c.in-Source.is
+pub returns-in_ok-rule_refusal-in-Few : goal.returns-in_ok-rule_refusal-in-Few
+returns-in_ok-rule_refusal-in-Few c =
+    rw c.in-Few.is (passed_first _ _ _ c.in_ok-rule_refusal-in-Few.ensures (last _ _ c.most_refusal.ensures))

@@ -1,5 +1,5 @@
 -- `splits::costs::costs_of` meets its contract. The invariant: `left` is the side before bucket i, and the costs stored so far are those of the cuts.
-use Rattle.std.proofs.Common.{◌≡◌, ℕ, ◌-◌, ◌<◌, List, length, sym, refl, ap, ◌∙◌, arith, length-set}
+use Rattle.std.proofs.Common.{◌≡◌, ℕ, ◌<◌, List, length, sym, refl, ap, ◌∙◌, arith, length-set}
 use lib.ListN.{length-map}
 use lib.Ieee.{binary32}
 use Rattle.shapes.specs.Values.{as_box}
@@ -44,24 +44,3 @@ unfolding costs
 returns c =
     let loop = c.loop-i in
     stored_all _ loop.costs loop.i 11 loop.invariant.1.0 (λ (k : ℕ) (h : k < 11). loop.invariant.1.1 k (omega arith))
-
-pub offset_bounds-buckets-i : goal.offset_bounds-buckets-i
-offset_bounds-buckets-i c = omega arith
-
-pub bounds-buckets-i : goal.bounds-buckets-i
-bounds-buckets-i c = omega arith
-
-pub offset_bounds-rights-i : goal.offset_bounds-rights-i
-offset_bounds-rights-i c = omega arith
-
-pub bounds-rights-i : goal.bounds-rights-i
-bounds-rights-i c = omega arith
-
-pub offset_bounds-costs-i : goal.offset_bounds-costs-i
-offset_bounds-costs-i c = omega arith
-
-pub bounds-costs-i : goal.bounds-costs-i
-bounds-costs-i c = omega arith
-
-pub loop-i-smaller : goal.loop-i-smaller
-loop-i-smaller c = omega arith

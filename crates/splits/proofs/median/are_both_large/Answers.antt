@@ -32,9 +32,9 @@ returns-then-is_large c =
     let left = rw (map_take (box_in args.bounds.now)) at (sym c.is_large.ensures ∙ c.if-is_large.true) in
     rw (c.is_large-then-is_large.ensures, to_the_end args.cut args.slice.now, map_drop (box_in args.bounds.now), left)
 
-pub returns : goal.returns
+pub returns-else-is_large : goal.returns-else-is_large
 unfolding are_both_large
-returns c =
+returns-else-is_large c =
     let args = c.args in
     let left = rw (map_take (box_in args.bounds.now)) at (sym c.is_large.ensures ∙ c.if-is_large.false) in
-    rw left
+    rw (left, c.if-is_large.false)

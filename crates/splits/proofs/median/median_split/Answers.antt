@@ -3,21 +3,22 @@ use Rattle.std.proofs.Common.{arith}
 use lib.ListN.{length-map}
 use Rattle.spec_splits.specs.Median.{median_split}
 use Rattle.splits.proofs.median.median_split.Goals as goal
+use Rattle.splits.proofs.median.median_split.Goals.{then-all_meet_at-via-then-all_meet_at, then-all_meet_at-via-else-all_meet_at+then-are_both_large}
 
 pub all_meet_at-requires : goal.all_meet_at-requires
 all_meet_at-requires c = record { cut_nonzero = omega arith; cut_in_bounds = omega arith; all_in_table = c.requires.boxed.in_table }
 
-pub returns-then-all_meet_at : goal.returns-then-all_meet_at
-unfolding median_split
-returns-then-all_meet_at c = rw (length-map, ← c.all_meet_at.ensures, c.if-all_meet_at.true)
-
 pub are_both_large-requires : goal.are_both_large-requires
 are_both_large-requires c = record { cut_nonzero = omega arith; cut_in_bounds = omega arith; all_in_table = c.requires.boxed.in_table }
 
-pub returns-then-are_both_large : goal.returns-then-are_both_large
+pub returns-then-all_meet_at : goal.returns-then-all_meet_at
 unfolding median_split
-returns-then-are_both_large c =
-    rw (length-map, ← c.all_meet_at.ensures, c.if-all_meet_at.false, ← c.are_both_large.ensures, c.if-are_both_large.true)
+returns-then-all_meet_at c =
+    elim c.then-all_meet_at.branch [
+      | then-all_meet_at-via-then-all_meet_at w ↦ rw (length-map, ← c.all_meet_at.ensures, w.if-all_meet_at.true)
+      | then-all_meet_at-via-else-all_meet_at+then-are_both_large w ↦
+          rw (length-map, ← c.all_meet_at.ensures, w.if-all_meet_at.false, ← w.are_both_large.ensures, w.if-are_both_large.true)
+    ]
 
 pub returns : goal.returns
 unfolding median_split

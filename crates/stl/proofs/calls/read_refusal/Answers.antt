@@ -1,26 +1,31 @@
 -- `stl::calls::read_refusal` meets its contract: the size, and for bytes of the right size the triangles in them and the room.
+use mathlib.Core.Path.{sym}
 use native.Mathlib.Omega.{arith}
-use Rattle.spec_lists.proofs.Verdicts.{ends, stops, goes_on, did_pass, or_test}
 use Rattle.spec_stl.specs.Calls.{read_refusal}
 use Rattle.spec_stl.proofs.Refused.{size_passed}
+use Rattle.lists.proofs.Rows.{handed_on, refused_first, passed_first, last}
 use Rattle.stl.proofs.calls.read_refusal.Goals as goal
 
-pub returns-then-refuses : goal.returns-then-refuses
+pub returns-in_err-size_refusal : goal.returns-in_err-size_refusal
 unfolding read_refusal
-returns-then-refuses c = stops _ _ _ _ c.size_refusal-wrong_size.ensures c.refuses.ensures c.if-refuses.true
+returns-in_err-size_refusal c =
+    handed_on _ _ _ c.from_residual.ensures.1 (refused_first _ _ _ _ c.in_err-size_refusal.ensures)
 
 pub count_of-count-requires : goal.count_of-count-requires
-count_of-count-requires c =
-    omega (arith, size_passed _ (did_pass _ _ _ c.size_refusal-wrong_size.ensures c.refuses.ensures c.if-refuses.false))
+count_of-count-requires c = omega (arith, size_passed _ (sym c.in_ok-size_refusal.ensures))
 
-pub corners_refusal-requires : goal.corners_refusal-requires
-corners_refusal-requires c =
-    let size = size_passed _ (did_pass _ _ _ c.size_refusal-wrong_size.ensures c.refuses.ensures c.if-refuses.false) in
-    record { count_in_bounds = rw c.count_of-count.ensures.value (omega (arith, size)); count_value = c.count_of-count.ensures.value }
+pub corners_refusal-requires-clause-count_in_bounds : goal.corners_refusal-requires-clause-count_in_bounds
+corners_refusal-requires-clause-count_in_bounds c =
+    rw c.count_of-count.ensures.value (omega (arith, size_passed _ (sym c.in_ok-size_refusal.ensures)))
+
+pub returns-in_err-corners_refusal : goal.returns-in_err-corners_refusal
+unfolding read_refusal
+returns-in_err-corners_refusal c =
+    handed_on _ _ _ c.from_residual-in_err-corners_refusal.ensures.1
+    (passed_first _ _ _ c.in_ok-size_refusal.ensures (refused_first _ _ _ _ c.in_err-corners_refusal.ensures))
 
 pub returns : goal.returns
 unfolding read_refusal
 returns c =
-    goes_on _ _ _ _ _ c.size_refusal-wrong_size.ensures c.refuses.ensures c.if-refuses.false
-    (or_test _ _ _ _ _ (ends _ _ c.corners_refusal.ensures) (rw c.count_of-count.ensures.value at c.room_refusal.ensures)
-    c.or.ensures)
+    passed_first _ _ _ c.in_ok-size_refusal.ensures
+    (passed_first _ _ _ c.in_ok-corners_refusal.ensures (last _ _ (rw c.count_of-count.ensures.value at c.room_refusal.ensures)))

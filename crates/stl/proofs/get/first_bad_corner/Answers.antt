@@ -1,7 +1,5 @@
 -- `stl::get::first_bad_corner` meets its contract. The invariant: the corners of the facets so far are coordinates.
-use mathlib.Core.Path.{◌≡◌, refl, sym}
-use Prim.Native.Nat.{◌-◌}
-use native.Mathlib.Omega.{arith}
+use mathlib.Core.Path.{refl}
 use Rattle.spec_tables.specs.Tables.{concat_map}
 use Rattle.spec_lists.specs.Refusals.{first_bad}
 use Rattle.spec_stl.specs.Stl.{corners_in}
@@ -10,23 +8,16 @@ use Rattle.stl.proofs.get.first_bad_corner.Goals as goal
 
 pub loop-i-init : goal.loop-i-init
 unfolding concat_map first_bad
-loop-i-init c = (omega arith, refl)
+loop-i-init c = refl
 
 pub returns-then-at-lt9 : goal.returns-then-at-lt9
 unfolding corners_in
 returns-then-at-lt9 c =
     let a = c.args in
     let here = c.first_bad_in-at.ensures in
-    rw here (corners_bad a.bytes.now c.loop-i.i c.loop-i.invariant.1 a.count c.loop-i-test.true (rw here at c.if-at-lt9.true))
+    rw here (corners_bad a.bytes.now c.loop-i.i c.loop-i.invariant a.count c.loop-i-test.true (rw here at c.if-at-lt9.true))
 
 pub loop-i-preserved : goal.loop-i-preserved
 unfolding corners_in
 loop-i-preserved c =
-    let a = c.args in
-    (omega arith, corners_good a.bytes.now c.loop-i.i c.loop-i.invariant.1 (rw c.first_bad_in-at.ensures at c.if-at-lt9.false))
-
-pub returns : goal.returns
-returns c =
-    let a = c.args in
-    let all : c.loop-i.i ≡ a.count = omega arith in
-    rw (← all) (sym c.loop-i.invariant.1)
+    corners_good c.args.bytes.now c.loop-i.i c.loop-i.invariant (rw c.first_bad_in-at.ensures at c.if-at-lt9.false)

@@ -1,6 +1,5 @@
 -- `stl::get::read_facets` meets its contract: a turn reads one triangle more (`Run`).
-use Prim.Native.Nat.{◌-◌}
-use Rattle.spec_tables.proofs.Runs.{run_start, run_front, run_end}
+use Rattle.spec_tables.proofs.Runs.{run_start, run_front}
 use Rattle.spec_stl.specs.Stl.{corners_in}
 use Rattle.spec_stl.proofs.Facets.{length_corners}
 use Rattle.stl.proofs.get.read_facets.Goals as goal
@@ -12,9 +11,3 @@ pub loop-i-preserved : goal.loop-i-preserved
 unfolding corners_in
 loop-i-preserved c =
     run_front _ 9 _ _ _ _ _ (length_corners c.args.bytes.now) c.requires.1 c.loop-i-test.true c.loop-i.invariant c.read_f32s.ensures
-
-pub shape_of-triangles : goal.shape_of-triangles
-shape_of-triangles c = c.loop-i.invariant.long
-
-pub returns : goal.returns
-returns c = run_end _ _ _ _ _ _ c.loop-i-test.false c.loop-i.invariant

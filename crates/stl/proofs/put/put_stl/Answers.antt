@@ -9,9 +9,8 @@ pub put_facets-requires : goal.put_facets-requires
 unfolding triangle_count
 put_facets-requires c = (omega arith, omega arith)
 
-pub returns : goal.returns
+pub returns-clause-put : goal.returns-clause-put
 unfolding stl_bytes
-returns c =
-    let count = c.triangle_count-count.ensures in
+returns-clause-put c =
     let behind = put_then c.put_u32-facets.ensures.put c.put_facets.ensures.put in
-    record { put = put_then c.put_zeros-number.ensures.put (rw count at behind); value = omega arith }
+    put_then c.put_zeros-number.ensures.put (rw c.triangle_count-count.ensures at behind)

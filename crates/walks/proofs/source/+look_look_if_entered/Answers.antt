@@ -10,6 +10,7 @@ use Rattle.spec_search.proofs.Walked.{walk_skipped, walk_looked}
 use Rattle.spec_search.proofs.Steps.{hangs_there, leaf_needs, pair_needs, levels_remaining, root_leaf_answers, root_pair_answers, right_needs, then_left_needs, right_answers}
 use Rattle.walks.specs.declared.answer.Measures.TheVariants.{Computed}
 use Rattle.walks.specs.Places.{sought_of}
+use Rattle.walks.proofs.Links.{leaf_links, branch_links}
 use Rattle.walks.proofs.Reached.{reached_is, reached_on, reached_still, reached_then}
 use Prim.Native.Nat.{ℕ, ◌+◌, ◌-◌, ◌<◌}
 use Rattle.walks.proofs.source.+look_look_if_entered.Goals as goal
@@ -31,7 +32,7 @@ look-measure_leaf-requires t c =
     let a = c.args in
     let d = c.args.drawing.now in
     let wanted =
-    leaf_needs d.triangles.now d.order.now d.links.now d.boxes.now a.depth a.node a.measured _ _ _ c.in-Leaf.ensures
+    leaf_needs d.triangles.now d.order.now d.links.now d.boxes.now a.depth a.node a.measured _ _ _ (leaf_links c.in-Leaf.ensures)
     c.requires.node_safe refl in
     record { entries_below = wanted.0; first_le_last = wanted.1.0; first_bound = wanted.1.1; ready = c.requires.lent }
 
@@ -43,25 +44,25 @@ look-returns-in-Leaf t c =
     let s = sought_of Computed a.places.now.best a.places.now.which a.measured in
     reached_on c.measure_leaf.ensures
     (root_leaf_answers d.triangles.now d.order.now d.links.now d.boxes.now a.depth a.node a.measured _ _ _
-    c.in-Leaf.ensures c.requires.node_safe how s _ refl refl)
+    (leaf_links c.in-Leaf.ensures) c.requires.node_safe how s _ refl refl)
 
 pub look-overflow_sub-below : goal.look-overflow_sub-below
 look-overflow_sub-below t c =
     let a = c.args in
     let d = c.args.drawing.now in
     levels_remaining d.triangles.now d.order.now d.links.now d.boxes.now a.depth a.node a.measured _ _ _
-    c.in-Branch.ensures.1.1 c.requires.node_safe c.in-Branch.ensures.1.0
+    (branch_links c.in-Branch.ensures) c.requires.node_safe c.in-Branch.ensures.no_leaf
 
 pub look-look_if_entered-then-requires : goal.look-look_if_entered-then-requires
 look-look_if_entered-then-requires t c =
     let a = c.args in
     let d = c.args.drawing.now in (
       falls_in a.depth t (levels_remaining d.triangles.now d.order.now d.links.now d.boxes.now a.depth a.node a.measured _ _ _
-          c.in-Branch.ensures.1.1 c.requires.node_safe c.in-Branch.ensures.1.0) (omega arith),
+          (branch_links c.in-Branch.ensures) c.requires.node_safe c.in-Branch.ensures.no_leaf) (omega arith),
       (
         right_needs d.triangles.now d.order.now d.links.now d.boxes.now (a.depth - 1) _ _ a.measured
             (pair_needs d.triangles.now d.order.now d.links.now d.boxes.now a.depth a.node a.measured _ _ _
-            c.in-Branch.ensures.1.1 c.requires.node_safe c.in-Branch.ensures.1.0),
+            (branch_links c.in-Branch.ensures) c.requires.node_safe c.in-Branch.ensures.no_leaf),
         c.requires.lent,
       ),
     )
@@ -73,11 +74,11 @@ look-look_if_entered-requires t c =
     let how = source_search binary32 d.triangles.now d.boxes.now (as_point a.probe.now.point) a.probe.now.limit in
     let s = sought_of Computed a.places.now.best a.places.now.which a.measured in (
       falls_in a.depth t (levels_remaining d.triangles.now d.order.now d.links.now d.boxes.now a.depth a.node a.measured _ _ _
-          c.in-Branch.ensures.1.1 c.requires.node_safe c.in-Branch.ensures.1.0) (omega arith),
+          (branch_links c.in-Branch.ensures) c.requires.node_safe c.in-Branch.ensures.no_leaf) (omega arith),
       (
         then_left_needs d.triangles.now d.order.now d.links.now d.boxes.now (a.depth - 1) _ _ a.measured
             (pair_needs d.triangles.now d.order.now d.links.now d.boxes.now a.depth a.node a.measured _ _ _
-            c.in-Branch.ensures.1.1 c.requires.node_safe c.in-Branch.ensures.1.0) how s _ refl
+            (branch_links c.in-Branch.ensures) c.requires.node_safe c.in-Branch.ensures.no_leaf) how s _ refl
             (reached_is c.look_if_entered-then.ensures),
         c.look_if_entered-then.ensures.holds.lent,
       ),
@@ -93,7 +94,7 @@ look-returns-in-Branch t c =
     (reached_then (λ most. how) d.order.now d.links.now (a.depth - 1) _ c.look_if_entered-then.ensures
     c.look_if_entered.ensures)
     (root_pair_answers d.triangles.now d.order.now d.links.now d.boxes.now a.depth a.node a.measured _ _ _
-    c.in-Branch.ensures.1.1 c.requires.node_safe how s _ c.in-Branch.ensures.1.0
+    (branch_links c.in-Branch.ensures) c.requires.node_safe how s _ c.in-Branch.ensures.no_leaf
     (right_answers how d.order.now d.links.now (a.depth - 1) _ _ s _ _ refl refl refl))
 
 pub look_if_entered-does_enter-requires : goal.look_if_entered-does_enter-requires

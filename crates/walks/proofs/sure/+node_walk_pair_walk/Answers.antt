@@ -11,6 +11,7 @@ use Rattle.spec_search.specs.Ranked.{Sorted}
 use Rattle.spec_search.proofs.Walked.{walk_skipped}
 use Rattle.spec_search.proofs.Steps.{hangs_there, leaf_needs, pair_needs, levels_remaining, leaf_answers, pair_answers, left_needs, right_needs, then_left_needs, then_right_needs, right_answers, left_answers, right_alone, left_alone, skipped_here, right_first_here, few_sorted, few_skipped}
 use Rattle.walks.specs.declared.answer.Measures.TheVariants.{Held}
+use Rattle.walks.proofs.Links.{leaf_links, branch_links}
 use Rattle.walks.proofs.Reached.{reached_is, reached_on, reached_still, walk_sound, few_then}
 use Rattle.walks.proofs.sure.+node_walk_pair_walk.Goals as goal
 
@@ -36,36 +37,36 @@ node_walk-node_at-requires t c =
 
 pub node_walk-measure_leaf-requires : goal.node_walk-measure_leaf-requires
 node_walk-measure_leaf-requires t c =
-    let wanted = leaf_needs _ _ _ _ _ _ _ _ _ _ c.in-Leaf.ensures c.requires.node_safe refl in
+    let wanted = leaf_needs _ _ _ _ _ _ _ _ _ _ (leaf_links c.in-Leaf.ensures) c.requires.node_safe refl in
     record { entries_below = wanted.0; first_le_last = wanted.1.0; first_bound = wanted.1.1; ready = c.requires.sound }
 
 -- a leaf
 pub node_walk-returns-in-Leaf : goal.node_walk-returns-in-Leaf
 node_walk-returns-in-Leaf t c =
     reached_on c.measure_leaf.ensures
-    (leaf_answers _ _ _ _ _ _ _ _ _ _ c.in-Leaf.ensures c.requires.node_safe _ _ _
+    (leaf_answers _ _ _ _ _ _ _ _ _ _ (leaf_links c.in-Leaf.ensures) c.requires.node_safe _ _ _
     (skipped_here binary32 _ _ _ _ _ _ _ _ false c.requires.squared_value c.is_skipped.ensures c.if-is_skipped.false)
     refl refl)
 
 pub node_walk-overflow_sub-depth : goal.node_walk-overflow_sub-depth
 node_walk-overflow_sub-depth t c =
     let safe = c.requires.node_safe in
-    levels_remaining _ _ _ _ _ _ _ _ _ _ c.in-Branch.ensures.1.1 safe c.in-Branch.ensures.1.0
+    levels_remaining _ _ _ _ _ _ _ _ _ _ (branch_links c.in-Branch.ensures) safe c.in-Branch.ensures.no_leaf
 
 pub node_walk-pair_walk-requires : goal.node_walk-pair_walk-requires
 node_walk-pair_walk-requires t c =
     let safe = c.requires.node_safe in (
-      falls_in c.args.depth t (levels_remaining _ _ _ _ _ _ _ _ _ _ c.in-Branch.ensures.1.1 safe c.in-Branch.ensures.1.0) (omega arith),
-      (pair_needs _ _ _ _ _ _ _ _ _ _ c.in-Branch.ensures.1.1 safe c.in-Branch.ensures.1.0, c.requires.sound),
+      falls_in c.args.depth t (levels_remaining _ _ _ _ _ _ _ _ _ _ (branch_links c.in-Branch.ensures) safe c.in-Branch.ensures.no_leaf) (omega arith),
+      (pair_needs _ _ _ _ _ _ _ _ _ _ (branch_links c.in-Branch.ensures) safe c.in-Branch.ensures.no_leaf, c.requires.sound),
     )
 
 -- a branch
 pub node_walk-returns-in-Branch : goal.node_walk-returns-in-Branch
 node_walk-returns-in-Branch t c =
     reached_on c.pair_walk.ensures
-    (pair_answers _ _ _ _ _ _ _ _ _ _ c.in-Branch.ensures.1.1 c.requires.node_safe _ _ _
+    (pair_answers _ _ _ _ _ _ _ _ _ _ (branch_links c.in-Branch.ensures) c.requires.node_safe _ _ _
     (skipped_here binary32 _ _ _ _ _ _ _ _ false c.requires.squared_value c.is_skipped.ensures c.if-is_skipped.false)
-    c.in-Branch.ensures.1.0 refl)
+    c.in-Branch.ensures.no_leaf refl)
 
 -- ---- a pair
 pub pair_walk-node_squared-to_left-requires : goal.pair_walk-node_squared-to_left-requires

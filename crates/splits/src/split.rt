@@ -1,7 +1,0 @@
-// Where a rule cuts a slice.
-#[derive(Clone, Copy)]
-pub enum Split {
-    // Before this entry of the slice.
-    At(usize),
-    Nowhere,
-}
