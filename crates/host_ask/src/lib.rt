@@ -6,3 +6,4 @@ pub mod calls;
 pub mod fast_windings;
 pub mod point_queries;
 pub mod point_windings;
+pub mod windings;
