@@ -13,7 +13,6 @@ use grow::tables::{put_bounds, put_centres, put_order};
 use lists::refusal::Refusal;
 use lists::settings::Settings;
 use lists::tests::triangle_count;
-use splits::strategy::Strategy;
 
 // A tree that was built: its node count and its depth.
 #[derive(Clone, Copy)]
@@ -53,7 +52,7 @@ fn grow_tree(
     let grown = grow(
         bounds,
         centres,
-        Strategy::of_number(settings.strategy),
+        settings.strategy,
         settings.leaf_minimum,
         settings.maximum_depth.saturating_sub(1),
         &mut order[..count],

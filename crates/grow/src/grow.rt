@@ -2,19 +2,18 @@
 // The nodes of the left subtree are written first, then those of the right one, then the branch itself.
 ghost use Rattle.std.specs.Float.{binary32};
 ghost use Rattle.shapes.specs.Values as Shapes;
-ghost use Rattle.splits.specs.Values as Rules;
 ghost use Rattle.spec_build.specs.Growing.{Growable, GrownIs};
 
 use crate::nodes::{Grown, put_branch, put_leaf};
 use crate::tries::try_slice;
-use splits::strategy::Strategy;
 
+// Kept: (a) the strategy stays a number, since `GrownIs` says what is grown for any; `try_slice` reads it.
 // Grows the tree of the slice, which begins at `entry` of the order list, and answers its root, levels and box.
 // `levels_remaining` levels remain below this one. The slice is left in the order of the leaves, and the nodes stand in the lists from `node` on.
 pub fn grow(
     bounds: &[f32],
     centres: &[f32],
-    strategy: Strategy,
+    strategy: usize,
     leaf_minimum: usize,
     levels_remaining: usize,
     slice: &mut [u32],
@@ -25,7 +24,7 @@ pub fn grow(
     node: usize,
 ) -> Grown
     requires { Growable binary32 bounds.now centres.now leaf_minimum levels_remaining slice.old scratch.old entry links.old boxes.old node }
-    ensures { GrownIs binary32 bounds.now (Rules.number_of strategy) leaf_minimum levels_remaining slice.old slice.new entry
+    ensures { GrownIs binary32 bounds.now strategy leaf_minimum levels_remaining slice.old slice.new entry
         links.old links.new boxes.old boxes.new node result.root result.levels (Shapes.as_box result.bounds) }
 {
     if (levels_remaining == 0) | (slice.len() <= leaf_minimum) {

@@ -89,14 +89,21 @@ fn try_axes(
 pub fn try_slice(
     bounds: &[f32],
     centres: &[f32],
-    strategy: Strategy,
+    strategy: usize,
     slice: &mut [u32],
     scratch: &mut [u32],
 ) -> Option<usize>
     requires { Triable binary32 bounds.now centres.now slice.old scratch.old }
     ensures { Tries.split_as slice.new (Rules.as_split result)
-        ≡ Tries.tried binary32 (Splits.box_in bounds.now) (Rules.number_of strategy) slice.old }
+        ≡ Tries.tried binary32 (Splits.box_in bounds.now) strategy slice.old }
 {
     let parent = union_of(bounds, slice);
-    try_axes(bounds, centres, strategy, parent, slice, scratch)
+    try_axes(
+        bounds,
+        centres,
+        Strategy::of_number(strategy),
+        parent,
+        slice,
+        scratch,
+    )
 }

@@ -1,5 +1,6 @@
 // Lines: words and numbers with one space between them, and a line feed.
 // Kept: (a) no `Display`: a line is written into lent bytes, with no heap, and its contract says each of its bytes.
+// Kept: (d) `at` beside `out`. As a part, `put_word(&mut out[at..], word)`, each contract would tell what stands in front of the part too.
 ghost use Rattle.std.specs.Prelude.{◌≡◌, [], ◌∷◌, ◌+◌, ◌≤◌, length};
 ghost use Rattle.spec_tables.specs.Tables.{Put};
 ghost use Rattle.spec_printing.specs.Printed.{spaced_decimal, spaced_hex, named, counts_line, found_line, longest_found, nothing_line, refused_line};

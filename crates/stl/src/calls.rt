@@ -5,7 +5,7 @@ ghost use Rattle.lists.specs.Values.{as_verdict};
 ghost use Rattle.spec_stl.specs.Calls.{read_refusal, write_refusal};
 ghost use Rattle.stl.specs.Values.{ReadIs, WrittenIs};
 
-use crate::get::{corners_refusal, count_of, read_facets, size_refusal};
+use crate::get::{Facets, size_refusal};
 use crate::put::put_stl;
 use lists::refusal::{Refusal, room_refusal};
 use lists::tests::{triangle_count, triangles_refusal};
@@ -15,9 +15,9 @@ fn read_refusal(bytes: &[u8], room: usize) -> Result<(), Refusal>
     ensures { as_verdict result ≡ read_refusal bytes.now room }
 {
     size_refusal(bytes)?;
-    let count = count_of(bytes);
-    corners_refusal(bytes, count)?;
-    room_refusal(room, 9 * count)
+    let facets = Facets::of(bytes);
+    facets.corners_refusal()?;
+    room_refusal(room, 9 * facets.count)
 }
 
 // Leaves the triangles of an STL at the front of the list and answers how many there are. Entries behind them stay as they were.
@@ -26,9 +26,9 @@ pub fn read_stl(bytes: &[u8], triangles: &mut [f32]) -> Result<usize, Refusal>
     ensures { ReadIs bytes.now triangles.old result triangles.new }
 {
     read_refusal(bytes, triangles.len())?;
-    let count = count_of(bytes);
-    read_facets(bytes, count, triangles);
-    Ok(count)
+    let facets = Facets::of(bytes);
+    facets.read(triangles);
+    Ok(facets.count)
 }
 
 // 1 to 4, then 6.

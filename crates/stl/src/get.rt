@@ -1,4 +1,4 @@
-// Reads an STL: its count, what is refused of it, and its triangles. Everything is tested in the bytes, before anything is written.
+// Reads an STL: its facets, what is refused of it, and its triangles. Everything is tested in the bytes, before anything is written.
 ghost use Rattle.std.specs.Prelude.{◌≡◌, ◌*◌, ◌^◌, ◌≤◌, ◌<◌, length};
 ghost use Rattle.lists.specs.Values.{as_verdict};
 ghost use Rattle.spec_tables.specs.Tables.{overwrite, concat_map};
@@ -13,7 +13,7 @@ use records::entries::read_f32s;
 use records::numbers::u32_at;
 
 // How many triangles the bytes say that they hold.
-pub fn count_of(bytes: &[u8]) -> usize
+fn count_of(bytes: &[u8]) -> usize
     requires { 84 ≤ length bytes.now }
     ensures value { result ≡ stl_count bytes.now }
     ensures upper_bound { result < 2 ^ 32 }
@@ -32,38 +32,60 @@ pub fn size_refusal(bytes: &[u8]) -> Result<(), Refusal>
     )
 }
 
-// The index of the first number of the first `count` facets' corners that is no coordinate, or how many numbers they have.
-fn first_bad_corner(bytes: &[u8], count: usize) -> usize
-    requires { stl_size count ≤ length bytes.now }
-    ensures { result ≡ first_bad (concat_map (corners_in bytes.now) count) }
-{
-    for i in 0..count {
-        let at = first_bad_in(bytes, 84 + 50 * i + 12, 9);
-        if at < 9 {
-            return 9 * i + at;
+// The facets of an STL: its bytes, which have room for as many as their count says.
+#[derive(Clone, Copy)]
+pub struct Facets<'a> {
+    bytes: &'a [u8],
+    pub count: usize,
+    ghost count_is: { count ≡ stl_count bytes.now },
+    ghost room: { stl_size count ≤ length bytes.now },
+}
+
+impl<'a> Facets<'a> {
+    // The facets of bytes of the right size.
+    pub fn of(bytes: &'a [u8]) -> Facets<'a>
+        requires { stl_size (stl_count bytes.now) ≤ length bytes.now }
+        ensures { result.bytes.now ≡ bytes.now }
+    {
+        Facets {
+            bytes,
+            count: count_of(bytes),
         }
     }
-    9 * count
-}
 
-// 2 to 4 of the triangles that the bytes hold; a list read from bytes is never ragged.
-pub fn corners_refusal(bytes: &[u8], count: usize) -> Result<(), Refusal>
-    requires count_in_bounds { stl_size count ≤ length bytes.now }
-    requires count_value { count ≡ stl_count bytes.now }
-    ensures { as_verdict result ≡ triangles_refusal (stl_triangles bytes.now) }
-{
-    refused_if(count == 0, Refusal::NoTriangle)?;
-    refused_if(limits::MAX_TRIANGLES < count, Refusal::TooManyTriangles)?;
-    let at = first_bad_corner(bytes, count);
-    refused_if(at < 9 * count, Refusal::BadCoordinate(at))
-}
+    // The index of the first number of the corners that is no coordinate, or how many numbers they have.
+    fn first_bad(&self) -> usize
+        ensures { result ≡ first_bad (concat_map (corners_in self.now.bytes.now) self.now.count) }
+    {
+        for i in 0..self.count {
+            let at = first_bad_in(self.bytes, 84 + 50 * i + 12, 9);
+            if at < 9 {
+                return 9 * i + at;
+            }
+        }
+        9 * self.count
+    }
 
-// Leaves the triangles of the first `count` facets at the front of the list.
-pub fn read_facets(bytes: &[u8], count: usize, triangles: &mut [f32])
-    requires { (stl_size count ≤ length bytes.now) × (9 * count ≤ length triangles.old) }
-    ensures { triangles.new ≡ overwrite 0 (concat_map (corners_in bytes.now) count) triangles.old }
-{
-    for i in 0..count {
-        read_f32s(bytes, 84 + 50 * i + 12, 9, triangles, 9 * i);
+    // 2 to 4 of the triangles that the bytes hold; a list read from bytes is never ragged.
+    pub fn corners_refusal(&self) -> Result<(), Refusal>
+        ensures { as_verdict result ≡ triangles_refusal (stl_triangles self.now.bytes.now) }
+    {
+        refused_if(self.count == 0, Refusal::NoTriangle)?;
+        refused_if(
+            limits::MAX_TRIANGLES < self.count,
+            Refusal::TooManyTriangles,
+        )?;
+        let at = self.first_bad();
+        refused_if(at < 9 * self.count, Refusal::BadCoordinate(at))
+    }
+
+    // Leaves the triangles at the front of the list.
+    pub fn read(&self, triangles: &mut [f32])
+        requires { 9 * self.now.count ≤ length triangles.old }
+        ensures { triangles.new ≡ overwrite 0 (stl_triangles self.now.bytes.now) triangles.old }
+    {
+        for i in 0..self.count {
+            read_f32s(self.bytes, 84 + 50 * i + 12, 9, triangles, 9 * i);
+        }
     }
 }

@@ -1,4 +1,5 @@
 // Writes an STL: header, count, facets. What writes answers the index behind what it wrote.
+// Kept: (d) `at` beside `out`. As a part, `put_zeros(12, &mut out[at..])`, each contract would tell what stands in front of the part too.
 ghost use Rattle.std.specs.Prelude.{◌≡◌, ◌+◌, ◌*◌, ◌≤◌, length};
 ghost use Rattle.spec_tables.specs.Tables.{concat_map, Put};
 ghost use Rattle.spec_lists.specs.Reading.{triangle_count};

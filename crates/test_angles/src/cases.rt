@@ -2,7 +2,7 @@
 ghost use Rattle.std.specs.Prelude.{◌≡◌};
 ghost use Rattle.shapes.specs.Values.{as_triangle};
 ghost use Rattle.test_angles.specs.Cases as Cases;
-ghost use Rattle.test_angles.specs.Values.{as_compared};
+ghost use Rattle.test_angles.specs.Values.{as_compared, as_kind};
 
 use crate::words::{number_at, place, point_of, word_at};
 use angles::arc_tangent::angle_or_nan;
@@ -18,26 +18,35 @@ pub struct Case {
     pub theirs: u32,
 }
 
+// What the cases of a section try.
+#[derive(Clone, Copy)]
+pub enum Kind {
+    Root,
+    Angle,
+    Solid,
+}
+
 // How many words a case of a kind takes.
-pub fn words_of(kind: usize) -> usize
-    ensures { result ≡ Cases.words_of kind }
+#[tactic(auto, unfolding(crate::specs::Cases::words_of))]
+pub fn words_of(kind: Kind) -> usize
+    ensures { result ≡ Cases.words_of (as_kind kind) }
 {
-    if kind == 0 {
-        return 2;
+    match kind {
+        Kind::Root => 2,
+        Kind::Angle => 4,
+        Kind::Solid => 13,
     }
-    if kind == 1 {
-        return 4;
-    }
-    13
 }
 
 // Whether the two are within `most` of each other, or both a NaN.
+#[tactic(auto, unfolding(crate::specs::Cases::near))]
 pub fn is_near(ours: f32, theirs: f32, most: f32) -> bool
     ensures { result ≡ Cases.near ours theirs most }
 {
     (floats::absolute(ours - theirs) <= most) | ((ours != ours) & (theirs != theirs))
 }
 
+#[tactic(auto, unfolding(crate::specs::Cases::root_case))]
 fn root_case(block: &[u8], at: usize) -> Case
     ensures { as_compared result ≡ Cases.root_case block.now at }
 {
@@ -51,6 +60,7 @@ fn root_case(block: &[u8], at: usize) -> Case
 }
 
 // Whether ours is within 2^-20 of theirs, which is a whole number of units of 2^-30: 1024 of them.
+#[tactic(auto, unfolding(crate::specs::Cases::near_units))]
 fn is_near_units(ours: f32, units: u32, below_zero: u32) -> bool
     ensures { result ≡ Cases.near_units ours units below_zero }
 {
@@ -63,6 +73,7 @@ fn is_near_units(ours: f32, units: u32, below_zero: u32) -> bool
     (found <= wanted + 1024) & (wanted <= found + 1024) & (sign == below_zero)
 }
 
+#[tactic(auto, unfolding(crate::specs::Cases::angle_case))]
 fn angle_case(block: &[u8], at: usize) -> Case
     ensures { as_compared result ≡ Cases.angle_case block.now at }
 {
@@ -76,6 +87,7 @@ fn angle_case(block: &[u8], at: usize) -> Case
     }
 }
 
+#[tactic(auto, unfolding(crate::specs::Cases::triangle_of))]
 fn triangle_of(block: &[u8], at: usize) -> Triangle3
     ensures { as_triangle result ≡ Cases.triangle_of block.now at }
 {
@@ -86,6 +98,7 @@ fn triangle_of(block: &[u8], at: usize) -> Triangle3
     }
 }
 
+#[tactic(auto, unfolding(crate::specs::Cases::solid_case))]
 fn solid_case(block: &[u8], at: usize) -> Case
     ensures { as_compared result ≡ Cases.solid_case block.now at }
 {
@@ -98,15 +111,14 @@ fn solid_case(block: &[u8], at: usize) -> Case
     }
 }
 
-// The case of this kind from the word `at` on. Kind 0 is a root, 1 an angle, 2 a solid angle.
-pub fn case_at(block: &[u8], kind: usize, at: usize) -> Case
-    ensures { as_compared result ≡ Cases.case_at block.now kind at }
+// The case of this kind from the word `at` on.
+#[tactic(auto, unfolding(crate::specs::Cases::case_at))]
+pub fn case_at(block: &[u8], kind: Kind, at: usize) -> Case
+    ensures { as_compared result ≡ Cases.case_at block.now (as_kind kind) at }
 {
-    if kind == 0 {
-        return root_case(block, at);
+    match kind {
+        Kind::Root => root_case(block, at),
+        Kind::Angle => angle_case(block, at),
+        Kind::Solid => solid_case(block, at),
     }
-    if kind == 1 {
-        return angle_case(block, at);
-    }
-    solid_case(block, at)
 }

@@ -7,24 +7,27 @@ use shapes::vec3::Vec3;
 use test_words::pattern_at;
 
 // The word at this index.
+#[tactic(auto, unfolding(crate::specs::Words::word_at))]
 pub fn word_at(block: &[u8], index: usize) -> u32
     ensures { result ≡ Words.word_at block.now index }
 {
     if index < 16384 {
-        return pattern_at(block, 4 * index);
+        pattern_at(block, 4 * index)
+    } else {
+        0
     }
-    0
 }
 
 // The word as a count, at most 16384.
+#[tactic(auto, unfolding(crate::specs::Words::size_at))]
 pub fn size_at(block: &[u8], index: usize) -> usize
     ensures { result ≡ Words.size_at block.now index }
 {
-    let size = word_at(block, index);
-    if size < 16384 { size as usize } else { 16384 }
+    (word_at(block, index) as usize).min(16384)
 }
 
 // The word as a number.
+#[tactic(auto, unfolding(crate::specs::Words::number_at))]
 pub fn number_at(block: &[u8], index: usize) -> f32
     ensures { result ≡ Words.number_at block.now index }
 {
@@ -32,6 +35,7 @@ pub fn number_at(block: &[u8], index: usize) -> f32
 }
 
 // at + size * i, or the end where that is past it.
+#[tactic(auto, unfolding(crate::specs::Words::place))]
 pub fn place(at: usize, size: usize, i: usize) -> usize
     ensures { result ≡ Words.place at size i }
 {
@@ -45,6 +49,7 @@ pub fn place(at: usize, size: usize, i: usize) -> usize
 }
 
 // The point in three words.
+#[tactic(auto, unfolding(crate::specs::Words::point_at))]
 pub fn point_of(block: &[u8], at: usize) -> Vec3
     ensures { as_point result ≡ Words.point_at block.now at }
 {
@@ -56,6 +61,7 @@ pub fn point_of(block: &[u8], at: usize) -> Vec3
 }
 
 // How many words the mesh at `at` takes: two counts, nine a triangle, and four a point.
+#[tactic(auto, unfolding(crate::specs::Words::mesh_words))]
 pub fn mesh_words(block: &[u8], at: usize) -> usize
     ensures { result ≡ Words.mesh_words block.now at }
 {
@@ -70,8 +76,8 @@ pub fn numbers_from(block: &[u8], at: usize) -> [f32; 720]
     ensures result_len { length result ≡ 720 }
 {
     let mut numbers = [0.0f32; 720];
-    for i in 0..720 {
-        numbers[i] = number_at(block, place(at, 1, i));
+    for (i, entry) in numbers.iter_mut().enumerate() {
+        *entry = number_at(block, place(at, 1, i));
     }
     numbers
 }

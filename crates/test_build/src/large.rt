@@ -1,5 +1,6 @@
 // Trees of up to 4,097 triangles that a rule of numbers makes, printed as counts and digests.
 use build::calls::Built;
+use test_words::Word;
 
 #[derive(Clone, Copy)]
 struct Case {
@@ -24,11 +25,9 @@ fn coordinate(state: u64, range: u64, index: usize) -> f32 {
 
 fn fill(triangles: &mut [f32], range: u64) {
     let mut state: u64 = 1;
-    let mut i = 0;
-    while i < triangles.len() {
+    for (i, entry) in triangles.iter_mut().enumerate() {
         state = next(state);
-        triangles[i] = coordinate(state, range, i);
-        i += 1;
+        *entry = coordinate(state, range, i);
     }
 }
 
@@ -37,24 +36,9 @@ fn with_word(digest: u64, word: u32) -> u64 {
     (digest % 4294967291 * 31 + word as u64) % 4294967291
 }
 
-fn digest_numbers(list: &[u32]) -> u64 {
-    let mut digest: u64 = 7;
-    let mut i = 0;
-    while i < list.len() {
-        digest = with_word(digest, list[i]);
-        i += 1;
-    }
-    digest
-}
-
-fn digest_floats(list: &[f32]) -> u64 {
-    let mut digest: u64 = 7;
-    let mut i = 0;
-    while i < list.len() {
-        digest = with_word(digest, floats::bits_of(list[i]));
-        i += 1;
-    }
-    digest
+fn digest<T: Word>(list: &[T]) -> u64 {
+    list.iter()
+        .fold(7, |digest, entry| with_word(digest, entry.pattern()))
 }
 
 fn put(n: u64) {
@@ -65,14 +49,14 @@ fn put(n: u64) {
 fn put_tree(nodes: usize, depth: usize, order: &[u32], links: &[u32], boxes: &[f32]) {
     put(nodes as u64);
     put(depth as u64);
-    put(digest_numbers(order));
+    put(digest(order));
     let kinds = 3 * (nodes % 8194);
     let numbers = 6 * (nodes % 8194);
     if kinds <= links.len() {
-        put(digest_numbers(&links[0..kinds]));
+        put(digest(&links[0..kinds]));
     }
     if numbers <= boxes.len() {
-        put(digest_floats(&boxes[0..numbers]));
+        put(digest(&boxes[0..numbers]));
     }
     io::write_all(1, b"\n");
 }
@@ -133,20 +117,15 @@ fn run(case: Case) {
 }
 
 fn run_both(triangles: usize, leaf_minimum: usize, maximum_depth: usize, range: u64) {
-    run(Case {
-        triangles,
-        strategy: 1,
-        leaf_minimum,
-        maximum_depth,
-        range,
-    });
-    run(Case {
-        triangles,
-        strategy: 2,
-        leaf_minimum,
-        maximum_depth,
-        range,
-    });
+    for strategy in [1, 2] {
+        run(Case {
+            triangles,
+            strategy,
+            leaf_minimum,
+            maximum_depth,
+            range,
+        });
+    }
 }
 
 pub(crate) fn put_all() {

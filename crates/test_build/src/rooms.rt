@@ -2,11 +2,7 @@
 ghost use Rattle.std.specs.Prelude.{◌≤◌, length};
 
 use build::calls::{Built, build};
-
-fn put_number(n: usize) {
-    io::write_all(1, b" ");
-    io::print_decimal(1, n as u64);
-}
+use test_words::put_number;
 
 fn put_built(built: Built) {
     match built {
@@ -24,28 +20,20 @@ fn put_built(built: Built) {
     }
 }
 
-fn put_word(word: u32) {
-    put_number(word as usize);
-}
-
 // The entries of a working list: 7 as before the call, else the bits.
 fn put_floats(list: &[f32]) {
-    let mut i = 0;
-    while i < list.len() {
-        if list[i] == 7.0 {
+    for x in list {
+        if *x == 7.0 {
             put_number(7);
         } else {
-            put_word(floats::bits_of(list[i]));
+            put_number(floats::bits_of(*x) as usize);
         }
-        i += 1;
     }
 }
 
 fn put_numbers(list: &[u32]) {
-    let mut i = 0;
-    while i < list.len() {
-        put_word(list[i]);
-        i += 1;
+    for x in list {
+        put_number(*x as usize);
     }
 }
 

@@ -45,7 +45,8 @@ fn tree_boxes() -> [f32; 18] {
     ]
 }
 
-fn put_order(order: &[u32]) {
+fn put_order(name: &[u8], order: &[u32]) {
+    io::write_all(1, name);
     let links = tree_links();
     let boxes = tree_boxes();
     put_lists(order, &links, &boxes, 3);
@@ -117,10 +118,8 @@ fn put_several() {
 // 0, 1 and so on.
 fn numbers() -> [u32; 65] {
     let mut order = [0u32; 65];
-    let mut t = 0u32;
-    while t < 65 {
-        order[t as usize] = t;
-        t += 1;
+    for (t, entry) in order.iter_mut().enumerate() {
+        *entry = t as u32;
     }
     order
 }
@@ -139,12 +138,10 @@ fn put_node(links: &mut [u32; 387], node: usize, kind: u32, left: u32, right: u3
 fn comb() -> [u32; 387] {
     let mut links = [0u32; 387];
     put_node(&mut links, 0, 1, 0, 1);
-    let mut t = 1u32;
-    while t < 65 {
+    for t in 1..65u32 {
         let branch = 2 * t;
         put_node(&mut links, branch as usize - 1, 1, t, t + 1);
         put_node(&mut links, branch as usize, 2, branch - 2, branch - 1);
-        t += 1;
     }
     links
 }
@@ -153,11 +150,9 @@ fn comb() -> [u32; 387] {
 fn other_comb() -> [u32; 387] {
     let mut links = [0u32; 387];
     put_node(&mut links, 0, 1, 0, 1);
-    let mut t = 1u32;
-    while t < 65 {
+    for t in 1..65u32 {
         put_node(&mut links, t as usize, 1, t, t + 1);
         put_node(&mut links, t as usize + 64, 2, 64 - t, 63 + t);
-        t += 1;
     }
     links
 }
@@ -181,46 +176,28 @@ fn put_comb(links: &[u32], n: usize)
 }
 
 fn main() {
-    let order = tree_order();
-    io::write_all(1, b"the tree");
-    put_order(&order);
-    io::write_all(1, b"order 1 0");
-    let changed_over = [1u32, 0];
-    put_order(&changed_over);
-    io::write_all(1, b"order 0 0");
-    let repeated = [0u32, 0];
-    put_order(&repeated);
-    io::write_all(1, b"order 0 2");
-    let second_out_of_range = [0u32, 2];
-    put_order(&second_out_of_range);
-    io::write_all(1, b"order 2 0");
-    let first_out_of_range = [2u32, 0];
-    put_order(&first_out_of_range);
-    io::write_all(1, b"order 0");
-    put_order(&order[0..1]);
-    io::write_all(1, b"order");
-    put_order(&order[0..0]);
-    io::write_all(1, b"order 0 1 0");
-    let longer = [0u32, 1, 0];
-    put_order(&longer);
+    put_order(b"the tree", &[0, 1]);
+    put_order(b"order 1 0", &[1, 0]);
+    put_order(b"order 0 0", &[0, 0]);
+    put_order(b"order 0 2", &[0, 2]);
+    put_order(b"order 2 0", &[2, 0]);
+    put_order(b"order 0", &[0]);
+    put_order(b"order", &[]);
+    put_order(b"order 0 1 0", &[0, 1, 0]);
     io::write_all(1, b"so many nodes, 0 to 4\n");
-    put_counts(0, 9, 18);
-    put_counts(1, 9, 18);
-    put_counts(2, 9, 18);
-    put_counts(3, 9, 18);
-    put_counts(4, 9, 18);
+    for nodes in 0..5 {
+        put_counts(nodes, 9, 18);
+    }
     io::write_all(1, b"links with one entry too few\n");
     put_counts(3, 8, 18);
     io::write_all(1, b"boxes with one number too few\n");
     put_counts(3, 9, 17);
-    io::write_all(1, b"each link as 0\n");
-    put_each_link(0);
-    io::write_all(1, b"each link as 1\n");
-    put_each_link(1);
-    io::write_all(1, b"each link as 2\n");
-    put_each_link(2);
-    io::write_all(1, b"each link as 3\n");
-    put_each_link(3);
+    for value in 0..4u32 {
+        io::write_all(1, b"each link as ");
+        io::print_decimal(1, value as u64);
+        io::write_all(1, b"\n");
+        put_each_link(value);
+    }
     io::write_all(1, b"each box number as minus zero\n");
     put_each_box();
     put_several();

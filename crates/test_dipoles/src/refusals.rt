@@ -56,13 +56,7 @@ fn put_verdict(v: Verdict) {
 
 // Whether every entry is the 7 that was lent.
 fn is_kept(list: &[f32]) -> bool {
-    let mut kept = true;
-    let mut i = 0;
-    while i < list.len() {
-        kept = kept & (floats::bits_of(list[i]) == 0x40e0_0000);
-        i += 1;
-    }
-    kept
+    list.iter().all(|x| floats::bits_of(*x) == 0x40e0_0000)
 }
 
 fn put_kept(list: &[f32]) {
@@ -192,20 +186,21 @@ fn put_several() {
     put_winding(asked, 3, 48, 0);
 }
 
-fn put_scales() {
-    put_scale(0x0000_0000);
-    put_scale(0x8000_0000);
-    put_scale(0x0000_0001);
-    put_scale(0x447a_0000);
-    put_scale(0x447a_0001);
-    put_scale(0x447a_0002);
-    put_scale(0x8000_0001);
-    put_scale(0xbf80_0000);
-    put_scale(0x7f80_0000);
-    put_scale(0xff80_0000);
-    put_scale(0x7fc0_0000);
-    put_scale(0xffc0_0000);
-}
+// 0, minus zero, the least number, 1,000 and the two numbers behind it, the opposite of the least number, -1, infinities, NaNs.
+const SCALES: [u32; 12] = [
+    0x0000_0000,
+    0x8000_0000,
+    0x0000_0001,
+    0x447a_0000,
+    0x447a_0001,
+    0x447a_0002,
+    0x8000_0001,
+    0xbf80_0000,
+    0x7f80_0000,
+    0xff80_0000,
+    0x7fc0_0000,
+    0xffc0_0000,
+];
 
 pub fn put_refusals() {
     put_sums_of(18, 49);
@@ -226,6 +221,8 @@ pub fn put_refusals() {
     put_point(0, 0x4980_0001, 0x7fc0_0000);
     put_point(0, 0x4980_0000, 0xc980_0000);
     put_point(0, 0, 0xff80_0000);
-    put_scales();
+    for pattern in SCALES {
+        put_scale(pattern);
+    }
     put_several();
 }

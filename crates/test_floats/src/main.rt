@@ -91,29 +91,17 @@ fn put_held(lo: u32, hi: u32, x: u32) {
     put_end();
 }
 
-// Prints a pair of SOME before the first of its triples, and the triple. The last number changes fastest.
-fn put_triple(k: usize) {
-    let some = SOME;
-    let first = some[k / 100 % 10];
-    let second = some[k / 10 % 10];
-    if k % 10 == 0 {
-        put_pair(first, second);
-    }
-    put_held(first, second, some[k % 10]);
-}
-
-// The 24 values come first, then the 1,000 triples.
-fn put_case(k: usize) {
-    let each = EACH;
-    if k < 24 {
-        put_each(each[k]);
-    } else {
-        put_triple(k - 24);
-    }
-}
-
+// The 24 values come first, then the pairs of the ten, each before its ten triples.
 fn main() {
-    for k in 0..1024 {
-        put_case(k);
+    for pattern in EACH {
+        put_each(pattern);
+    }
+    for first in SOME {
+        for second in SOME {
+            put_pair(first, second);
+            for x in SOME {
+                put_held(first, second, x);
+            }
+        }
     }
 }

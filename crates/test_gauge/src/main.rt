@@ -11,14 +11,13 @@ fn print_one(input: &[u8]) {
 // Prints for the next input, if there is one that fits.
 fn print_next() {
     let mut all = [0u8; 32769];
-    let size = test_words::read_case(&mut all);
-    if size <= 32769 {
-        print_one(&all[0..size]);
+    if let Some(input) = test_words::read_case(&mut all) {
+        print_one(input);
     }
 }
 
 fn main() {
-    for turn in 0..2000usize {
+    for _ in 0..2000 {
         print_next();
     }
 }

@@ -7,16 +7,26 @@
 
 use host_build::calls::build_lists;
 use host_image::calls::{image_max, image_triangles, read_lists, write_lists};
+use lists::settings::Settings;
+use records::numbers::u16_at;
+use test_words::cursor::Cursor;
+use test_words::{read_case, read_next};
+
+// The lists of a drawing that was built.
+#[derive(Clone, Copy)]
+struct Drawing<'a> {
+    triangles: &'a [f32],
+    order: &'a [u32],
+    links: &'a [u32],
+    boxes: &'a [f32],
+    nodes: usize,
+}
 
 fn put_status(status: u64) {
     let mut line = [b'\n'; 17];
     let next = printing::numbers::put_hex(&mut line, 0, (status / 4294967296) as u32);
     printing::numbers::put_hex(&mut line, next, (status % 4294967296) as u32);
     io::write_all(1, &line);
-}
-
-fn wide(x: u32) -> usize {
-    x as usize
 }
 
 // Reads the image back, and writes what was read into other bytes.
@@ -40,9 +50,9 @@ fn put_back(image: &[u8]) {
     if count <= 2 {
         let mut again = [b'.'; 256];
         let size = write_lists(
-            wide(settings[0]),
-            wide(settings[1]),
-            wide(settings[2]),
+            settings[0] as usize,
+            settings[1] as usize,
+            settings[2] as usize,
             &triangles[0..9 * count as usize],
             &order[0..count as usize],
             &links,
@@ -57,26 +67,16 @@ fn put_back(image: &[u8]) {
 }
 
 // Writes the image of what was built to these bytes, which hold nothing yet.
-fn put_lent(
-    strategy: usize,
-    leaf_minimum: usize,
-    maximum_depth: usize,
-    triangles: &[f32],
-    order: &[u32],
-    links: &[u32],
-    boxes: &[f32],
-    nodes: usize,
-    image: &mut [u8],
-) {
+fn put_lent(settings: Settings, drawing: &Drawing, image: &mut [u8]) {
     let size = write_lists(
-        strategy,
-        leaf_minimum,
-        maximum_depth,
-        triangles,
-        order,
-        links,
-        boxes,
-        nodes,
+        settings.strategy,
+        settings.leaf_minimum,
+        settings.maximum_depth,
+        drawing.triangles,
+        drawing.order,
+        drawing.links,
+        drawing.boxes,
+        drawing.nodes,
         image,
     );
     put_status(size);
@@ -89,13 +89,7 @@ fn put_lent(
 }
 
 // Builds in lists with room for two triangles.
-fn put_drawing(
-    strategy: usize,
-    leaf_minimum: usize,
-    maximum_depth: usize,
-    triangles: &[f32],
-    room: usize,
-) {
+fn put_drawing(settings: Settings, triangles: &[f32], room: usize) {
     let mut order = [0u32; 2];
     let mut links = [0u32; 9];
     let mut boxes = [0.0f32; 18];
@@ -103,9 +97,9 @@ fn put_drawing(
     let mut centres = [0.0f32; 6];
     let mut scratch = [0u32; 2];
     let nodes = build_lists(
-        strategy,
-        leaf_minimum,
-        maximum_depth,
+        settings.strategy,
+        settings.leaf_minimum,
+        settings.maximum_depth,
         triangles,
         &mut order,
         &mut links,
@@ -116,63 +110,47 @@ fn put_drawing(
     );
     put_status(nodes);
     let count = triangles.len() / 9;
-    if nodes > 3 {
-        return;
-    }
-    if room > 256 {
-        return;
-    }
-    if count <= 2 {
-        let mut image = [b'.'; 256];
-        put_lent(
-            strategy,
-            leaf_minimum,
-            maximum_depth,
+    if nodes <= 3 && room <= 256 && count <= 2 {
+        let drawing = Drawing {
             triangles,
-            &order[0..count],
-            &links,
-            &boxes,
-            nodes as usize,
-            &mut image[0..room],
-        );
+            order: &order[0..count],
+            links: &links,
+            boxes: &boxes,
+            nodes: nodes as usize,
+        };
+        let mut image = [b'.'; 256];
+        put_lent(settings, &drawing, &mut image[0..room]);
     }
 }
 
 // Builds for the next case, if there is one that fits.
 fn put_next() {
     let mut head = [0u8; 8];
-    if io::read_full(0, &mut head) < 8 {
+    if read_next(8, &mut head).is_none() {
         return;
     }
     let mut all = [0; 256];
-    let size = test_words::read_case(&mut all);
-    if size <= 256 {
-        let count = size / 4;
+    if let Some(bytes) = read_case(&mut all) {
+        let settings = Settings {
+            strategy: u16_at(&head, 0) as usize,
+            leaf_minimum: u16_at(&head, 2) as usize,
+            maximum_depth: u16_at(&head, 4) as usize,
+        };
+        let mut case = Cursor { bytes, at: 0 };
         let mut numbers = [0.0f32; 64];
-        records::entries::read_f32s(&all, 0, count, &mut numbers, 0);
-        put_drawing(
-            records::numbers::u16_at(&head, 0) as usize,
-            records::numbers::u16_at(&head, 2) as usize,
-            records::numbers::u16_at(&head, 4) as usize,
-            &numbers[0..count],
-            records::numbers::u16_at(&head, 6) as usize,
-        );
+        let triangles = case.fill(bytes.len() / 4, &mut numbers);
+        put_drawing(settings, triangles, u16_at(&head, 6) as usize);
     }
 }
 
 // The sizes that a host lends room by: of each version the largest, and where there is none.
-fn put_sizes() {
-    put_status(image_max(0));
-    put_status(image_max(1));
-    put_status(image_max(4096));
-    put_status(image_max(4097));
-    put_status(image_max(65536));
-    put_status(image_max(65537));
-}
+const COUNTS: [usize; 6] = [0, 1, 4096, 4097, 65536, 65537];
 
 fn main() {
-    for turn in 0..100usize {
+    for _ in 0..100 {
         put_next();
     }
-    put_sizes();
+    for count in COUNTS {
+        put_status(image_max(count));
+    }
 }

@@ -5,6 +5,7 @@ ghost use Rattle.std.specs.Prelude.{◌≤◌};
 use image::read::ImageRead;
 use image::write::ImageWritten;
 use lists::settings::Settings;
+use test_words::put_number;
 
 #[derive(Clone, Copy)]
 struct Case {
@@ -33,10 +34,8 @@ fn coordinate(index: usize) -> f32 {
 fn fill_triangles(triangles: &mut [f32], from: usize)
     requires { from ≤ 1 }
 {
-    let mut i = 0;
-    while i < triangles.len() {
-        triangles[i] = coordinate(i + from);
-        i += 1;
+    for (i, entry) in triangles.iter_mut().enumerate() {
+        *entry = coordinate(i + from);
     }
 }
 
@@ -44,33 +43,25 @@ fn fill_triangles(triangles: &mut [f32], from: usize)
 fn fill_order(order: &mut [u32], from: usize)
     requires { from ≤ 1 }
 {
-    let mut i = 0;
-    while i < order.len() {
-        i += 1;
-        order[i - 1] = word(order.len() - i + from);
+    let count = order.len();
+    for (i, entry) in order.iter_mut().enumerate() {
+        *entry = word(count - 1 - i + from);
     }
 }
 
 fn are_triangles(triangles: &[f32]) -> bool {
-    let mut i = 0;
-    while i < triangles.len() {
-        if triangles[i] != coordinate(i) {
-            return false;
-        }
-        i += 1;
-    }
-    true
+    triangles
+        .iter()
+        .enumerate()
+        .all(|(i, number)| *number == coordinate(i))
 }
 
 fn is_order(order: &[u32]) -> bool {
-    let mut i = 0;
-    while i < order.len() {
-        i += 1;
-        if order[i - 1] != word(order.len() - i) {
-            return false;
-        }
-    }
-    true
+    order
+        .iter()
+        .rev()
+        .enumerate()
+        .all(|(i, number)| *number == word(i))
 }
 
 // Two leaves, of half the order list each, and the root.
@@ -89,54 +80,19 @@ fn boxes_of(count: usize) -> [f32; 18] {
     ]
 }
 
-fn are_links(links: &[u32], wanted: &[u32]) -> bool {
-    if links.len() != wanted.len() {
-        return false;
-    }
-    let mut i = 0;
-    while i < links.len() {
-        if links[i] != wanted[i] {
-            return false;
-        }
-        i += 1;
-    }
-    true
-}
-
-fn are_boxes(boxes: &[f32], wanted: &[f32]) -> bool {
-    if boxes.len() != wanted.len() {
-        return false;
-    }
-    let mut i = 0;
-    while i < boxes.len() {
-        if boxes[i] != wanted[i] {
-            return false;
-        }
-        i += 1;
-    }
-    true
-}
-
 fn are_nodes(count: usize, links: [u32; 9], boxes: [f32; 18]) -> bool {
-    let wanted = links_of(count);
-    let over = boxes_of(count);
-    are_links(&links, &wanted) & are_boxes(&boxes, &over)
-}
-
-fn put(n: usize) {
-    io::write_all(1, b" ");
-    io::print_decimal(1, n as u64);
+    links == links_of(count) && boxes == boxes_of(count)
 }
 
 fn put_read(settings: Settings, triangles: usize, nodes: usize, same: bool) {
     io::write_all(1, b"triangles");
-    put(triangles);
+    put_number(triangles);
     io::write_all(1, b" nodes");
-    put(nodes);
+    put_number(nodes);
     io::write_all(1, b" settings");
-    put(settings.strategy);
-    put(settings.leaf_minimum);
-    put(settings.maximum_depth);
+    put_number(settings.strategy);
+    put_number(settings.leaf_minimum);
+    put_number(settings.maximum_depth);
     if same {
         io::write_all(1, b" the same lists\n");
     } else {
@@ -174,11 +130,11 @@ fn try_version(version: u8, bytes: &mut [u8], triangles: &mut [f32], order: &mut
 fn put_written(bytes: &[u8]) {
     if bytes.len() >= 14 {
         io::write_all(1, b"bytes");
-        put(bytes.len());
+        put_number(bytes.len());
         io::write_all(1, b" version");
-        put(records::numbers::u16_at(bytes, 6) as usize);
+        put_number(records::numbers::u16_at(bytes, 6) as usize);
         io::write_all(1, b" leaf");
-        put(records::numbers::u16_at(bytes, 10) as usize);
+        put_number(records::numbers::u16_at(bytes, 10) as usize);
         io::write_all(1, b"\n");
     }
 }
@@ -191,19 +147,14 @@ fn try_fewer(bytes: &[u8], triangles: &mut [f32], order: &mut [u32]) {
     }
 }
 
-fn try_versions(bytes: &mut [u8], triangles: &mut [f32], order: &mut [u32]) {
-    try_version(0, bytes, triangles, order);
-    try_version(1, bytes, triangles, order);
-    try_version(2, bytes, triangles, order);
-    try_version(3, bytes, triangles, order);
-}
-
 // Reads what was written.
 fn try_written(bytes: &mut [u8], triangles: &mut [f32], order: &mut [u32]) {
     put_written(bytes);
     try_read(bytes, triangles, order);
     try_fewer(bytes, triangles, order);
-    try_versions(bytes, triangles, order);
+    for version in 0..4 {
+        try_version(version, bytes, triangles, order);
+    }
 }
 
 fn try_lists(case: Case, triangles: &mut [f32], order: &mut [u32], out: &mut [u8]) {
@@ -235,53 +186,44 @@ fn try_lists(case: Case, triangles: &mut [f32], order: &mut [u32], out: &mut [u8
 fn try_case(case: Case, triangles: &mut [f32], order: &mut [u32], out: &mut [u8]) {
     let count = case.triangles;
     let room = case.room;
-    if count <= order.len() {
-        if triangles.len() / 9 >= count {
-            if room <= out.len() {
-                try_lists(
-                    case,
-                    &mut triangles[0..9 * count],
-                    &mut order[0..count],
-                    &mut out[0..room],
-                );
-            }
-        }
+    if count <= order.len() && count <= triangles.len() / 9 && room <= out.len() {
+        try_lists(
+            case,
+            &mut triangles[0..9 * count],
+            &mut order[0..count],
+            &mut out[0..room],
+        );
     }
 }
 
-fn of(triangles: usize, leaf_minimum: usize, room: usize) -> Case {
-    Case {
-        triangles,
-        leaf_minimum,
-        room,
-    }
-}
-
-// Leaf minima about each limit, and room that just does and just does not, at the last count of version 1, at the first and the last of
-// version 2, and at one more.
-fn case_of(k: usize) -> Case {
-    match k {
-        0 => of(4096, 1, 155770),
-        1 => of(4096, 4096, 155770),
-        2 => of(4096, 4097, 155770),
-        3 => of(4096, 65536, 155770),
-        4 => of(4096, 1, 155769),
-        5 => of(4097, 1, 164014),
-        6 => of(4097, 4097, 164014),
-        7 => of(4097, 65535, 164014),
-        8 => of(4097, 65536, 164014),
-        9 => of(4097, 65537, 164014),
-        10 => of(4097, 0, 164014),
-        11 => of(4097, 1, 164013),
-        12 => of(65536, 65536, 2621574),
-        13 => of(65536, 1, 2621573),
-        _ => of(65537, 1, 2621574),
-    }
-}
+// Triangles, leaf minimum and room: leaf minima about each limit, and room that just does and just does not, at the last count of
+// version 1, at the first and the last of version 2, and at one more.
+const CASES: [(usize, usize, usize); 15] = [
+    (4096, 1, 155770),
+    (4096, 4096, 155770),
+    (4096, 4097, 155770),
+    (4096, 65536, 155770),
+    (4096, 1, 155769),
+    (4097, 1, 164014),
+    (4097, 4097, 164014),
+    (4097, 65535, 164014),
+    (4097, 65536, 164014),
+    (4097, 65537, 164014),
+    (4097, 0, 164014),
+    (4097, 1, 164013),
+    (65536, 65536, 2621574),
+    (65536, 1, 2621573),
+    (65537, 1, 2621574),
+];
 
 fn try_cases(triangles: &mut [f32], order: &mut [u32], out: &mut [u8]) {
-    for k in 0..15usize {
-        try_case(case_of(k), triangles, order, out);
+    for (count, leaf_minimum, room) in CASES {
+        let case = Case {
+            triangles: count,
+            leaf_minimum,
+            room,
+        };
+        try_case(case, triangles, order, out);
     }
 }
 

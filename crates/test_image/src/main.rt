@@ -27,13 +27,6 @@ fn image_line(bytes: &[u8], line: &mut [u8; 96]) -> usize {
     }
 }
 
-fn one_if(told: bool) -> usize {
-    if told {
-        return 1;
-    }
-    0
-}
-
 // The third count is 1 where there is a measuring rule.
 fn gauge_line(bytes: &[u8], line: &mut [u8; 96]) -> usize {
     match records::layout::gauge_layout(bytes) {
@@ -42,7 +35,7 @@ fn gauge_line(bytes: &[u8], line: &mut [u8; 96]) -> usize {
             triangles,
             points,
             ruled,
-        } => printing::lines::put_counts(line, 0, triangles, points, one_if(ruled)),
+        } => printing::lines::put_counts(line, 0, triangles, points, ruled as usize),
     }
 }
 
@@ -133,18 +126,16 @@ fn put_contents(bytes: &[u8]) {
             triangles: count,
             nodes,
         } => {
-            if count <= 4 {
-                if nodes <= 7 {
-                    write_again(
-                        bytes,
-                        settings,
-                        &triangles[..9 * count],
-                        &order[..count],
-                        &links,
-                        &boxes,
-                        nodes,
-                    );
-                }
+            if count <= 4 && nodes <= 7 {
+                write_again(
+                    bytes,
+                    settings,
+                    &triangles[..9 * count],
+                    &order[..count],
+                    &links,
+                    &boxes,
+                    nodes,
+                );
             }
         }
     }
@@ -153,16 +144,14 @@ fn put_contents(bytes: &[u8]) {
 // Prints for the next case, if there is one that fits.
 fn put_next() {
     let mut all = [0; 512];
-    let size = test_words::read_case(&mut all);
-    if size <= 512 {
-        let bytes = &all[0..size];
+    if let Some(bytes) = test_words::read_case(&mut all) {
         put_layouts(bytes);
         put_contents(bytes);
     }
 }
 
 fn main() {
-    for turn in 0..1000usize {
+    for _ in 0..1000 {
         put_next();
     }
     crate::large::put_all();

@@ -2,38 +2,42 @@
 // tests/oracle/leaves.rs made both, with the Rust's own `traverse`.
 #![tactic(auto)]
 
+ghost use Rattle.std.specs.Prelude.{◌≤◌};
 ghost use Rattle.spec_tree.specs.Leaves as Leaves;
 
 use leaves::calls::{LeafFound, LeavesCounted, leaf_entry, leaf_from, leaves};
 use leaves::reader::EntryFound;
 use shapes::box3::Box3;
 use shapes::vec3::Vec3;
-use test_words::{fill_floats, fill_numbers, more, pattern_at};
+use test_words::cursor::Cursor;
+use test_words::{more, pattern_at, put_number, put_word, read_next};
 
-// The first two words of a case.
+// The lists of a case.
 #[derive(Clone, Copy)]
-struct Head {
-    triangles: usize,
+struct Drawing<'a> {
+    triangles: &'a [f32],
+    order: &'a [u32],
+    links: &'a [u32],
+    boxes: &'a [f32],
     nodes: usize,
 }
 
-fn put_number(n: usize) {
-    io::write_all(1, b" ");
-    io::print_decimal(1, n as u64);
-}
-
-fn put_float(x: f32) {
-    io::write_all(1, b" ");
-    io::print_hex(1, floats::bits_of(x) as u64, 8);
-}
-
 fn put_point(p: Vec3) {
-    put_float(p.x);
-    put_float(p.y);
-    put_float(p.z);
+    put_word(p.x);
+    put_word(p.y);
+    put_word(p.z);
 }
 
-fn put_entry(entry: EntryFound) {
+fn put_entry(drawing: &Drawing, k: usize, i: usize) {
+    let entry = leaf_entry(
+        drawing.triangles,
+        drawing.order,
+        drawing.links,
+        drawing.boxes,
+        drawing.nodes,
+        k,
+        i,
+    );
     match entry {
         EntryFound::Triangle(t) => put_number(t as usize),
         EntryFound::Nothing => {
@@ -45,43 +49,16 @@ fn put_entry(entry: EntryFound) {
     }
 }
 
-// Prints the leaf's triangles, and that there is nothing behind them.
-fn put_entries(
-    triangles: &[f32],
-    order: &[u32],
-    links: &[u32],
-    boxes: &[f32],
-    nodes: usize,
-    k: usize,
-    count: usize,
-) {
-    let mut i = 0;
-    while i < count {
-        put_entry(leaf_entry(triangles, order, links, boxes, nodes, k, i));
-        i += 1;
-    }
-    put_entry(leaf_entry(triangles, order, links, boxes, nodes, k, count));
-}
-
-// Prints where a leaf begins and ends and its box, and answers how many triangles it has.
-fn put_range(first: usize, last: usize, over: Box3) -> usize {
+// Prints where a leaf begins and ends and its box.
+fn put_range(first: usize, last: usize, over: Box3) {
     put_number(first);
     put_number(last);
     put_point(over.min);
     put_point(over.max);
-    if first < last { last - first } else { 0 }
 }
 
-// Prints the leaf, and answers the node from which the next one is sought.
-fn put_leaf(
-    triangles: &[f32],
-    order: &[u32],
-    links: &[u32],
-    boxes: &[f32],
-    nodes: usize,
-    k: usize,
-    found: LeafFound,
-) -> usize {
+// Prints the leaf with its triangles, and that there is nothing behind them. Answers the node from which the next one is sought.
+fn put_leaf(drawing: &Drawing, k: usize, found: LeafFound) -> usize {
     match found {
         LeafFound::Leaf {
             node,
@@ -91,126 +68,96 @@ fn put_leaf(
         } => {
             io::write_all(1, b"leaf");
             put_number(k);
-            let count = put_range(first, last, over);
-            put_entries(triangles, order, links, boxes, nodes, k, count);
+            put_range(first, last, over);
+            let count = last.saturating_sub(first);
+            for i in 0..count {
+                put_entry(drawing, k, i);
+            }
+            put_entry(drawing, k, count);
             io::write_all(1, b"\n");
             more(node, 1)
         }
-        LeafFound::Nothing => nodes,
-        LeafFound::Refused { .. } => nodes,
+        LeafFound::Nothing => drawing.nodes,
+        LeafFound::Refused { .. } => drawing.nodes,
     }
 }
 
 // Prints each leaf, sought behind the one before it.
-fn put_leaves(
-    triangles: &[f32],
-    order: &[u32],
-    links: &[u32],
-    boxes: &[f32],
-    nodes: usize,
-    count: usize,
-)
-    requires { Leaves.NodesThere links.now boxes.now nodes }
+fn put_leaves(drawing: &Drawing, count: usize)
+    requires { Leaves.NodesThere drawing.now.links.now drawing.now.boxes.now drawing.now.nodes }
 {
     let mut from = 0;
-    let mut k = 0;
-    while k < count {
-        let found = leaf_from(links, boxes, nodes, from, 0);
-        from = put_leaf(triangles, order, links, boxes, nodes, k, found);
-        k += 1;
+    for k in 0..count {
+        let found = leaf_from(drawing.links, drawing.boxes, drawing.nodes, from, 0);
+        from = put_leaf(drawing, k, found);
     }
 }
 
-fn put_count(count: usize) {
-    io::write_all(1, b"leaves");
-    put_number(count);
-    io::write_all(1, b"\n");
-}
-
-fn put_refused(number: usize, place: usize) {
-    io::write_all(1, b"refused");
-    put_number(number);
-    put_number(place);
-    io::write_all(1, b"\n");
-}
-
-fn put_tree(triangles: &[f32], order: &[u32], links: &[u32], boxes: &[f32], nodes: usize) {
-    let counted = leaves(triangles, order, links, boxes, nodes);
+fn put_tree(drawing: &Drawing) {
+    let counted = leaves(
+        drawing.triangles,
+        drawing.order,
+        drawing.links,
+        drawing.boxes,
+        drawing.nodes,
+    );
     match counted {
-        LeavesCounted::Refused { number, place } => put_refused(number, place),
+        LeavesCounted::Refused { number, place } => {
+            io::write_all(1, b"refused");
+            put_number(number);
+            put_number(place);
+            io::write_all(1, b"\n");
+        }
         LeavesCounted::Leaves(count) => {
-            put_count(count);
-            put_leaves(triangles, order, links, boxes, nodes, count);
+            io::write_all(1, b"leaves");
+            put_number(count);
+            io::write_all(1, b"\n");
+            put_leaves(drawing, count);
         }
     }
 }
 
-fn with_boxes(
-    bytes: &[u8],
-    from: usize,
-    head: Head,
-    triangles: &[f32],
-    order: &[u32],
-    links: &[u32],
-) {
-    let mut all = [0.0f32; 282];
-    let boxes = &mut all[0..6 * (head.nodes % 48)];
-    fill_floats(bytes, from, boxes);
-    put_tree(triangles, order, links, boxes, head.nodes);
+// Prints the leaves of a case of so many triangles and nodes.
+fn replay(bytes: &[u8], count: usize, nodes: usize)
+    requires { (count ≤ 24) × (nodes ≤ 47) }
+{
+    let mut case = Cursor { bytes, at: 0 };
+    let mut room = [0.0f32; 216];
+    let triangles = case.fill(9 * count, &mut room);
+    let mut room = [0u32; 24];
+    let order = case.fill(count, &mut room);
+    let mut room = [0u32; 141];
+    let links = case.fill(3 * nodes, &mut room);
+    let mut room = [0.0f32; 282];
+    let boxes = case.fill(6 * nodes, &mut room);
+    put_tree(&Drawing {
+        triangles,
+        order,
+        links,
+        boxes,
+        nodes,
+    });
 }
 
-fn with_links(bytes: &[u8], from: usize, head: Head, triangles: &[f32], order: &[u32]) {
-    let mut all = [0u32; 141];
-    let size = 3 * (head.nodes % 48);
-    let links = &mut all[0..size];
-    fill_numbers(bytes, from, links);
-    with_boxes(bytes, more(from, 4 * size), head, triangles, order, links);
-}
-
-fn with_order(bytes: &[u8], from: usize, head: Head, triangles: &[f32]) {
-    let mut all = [0u32; 24];
-    let size = head.triangles % 25;
-    let order = &mut all[0..size];
-    fill_numbers(bytes, from, order);
-    with_links(bytes, more(from, 4 * size), head, triangles, order);
-}
-
-fn with_triangles(bytes: &[u8], head: Head) {
-    let mut all = [0.0f32; 216];
-    let size = 9 * (head.triangles % 25);
-    let triangles = &mut all[0..size];
-    fill_floats(bytes, 0, triangles);
-    with_order(bytes, 4 * size, head, triangles);
-}
-
-// Reads the body of the case with this head from standard input, and prints its leaves.
-fn run_body(head: Head) {
-    let size = 40 * (head.triangles % 25) + 36 * (head.nodes % 48);
+// Replays the next case, if there is one that fits: its counts of triangles and nodes, then its lists.
+fn replay_next() {
+    let mut head = [0u8; 8];
+    if read_next(8, &mut head).is_none() {
+        return;
+    }
+    let count = pattern_at(&head, 0) as usize;
+    let nodes = pattern_at(&head, 4) as usize;
+    if count > 24 || nodes > 47 {
+        return;
+    }
     let mut all = [0u8; 2700];
-    let body = &mut all[0..size];
-    if io::read_full(0, body) < size {
-        return;
+    if let Some(body) = read_next(40 * count + 36 * nodes, &mut all) {
+        replay(body, count, nodes);
     }
-    with_triangles(body, head);
-}
-
-// Runs the next case, if there is one that fits.
-fn run_next() {
-    let mut bytes = [0u8; 8];
-    if io::read_full(0, &mut bytes) < 8 {
-        return;
-    }
-    let head = Head {
-        triangles: pattern_at(&bytes, 0) as usize,
-        nodes: pattern_at(&bytes, 4) as usize,
-    };
-    run_body(head);
 }
 
 fn main() {
-    let mut turn: usize = 0;
-    while turn < 100 {
-        run_next();
-        turn += 1;
+    for _ in 0..100 {
+        replay_next();
     }
 }

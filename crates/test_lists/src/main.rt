@@ -63,18 +63,16 @@ fn put_points(length: usize, place: usize)
     put_verdict(points_refusal(&numbers[0..length]));
 }
 
-fn put_distance(pattern: u32) {
-    io::write_all(1, b"distance ");
-    io::print_hex(1, pattern as u64, 8);
-    io::write_all(1, b" ");
-    put_verdict(distance_refusal(floats::from_bits(pattern)));
-}
-
-fn put_scale(pattern: u32) {
-    io::write_all(1, b"scale ");
-    io::print_hex(1, pattern as u64, 8);
-    io::write_all(1, b" ");
-    put_verdict(scale_refusal(floats::from_bits(pattern)));
+// What a test says of the float with each of these patterns.
+fn put_floats<F: Fn(f32) -> Verdict>(name: &[u8], patterns: &[u32], verdict_of: F)
+    requires { F.IsAlwaysCallable verdict_of }
+{
+    for pattern in patterns {
+        io::write_all(1, name);
+        io::print_hex(1, *pattern as u64, 8);
+        io::write_all(1, b" ");
+        put_verdict(verdict_of(floats::from_bits(*pattern)));
+    }
 }
 
 fn put_settings(strategy: usize, leaf_minimum: usize, maximum_depth: usize) {
@@ -98,15 +96,12 @@ fn put_room(given: usize, need: usize) {
 }
 
 // None, a part of one, one, 4,096 and 4,097 triangles, 65,536, a part of one more and 65,537.
+const LENGTHS: [usize; 8] = [0, 8, 9, 36864, 36873, 589824, 589825, 589833];
+
 fn put_lengths(zeros: &[f32]) {
-    put_length(zeros, 0);
-    put_length(zeros, 8);
-    put_length(zeros, 9);
-    put_length(zeros, 36864);
-    put_length(zeros, 36873);
-    put_length(zeros, 589824);
-    put_length(zeros, 589825);
-    put_length(zeros, 589833);
+    for length in LENGTHS {
+        put_length(zeros, length);
+    }
 }
 
 fn put_all_lengths() {
@@ -141,29 +136,29 @@ fn put_all_points() {
 }
 
 // 0, minus zero, the least number and its opposite, 4,194,304 and 4,194,304.5, infinity, a NaN.
-fn put_distances() {
-    put_distance(0x0000_0000);
-    put_distance(0x8000_0000);
-    put_distance(0x0000_0001);
-    put_distance(0x8000_0001);
-    put_distance(0x4a80_0000);
-    put_distance(0x4a80_0001);
-    put_distance(0x7f80_0000);
-    put_distance(0x7fc0_0000);
-}
+const DISTANCES: [u32; 8] = [
+    0x0000_0000,
+    0x8000_0000,
+    0x0000_0001,
+    0x8000_0001,
+    0x4a80_0000,
+    0x4a80_0001,
+    0x7f80_0000,
+    0x7fc0_0000,
+];
 
 // 0, minus zero, the least number and its opposite, 2, 1,000 and the next number, infinity, a NaN.
-fn put_scales() {
-    put_scale(0x0000_0000);
-    put_scale(0x8000_0000);
-    put_scale(0x0000_0001);
-    put_scale(0x8000_0001);
-    put_scale(0x4000_0000);
-    put_scale(0x447a_0000);
-    put_scale(0x447a_0001);
-    put_scale(0x7f80_0000);
-    put_scale(0x7fc0_0000);
-}
+const SCALES: [u32; 9] = [
+    0x0000_0000,
+    0x8000_0000,
+    0x0000_0001,
+    0x8000_0001,
+    0x4000_0000,
+    0x447a_0000,
+    0x447a_0001,
+    0x7f80_0000,
+    0x7fc0_0000,
+];
 
 fn put_all_settings() {
     put_settings(0, 1, 0);
@@ -181,10 +176,10 @@ fn main() {
     put_all_lengths();
     put_all_triangles();
     put_all_points();
-    put_distances();
+    put_floats(b"distance ", &DISTANCES, distance_refusal);
     put_all_settings();
     put_room(0, 1);
     put_room(1, 1);
     put_room(2, 1);
-    put_scales();
+    put_floats(b"scale ", &SCALES, scale_refusal);
 }

@@ -4,7 +4,8 @@
 #![tactic(auto)]
 
 use stl::calls::{Counted, read_stl, write_stl};
-use test_words::{pattern_at, read_case};
+use test_words::cursor::Cursor;
+use test_words::read_case;
 
 fn put_answer(what: &[u8], answer: Counted) {
     io::write_all(1, what);
@@ -24,24 +25,16 @@ fn put_answer(what: &[u8], answer: Counted) {
 }
 
 fn put_floats(list: &[f32]) {
-    let mut i = 0;
-    while i < list.len() {
-        io::print_hex(1, floats::bits_of(list[i]) as u64, 8);
+    for x in list {
+        io::print_hex(1, floats::bits_of(*x) as u64, 8);
         io::write_all(1, b" ");
-        i += 1;
     }
     io::write_all(1, b"\n");
 }
 
-fn wide(b: u8) -> u64 {
-    b as u64
-}
-
 fn put_bytes(list: &[u8]) {
-    let mut i = 0;
-    while i < list.len() {
-        io::print_hex(1, wide(list[i]), 2);
-        i += 1;
+    for byte in list {
+        io::print_hex(1, u64::from(*byte), 2);
     }
     io::write_all(1, b"\n");
 }
@@ -63,31 +56,24 @@ fn read_list(bytes: &[u8], room: usize, fill: f32, given: usize) {
 
 fn replay(bytes: &[u8]) {
     if bytes.len() >= 12 {
-        let room = pattern_at(bytes, 0) as usize;
-        let given = pattern_at(bytes, 4) as usize;
-        let fill = floats::from_bits(pattern_at(bytes, 8));
-        read_list(&bytes[12..bytes.len()], room, fill, given);
+        let mut case = Cursor { bytes, at: 0 };
+        let room: u32 = case.next();
+        let given: u32 = case.next();
+        let fill = case.next();
+        read_list(&bytes[12..bytes.len()], room as usize, fill, given as usize);
     }
 }
 
-// Replays the next case. Answers whether there was one that fits.
-fn replay_next() -> bool {
+// Replays the next case, if there is one that fits.
+fn replay_next() {
     let mut all = [0u8; 512];
-    let size = read_case(&mut all);
-    if size > 512 {
-        return false;
+    if let Some(bytes) = read_case(&mut all) {
+        replay(bytes);
     }
-    replay(&all[0..size]);
-    true
 }
 
 fn main() {
-    let mut turn: usize = 0;
-    while turn < 2000 {
-        if replay_next() {
-            turn += 1;
-        } else {
-            turn = 2000;
-        }
+    for _ in 0..2000 {
+        replay_next();
     }
 }

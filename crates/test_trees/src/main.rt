@@ -3,467 +3,241 @@
 // Prints the first ten words that differ, how many cases, trees and points there are and how many words differ.
 #![tactic(auto)]
 
+ghost use Rattle.std.specs.Prelude.{◌≤◌};
+
 use build::calls::Built;
 use lists::verdict::Verdict;
-use test_words::{fill_floats, fill_numbers, more, pattern_at};
+use test_words::cursor::Cursor;
+use test_words::tally::Tally;
+use test_words::{more, put_count, read_next};
 use walks::words::ANSWER_WIDTH;
+
+// The lists of a case.
+#[derive(Clone, Copy)]
+struct Drawing<'a> {
+    triangles: &'a [f32],
+    order: &'a [u32],
+    links: &'a [u32],
+    boxes: &'a [f32],
+    nodes: usize,
+}
 
 // The first ten words of a case: how many answers a point has as its nearest few, and how many words these are, come last. Both are 0
 // where the few are not asked for.
 #[derive(Clone, Copy)]
 struct Head {
-    triangles: usize,
-    strategy: usize,
-    leaf_minimum: usize,
-    maximum_depth: usize,
+    triangles: u32,
+    strategy: u32,
+    leaf_minimum: u32,
+    maximum_depth: u32,
     distance: f32,
-    points: usize,
-    nodes: usize,
-    depth: usize,
+    points: u32,
+    nodes: u32,
+    depth: u32,
     most: u32,
-    few: usize,
+    few: u32,
 }
 
-// Where the lists of a case begin in its bytes.
-#[derive(Clone, Copy)]
-struct Places {
-    points: usize,
-    order: usize,
-    links: usize,
-    boxes: usize,
-    source: usize,
-    sure: usize,
-    few: usize,
-    few_or_equal: usize,
-}
-
-#[derive(Clone, Copy)]
-struct Tally {
-    cases: usize,
-    points: usize,
-    differ: usize,
-}
-
-fn number_at(bytes: &[u8], at: usize) -> usize {
-    pattern_at(bytes, at) as usize
-}
-
-fn head_of(bytes: &[u8]) -> Head {
+fn next_head(case: &mut Cursor) -> Head {
     Head {
-        triangles: number_at(bytes, 0),
-        strategy: number_at(bytes, 4),
-        leaf_minimum: number_at(bytes, 8),
-        maximum_depth: number_at(bytes, 12),
-        distance: floats::from_bits(pattern_at(bytes, 16)),
-        points: number_at(bytes, 20),
-        nodes: number_at(bytes, 24),
-        depth: number_at(bytes, 28),
-        most: pattern_at(bytes, 32),
-        few: number_at(bytes, 36),
+        triangles: case.next(),
+        strategy: case.next(),
+        leaf_minimum: case.next(),
+        maximum_depth: case.next(),
+        distance: case.next(),
+        points: case.next(),
+        nodes: case.next(),
+        depth: case.next(),
+        most: case.next(),
+        few: case.next(),
     }
 }
 
-// Whether the case fits the arrays below.
-fn is_small(head: Head) -> bool {
-    (head.triangles <= 24) & (head.points <= 20) & (head.nodes <= 47) & (head.few <= 560)
+// How many bytes follow the head: nine numbers a triangle and its entry of the order, nine of each node, three of each point and two answers
+// about it, and the nearest few twice.
+fn body_size(head: Head) -> usize {
+    let words = 10 * head.triangles as usize
+        + 9 * head.nodes as usize
+        + (3 + 2 * ANSWER_WIDTH) * head.points as usize
+        + 2 * head.few as usize;
+    4 * words
 }
 
-fn places_of(head: Head) -> Places {
-    if is_small(head) {
-        let points = 36 * (head.triangles % 25);
-        let order = points + 12 * (head.points % 21);
-        let links = order + 4 * (head.triangles % 25);
-        let boxes = links + 12 * (head.nodes % 48);
-        let source = boxes + 24 * (head.nodes % 48);
-        let sure = source + 4 * ANSWER_WIDTH * (head.points % 21);
-        let few = sure + 4 * ANSWER_WIDTH * (head.points % 21);
-        let few_or_equal = few + 4 * (head.few % 561);
-        return Places {
-            points,
-            order,
-            links,
-            boxes,
-            source,
-            sure,
-            few,
-            few_or_equal,
-        };
-    }
-    Places {
-        points: 0,
-        order: 0,
-        links: 0,
-        boxes: 0,
-        source: 0,
-        sure: 0,
-        few: 0,
-        few_or_equal: 0,
+fn passed(tally: &mut Tally, what: &[u8], verdict: Verdict) {
+    if verdict.refuses() {
+        tally.differs(what, 0, 1, 0);
     }
 }
 
-// How many bytes follow the head.
-fn body_size(head: Head, places: Places) -> usize {
-    more(places.few_or_equal, 4 * (head.few % 561))
-}
-
-impl Tally {
-    fn difference(self, what: &[u8], word: usize, ours: u32, theirs: u32) -> Tally {
-        if self.differ < 10 {
-            io::write_all(1, b"case ");
-            io::print_decimal(1, self.cases as u64);
-            io::write_all(1, b" ");
-            io::write_all(1, what);
-            io::write_all(1, b" word ");
-            io::print_decimal(1, word as u64);
-            io::write_all(1, b" ours ");
-            io::print_hex(1, ours as u64, 8);
-            io::write_all(1, b" theirs ");
-            io::print_hex(1, theirs as u64, 8);
-            io::write_all(1, b"\n");
-        }
-        Tally {
-            cases: self.cases,
-            points: self.points,
-            differ: more(self.differ, 1),
-        }
-    }
-
-    fn word(self, what: &[u8], word: usize, ours: u32, theirs: u32) -> Tally {
-        if ours == theirs {
-            return self;
-        }
-        self.difference(what, word, ours, theirs)
-    }
-
-    fn verdict(self, what: &[u8], verdict: Verdict) -> Tally {
-        if verdict.refuses() {
-            return self.difference(what, 0, 1, 0);
-        }
-        self
-    }
-
-    fn counts(self, head: Head, built: Built) -> Tally {
-        match built {
-            Built::Refused { .. } => self.difference(b"build", 0, 1, 0),
-            Built::Tree { nodes, depth } => {
-                if nodes != head.nodes {
-                    return self.difference(b"nodes", 0, 1, 0);
-                }
-                if depth != head.depth {
-                    return self.difference(b"depth", 0, 1, 0);
-                }
-                self
+fn compare_counts(head: Head, built: Built, tally: &mut Tally) {
+    match built {
+        Built::Refused { .. } => tally.differs(b"build ", 0, 1, 0),
+        Built::Tree { nodes, depth } => {
+            if nodes != head.nodes as usize {
+                tally.differs(b"nodes ", 0, 1, 0);
+            } else if depth != head.depth as usize {
+                tally.differs(b"depth ", 0, 1, 0);
             }
         }
     }
-
-    // Compares our words with those of the case from a place on.
-    fn words(self, what: &[u8], ours: &[u32], bytes: &[u8], from: usize) -> Tally {
-        let mut now = self;
-        let mut at = from;
-        let mut i = 0;
-        while i < ours.len() {
-            now = now.word(what, i, ours[i], pattern_at(bytes, at));
-            at = more(at, 4);
-            i += 1;
-        }
-        now
-    }
-
-    fn floats(self, what: &[u8], ours: &[f32], bytes: &[u8], from: usize) -> Tally {
-        let mut now = self;
-        let mut at = from;
-        let mut i = 0;
-        while i < ours.len() {
-            now = now.word(what, i, floats::bits_of(ours[i]), pattern_at(bytes, at));
-            at = more(at, 4);
-            i += 1;
-        }
-        now
-    }
 }
 
-fn compare_tree(
-    bytes: &[u8],
-    head: Head,
-    places: Places,
-    order: &[u32],
-    links: &[u32],
-    boxes: &[f32],
-    tally: Tally,
-) -> Tally {
-    let kinds = 3 * (head.nodes % 48);
-    let numbers = 6 * (head.nodes % 48);
-    if kinds > links.len() {
-        return tally;
-    }
-    if numbers > boxes.len() {
-        return tally;
-    }
-    let ordered = tally.words(b"order", order, bytes, places.order);
-    let linked = ordered.words(b"links", &links[0..kinds], bytes, places.links);
-    linked.floats(b"boxes", &boxes[0..numbers], bytes, places.boxes)
-}
-
-// Compares the tree that is built of the case's triangles and settings with the Rust's.
-fn built_tree(
-    bytes: &[u8],
-    head: Head,
-    places: Places,
-    triangles: &[f32],
-    order: &mut [u32],
-    links: &mut [u32],
-    boxes: &mut [f32],
-    tally: Tally,
-) -> Tally {
+// Compares the tree that is built of the case's triangles and settings with the Rust's, from its order on.
+fn compare_tree(triangles: &[f32], head: Head, theirs: &mut Cursor, tally: &mut Tally)
+    requires { (head.triangles ≤ 24) × (head.nodes ≤ 47) }
+{
+    let mut order = [7u32; 24];
+    let mut links = [7u32; 141];
+    let mut boxes = [7.0f32; 282];
     let mut bounds = [7.0f32; 144];
     let mut centres = [7.0f32; 72];
     let mut scratch = [7u32; 24];
+    let count = head.triangles as usize;
+    let nodes = head.nodes as usize;
     let built = build::calls::build(
         triangles,
-        head.strategy,
-        head.leaf_minimum,
-        head.maximum_depth,
-        order,
-        links,
-        boxes,
+        head.strategy as usize,
+        head.leaf_minimum as usize,
+        head.maximum_depth as usize,
+        &mut order[0..count],
+        &mut links,
+        &mut boxes,
         &mut bounds,
         &mut centres,
         &mut scratch,
     );
-    compare_tree(
-        bytes,
-        head,
-        places,
-        order,
-        links,
-        boxes,
-        tally.counts(head, built),
-    )
+    compare_counts(head, built, tally);
+    tally.same(b"order ", &order[0..count], theirs);
+    tally.same(b"links ", &links[0..3 * nodes], theirs);
+    tally.same(b"boxes ", &boxes[0..6 * nodes], theirs);
 }
 
-fn built(bytes: &[u8], head: Head, places: Places, triangles: &[f32], tally: Tally) -> Tally {
-    let mut all = [7u32; 24];
-    let mut links = [7u32; 141];
-    let mut boxes = [7.0f32; 282];
-    let order = &mut all[0..head.triangles % 25];
-    built_tree(
-        bytes, head, places, triangles, order, &mut links, &mut boxes, tally,
-    )
-}
-
-// Compares all queries over the tree that stands in the case.
-fn with_boxes(
-    bytes: &[u8],
-    head: Head,
-    places: Places,
-    triangles: &[f32],
+// Compares the answers of the source query and the sure query with the next words of the case.
+fn compare_answers(
+    drawing: &Drawing,
     points: &[f32],
-    order: &[u32],
-    links: &[u32],
-    tally: Tally,
-) -> Tally {
-    let mut all = [0.0f32; 282];
-    let boxes = &mut all[0..6 * (head.nodes % 48)];
-    fill_floats(bytes, places.boxes, boxes);
-    let near = answered(
-        bytes, head, places, triangles, points, order, links, boxes, tally,
-    );
-    if head.few == 0 {
-        return near;
-    }
-    let below = few_answered(
-        bytes, head, places.few, 1, triangles, points, order, links, boxes, near,
-    );
-    few_answered(
-        bytes,
-        head,
-        places.few_or_equal,
-        2,
-        triangles,
+    distance: f32,
+    case: &mut Cursor,
+    tally: &mut Tally,
+) {
+    let size = ANSWER_WIDTH * (points.len() / 3).min(20);
+    let mut all = [7u32; 20 * ANSWER_WIDTH];
+    let source = &mut all[0..size];
+    let verdict = queries::calls::source_query(
+        drawing.triangles,
+        drawing.order,
+        drawing.links,
+        drawing.boxes,
+        drawing.nodes,
         points,
-        order,
-        links,
-        boxes,
-        below,
-    )
-}
-
-fn answered(
-    bytes: &[u8],
-    head: Head,
-    places: Places,
-    triangles: &[f32],
-    points: &[f32],
-    order: &[u32],
-    links: &[u32],
-    boxes: &[f32],
-    tally: Tally,
-) -> Tally {
-    let size = ANSWER_WIDTH * (head.points % 21);
-    let mut first = [7u32; 20 * ANSWER_WIDTH];
-    let source = &mut first[0..size];
-    let sourced = queries::calls::source_query(
-        triangles,
-        order,
-        links,
-        boxes,
-        head.nodes,
-        points,
-        head.distance,
+        distance,
         source,
     );
-    let mut second = [7u32; 20 * ANSWER_WIDTH];
-    let sure = &mut second[0..size];
-    let sured = queries::calls::sure_query(
-        triangles,
-        order,
-        links,
-        boxes,
-        head.nodes,
+    passed(tally, b"source ", verdict);
+    tally.same(b"source ", source, case);
+    let mut all = [7u32; 20 * ANSWER_WIDTH];
+    let sure = &mut all[0..size];
+    let verdict = queries::calls::sure_query(
+        drawing.triangles,
+        drawing.order,
+        drawing.links,
+        drawing.boxes,
+        drawing.nodes,
         points,
-        head.distance,
+        distance,
         1,
         sure,
     );
-    tally
-        .verdict(b"source", sourced)
-        .words(b"source", source, bytes, places.source)
-        .verdict(b"sure", sured)
-        .words(b"sure", sure, bytes, places.sure)
+    passed(tally, b"sure ", verdict);
+    tally.same(b"sure ", sure, case);
 }
 
-// Compares the nearest few by a rule, in just as many words as they are, with those from a place on.
-fn few_answered(
-    bytes: &[u8],
-    head: Head,
-    from: usize,
-    rule: u32,
-    triangles: &[f32],
+// Compares the nearest few by a rule, in just as many words as they are, with the next words of the case.
+fn compare_few(
+    drawing: &Drawing,
     points: &[f32],
-    order: &[u32],
-    links: &[u32],
-    boxes: &[f32],
-    tally: Tally,
-) -> Tally {
+    head: Head,
+    rule: u32,
+    case: &mut Cursor,
+    tally: &mut Tally,
+)
+    requires { head.few ≤ 560 }
+{
     let mut all = [7u32; 80 * ANSWER_WIDTH];
-    let few = &mut all[0..head.few % 561];
+    let few = &mut all[0..head.few as usize];
     let verdict = queries::calls::few_query(
-        triangles,
-        order,
-        links,
-        boxes,
-        head.nodes,
+        drawing.triangles,
+        drawing.order,
+        drawing.links,
+        drawing.boxes,
+        drawing.nodes,
         points,
         head.distance,
         rule,
         head.most,
         few,
     );
-    tally
-        .verdict(b"few", verdict)
-        .words(b"few", few, bytes, from)
+    passed(tally, b"few ", verdict);
+    tally.same(b"few ", few, case);
 }
 
-fn with_links(
-    bytes: &[u8],
-    head: Head,
-    places: Places,
-    triangles: &[f32],
-    points: &[f32],
-    order: &[u32],
-    tally: Tally,
-) -> Tally {
-    let mut all = [0u32; 141];
-    let links = &mut all[0..3 * (head.nodes % 48)];
-    fill_numbers(bytes, places.links, links);
-    with_boxes(bytes, head, places, triangles, points, order, links, tally)
-}
-
-fn with_order(
-    bytes: &[u8],
-    head: Head,
-    places: Places,
-    triangles: &[f32],
-    points: &[f32],
-    tally: Tally,
-) -> Tally {
-    let mut all = [0u32; 24];
-    let order = &mut all[0..head.triangles % 25];
-    fill_numbers(bytes, places.order, order);
-    with_links(bytes, head, places, triangles, points, order, tally)
-}
-
-fn with_points(bytes: &[u8], head: Head, places: Places, triangles: &[f32], tally: Tally) -> Tally {
-    let mut all = [0.0f32; 60];
-    let points = &mut all[0..3 * (head.points % 21)];
-    fill_floats(bytes, places.points, points);
-    with_order(bytes, head, places, triangles, points, tally)
-}
-
-fn with_triangles(bytes: &[u8], head: Head, places: Places, tally: Tally) -> Tally {
-    let mut all = [0.0f32; 216];
-    let triangles = &mut all[0..9 * (head.triangles % 25)];
-    fill_floats(bytes, 0, triangles);
-    let grown = built(bytes, head, places, triangles, tally);
-    with_points(bytes, head, places, triangles, grown)
-}
-
-// Reads the body of the case with this head from standard input, and replays it.
-fn replay_body(head: Head, tally: Tally) -> Tally {
-    let places = places_of(head);
-    let size = body_size(head, places);
-    let mut all = [0u8; 8192];
-    if size > 8192 {
-        return tally;
-    }
-    let body = &mut all[0..size];
-    let got = io::read_full(0, body);
-    if got < size {
-        return tally;
-    }
-    let after = with_triangles(body, head, places, tally);
-    Tally {
-        cases: more(after.cases, 1),
-        points: more(after.points, head.points),
-        differ: after.differ,
-    }
-}
-
-// Replays the next case, if there is one that fits.
-fn replay_next(tally: Tally) -> Tally {
-    let mut bytes = [0u8; 40];
-    let got = io::read_full(0, &mut bytes);
-    if got < 40 {
-        return tally;
-    }
-    let head = head_of(&bytes);
-    if is_small(head) {
-        return replay_body(head, tally);
-    }
-    tally
-}
-
-fn replay_all() -> Tally {
-    let mut tally = Tally {
-        cases: 0,
-        points: 0,
-        differ: 0,
+// Compares a case of up to 24 triangles, 47 nodes, 20 points and 560 words of the nearest few.
+fn compare(head: Head, case: &mut Cursor, tally: &mut Tally)
+    requires { (head.triangles ≤ 24) × (head.nodes ≤ 47) × (head.few ≤ 560) }
+{
+    let count = head.triangles as usize;
+    let nodes = head.nodes as usize;
+    let mut room = [0.0f32; 216];
+    let triangles = case.fill(9 * count, &mut room);
+    let mut room = [0.0f32; 60];
+    let points = case.fill(3 * head.points as usize, &mut room);
+    let mut theirs = *case;
+    compare_tree(triangles, head, &mut theirs, tally);
+    let mut room = [0u32; 24];
+    let order = case.fill(count, &mut room);
+    let mut room = [0u32; 141];
+    let links = case.fill(3 * nodes, &mut room);
+    let mut room = [0.0f32; 282];
+    let boxes = case.fill(6 * nodes, &mut room);
+    let drawing = Drawing {
+        triangles,
+        order,
+        links,
+        boxes,
+        nodes,
     };
-    let mut turn: usize = 0;
-    while turn < 1000 {
-        tally = replay_next(tally);
-        turn += 1;
+    compare_answers(&drawing, points, head.distance, case, tally);
+    if head.few > 0 {
+        compare_few(&drawing, points, head, 1, case, tally);
+        compare_few(&drawing, points, head, 2, case, tally);
     }
-    tally
+}
+
+// Replays the next case, if there is one that fits. Answers how many points it has.
+fn replay_next(tally: &mut Tally) -> usize {
+    let mut room = [0u8; 40];
+    let Some(bytes) = read_next(40, &mut room) else {
+        return 0;
+    };
+    let head = next_head(&mut Cursor { bytes, at: 0 });
+    if head.triangles <= 24 && head.points <= 20 && head.nodes <= 47 && head.few <= 560 {
+        let mut room = [0u8; 8192];
+        if let Some(bytes) = read_next(body_size(head), &mut room) {
+            compare(head, &mut Cursor { bytes, at: 0 }, tally);
+            tally.count_case();
+            return head.points as usize;
+        }
+    }
+    0
 }
 
 fn main() {
-    let tally = replay_all();
-    io::print_decimal(1, tally.cases as u64);
-    io::write_all(1, b" trees, ");
-    io::print_decimal(1, tally.points as u64);
-    io::write_all(1, b" points, ");
-    io::print_decimal(1, tally.differ as u64);
-    io::write_all(1, b" words differ\n");
+    let mut tally = Tally::of(b"case ");
+    let mut points = 0;
+    for _ in 0..1000 {
+        points = more(points, replay_next(&mut tally));
+    }
+    put_count(tally.cases, b" trees, ");
+    put_count(points, b" points, ");
+    put_count(tally.differ, b" words differ\n");
 }

@@ -1,4 +1,3 @@
-pub mod Counting
 pub mod Links
 pub mod Reached
 pub mod Slots

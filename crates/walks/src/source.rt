@@ -18,6 +18,7 @@ use lists::limits;
 use tree::nodes::{Node, node_at, node_box};
 
 // Whether a child is entered: its box holds the point, or is nearer than the limit.
+#[tactic(auto, unfolding(spec_search::specs::Source::enters))]
 fn does_enter(boxes: &[f32], node: usize, probe: &Probe) -> bool
     requires { 6 * node + 6 ≤ length boxes.now }
     ensures { result ≡ Source.enters binary32 boxes.now (Shapes.as_point probe.now.point) probe.now.limit node }

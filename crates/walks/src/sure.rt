@@ -24,6 +24,7 @@ use lists::limits;
 use tree::nodes::{Node, node_at, node_box};
 
 // The squared distance from the point to a node's box.
+#[tactic(auto, unfolding(spec_search::specs::Few::node_squared))]
 fn node_squared(boxes: &[f32], node: usize, probe: &Probe) -> f32
     requires { 6 * node + 6 ≤ length boxes.now }
     ensures { result ≡ Few.node_squared binary32 boxes.now (Shapes.as_point probe.now.point) node }

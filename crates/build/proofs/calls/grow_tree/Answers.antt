@@ -12,7 +12,7 @@ grow-grown-requires c =
 
 pub overflow_add-result : goal.overflow_add-result
 overflow_add-result c =
-    let grown = rw c.of_number.ensures at c.grow-grown.ensures in
+    let grown = c.grow-grown.ensures in
     omega (
       arith,
       root_few binary32 _ _ _ c.requires (λ i k. c.type_inv.triangles i) _ c.triangle_count-count.ensures _
@@ -22,7 +22,7 @@ overflow_add-result c =
 
 pub returns : goal.returns
 returns c =
-    let grown = rw c.of_number.ensures at c.grow-grown.ensures in
+    let grown = c.grow-grown.ensures in
     tree_left binary32 _ _ _ c.requires (λ i k. c.type_inv.triangles i) _ c.triangle_count-count.ensures _
     c.put_bounds.ensures _ c.put_centres.ensures _ c.put_order.ensures _
     c.saturating_sub.ensures _ _ _ _ _ _ grown

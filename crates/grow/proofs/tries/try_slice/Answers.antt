@@ -1,7 +1,9 @@
 -- `grow::tries::try_slice` meets its contract: what `union_of` and `try_axes` ensure.
+use mathlib.Core.Path.{◌∙◌}
 use native.Mathlib.Omega.{arith}
 use lib.Ieee.{binary32}
 use Rattle.spec_build.proofs.Trying.{try_rule_needs, tried_is}
+use Rattle.grow.proofs.Strategies.{tried_same}
 use Rattle.grow.proofs.tries.try_slice.Goals as goal
 
 pub union_of-parent-requires : goal.union_of-parent-requires
@@ -11,3 +13,4 @@ union_of-parent-requires c =
 pub returns : goal.returns
 returns c =
     tried_is binary32 _ _ _ _ _ (omega (arith, c.requires.some)) c.union_of-parent.ensures c.try_axes.ensures
+    ∙ tried_same binary32 _ _ _ c.of_number.ensures _

@@ -1,9 +1,8 @@
 -- `test_angles::words::numbers_from` meets its contract. The invariant: the first i numbers stand in the array.
--- The measure is the number of those that remain.
-use Rattle.std.proofs.Common.{◌-◌, arith}
+use Rattle.std.proofs.Common.{arith}
 use Rattle.spec_tables.proofs.Runs.{run_start}
 use Rattle.spec_tables.proofs.Stores.{run_store_front, run_whole}
-use Rattle.test_angles.specs.Words.{number_at, place, numbers_from}
+use Rattle.test_angles.specs.Words.{numbers_from}
 use Rattle.test_angles.proofs.words.numbers_from.Goals as goal
 
 pub loop-i-init : goal.loop-i-init
@@ -17,6 +16,3 @@ loop-i-preserved c =
 pub returns : goal.returns
 unfolding numbers_from
 returns c = record { value = run_whole _ _ _ _ c.loop-i-test.false c.loop-i.invariant; result_len = c.loop-i.invariant.long }
-
-pub bounds-numbers-i : goal.bounds-numbers-i
-bounds-numbers-i c = omega arith

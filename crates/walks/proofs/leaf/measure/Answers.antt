@@ -14,14 +14,6 @@ use Rattle.walks.specs.Places.{most_of, places_of, kept_in}
 use Rattle.walks.specs.Values.{as_hit}
 use Rattle.walks.proofs.leaf.measure.Goals as goal
 
-pub offer-requires : goal.offer-requires
-offer-requires c =
-    rw c.in-Held.is at c.requires.ready
-
-pub keep_smaller-requires : goal.keep_smaller-requires
-keep_smaller-requires c =
-    rw c.in-Computed.is at c.requires.ready
-
 pub returns-in-Held : goal.returns-in-Held
 unfolding took_few hit held_spot
 returns-in-Held c =

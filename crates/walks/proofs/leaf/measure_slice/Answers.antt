@@ -1,5 +1,5 @@
 -- `walks::leaf::measure_slice` meets its contract, for either walk.
-use mathlib.Core.Path.{◌≡◌, refl, ap, subst, ◌∙◌}
+use mathlib.Core.Path.{◌≡◌, ap, subst, ◌∙◌}
 use mathlib.Core.List.{List}
 use Prim.Native.Nat.{ℕ, ◌+◌}
 use native.Mathlib.Omega.{arith}
@@ -8,14 +8,13 @@ use lib.Ieee.{Float, binary32}
 use Rattle.shapes.specs.Values.{as_point}
 use Rattle.spec_lists.proofs.Reading.{triangle_inside}
 use Rattle.spec_search.specs.Marked.{below}
-use Rattle.spec_search.specs.Walk.{Sought, took_all}
+use Rattle.spec_search.specs.Walk.{Sought}
 use Rattle.spec_search.proofs.Steps.{few_sorted}
 use Rattle.spec_search.proofs.Turns.{one_more, none_remaining}
 use Rattle.walks.specs.declared.answer.Measures.{Measures}
 use Rattle.walks.specs.declared.answer.Probe.{Probe}
 use Rattle.walks.specs.declared.answer.Measures.TheVariants.{Held, Computed}
 use Rattle.walks.specs.Places.{most_of, Lent, Keeps, kept_in, Ready, sought_of, Holds}
-use Rattle.walks.proofs.Counting.{none_counted, one_more_counted}
 use Rattle.walks.proofs.Slots.{sound_after}
 use Rattle.walks.proofs.leaf.measure_slice.Invariants.{took}
 use Rattle.walks.proofs.leaf.measure_slice.Goals as goal
@@ -36,25 +35,14 @@ ready_again Held triangles probe t best which best' which' r h =
     (few_sorted binary32 triangles (as_point probe.point) (most_of which) (below probe.limit) t _ r.sorted)
 ready_again Computed triangles probe t best which best' which' r h = h.lent
 
-pub loop-t-init : goal.loop-t-init
-loop-t-init c =
-    let a = c.args in record {
-      ready = c.requires.ready;
-      most_is = refl;
-      rest_is = ap (λ (n : ℕ). took_all (took a.measures a.triangles.now a.probe.now (most_of a.places.now.which)) a.slice.now
-          (sought_of a.measures a.places.now.best a.places.now.which n))
-          (none_counted a.measured);
-    }
-
-pub measure-requires : goal.measure-requires
-measure-requires c =
-    record { t_in_bounds = triangle_inside _ _ (c.requires.entries_below c.loop-t.t-index (omega arith)); ready = c.loop-t.invariant.ready }
+pub measure-requires-clause-t_in_bounds : goal.measure-requires-clause-t_in_bounds
+measure-requires-clause-t_in_bounds c = triangle_inside _ _ (c.requires.entries_below c.loop-t.t-index (omega arith))
 
 pub loop-t-preserved : goal.loop-t-preserved
 loop-t-preserved c =
     let a = c.args in
     let loop = c.loop-t in
-    let next = one_more_counted a.measured loop.t-index in
+    let next : a.measured + (loop.t-index + 1) ≡ a.measured + loop.t-index + 1 = omega arith in
     let measured = c.measure.ensures in
     let holds =
     as_many a.measures a.triangles.now a.probe.now (get_or a.slice.now loop.t-index 0) (kept_in a.measures loop.places.best loop.places.which)

@@ -27,14 +27,13 @@ look-node_at-requires t c =
     let d = c.args.drawing.now in
     (hangs_there d.triangles.now d.order.now d.links.now d.boxes.now c.requires.node_safe.tree a.node c.requires.node_safe.hangs).links_there
 
-pub look-measure_leaf-requires : goal.look-measure_leaf-requires
-look-measure_leaf-requires t c =
-    let a = c.args in
-    let d = c.args.drawing.now in
-    let wanted =
-    leaf_needs d.triangles.now d.order.now d.links.now d.boxes.now a.depth a.node a.measured _ _ _ (leaf_links c.in-Leaf.ensures)
-    c.requires.node_safe refl in
-    record { entries_below = wanted.0; first_le_last = wanted.1.0; first_bound = wanted.1.1; ready = c.requires.lent }
+pub look-measure_leaf-requires-clause-first_le_last : goal.look-measure_leaf-requires-clause-first_le_last
+look-measure_leaf-requires-clause-first_le_last t c =
+    (leaf_needs _ _ _ _ _ _ _ _ _ _ (leaf_links c.in-Leaf.ensures) c.requires.node_safe refl).1.0
+
+pub look-measure_leaf-requires-clause-first_bound : goal.look-measure_leaf-requires-clause-first_bound
+look-measure_leaf-requires-clause-first_bound t c =
+    (leaf_needs _ _ _ _ _ _ _ _ _ _ (leaf_links c.in-Leaf.ensures) c.requires.node_safe refl).1.1
 
 pub look-returns-in-Leaf : goal.look-returns-in-Leaf
 look-returns-in-Leaf t c =
@@ -102,12 +101,6 @@ look_if_entered-does_enter-requires t c =
     let a = c.args in
     let d = c.args.drawing.now in
     (hangs_there d.triangles.now d.order.now d.links.now d.boxes.now c.requires.node_safe.tree a.node c.requires.node_safe.hangs).boxes_there
-
-pub look_if_entered-look-requires : goal.look_if_entered-look-requires
-look_if_entered-look-requires t c =
-    let a = c.args in
-    let d = c.args.drawing.now in
-    (falls_out a.depth t (omega arith), (c.requires.node_safe, c.requires.lent))
 
 pub look_if_entered-returns-then-does_enter : goal.look_if_entered-returns-then-does_enter
 look_if_entered-returns-then-does_enter t c =

@@ -9,7 +9,7 @@ use lib.Ieee.{binary32}
 use Rattle.spec_search.specs.Answers.{squared_of, number_of}
 use Rattle.spec_search.specs.Ranked.{Sorted}
 use Rattle.spec_search.proofs.Walked.{walk_skipped}
-use Rattle.spec_search.proofs.Steps.{hangs_there, leaf_needs, pair_needs, levels_remaining, leaf_answers, pair_answers, left_needs, right_needs, then_left_needs, then_right_needs, right_answers, left_answers, right_alone, left_alone, skipped_here, right_first_here, few_sorted, few_skipped}
+use Rattle.spec_search.proofs.Steps.{hangs_there, leaf_needs, pair_needs, levels_remaining, leaf_answers, pair_answers, then_left_needs, then_right_needs, right_answers, left_answers, right_alone, left_alone, skipped_here, right_first_here, few_sorted, few_skipped}
 use Rattle.walks.specs.declared.answer.Measures.TheVariants.{Held}
 use Rattle.walks.proofs.Links.{leaf_links, branch_links}
 use Rattle.walks.proofs.Reached.{reached_is, reached_on, reached_still, walk_sound, few_then}
@@ -20,9 +20,6 @@ falls_in d t z e = omega arith
 
 falls_out : (d t : ℕ) → d + d + 1 ≡ t → d + d < t
 falls_out d t e = omega arith
-
-pub node_walk-is_skipped-requires : goal.node_walk-is_skipped-requires
-node_walk-is_skipped-requires t c = c.requires.sound
 
 -- skipped
 pub node_walk-returns-then-is_skipped : goal.node_walk-returns-then-is_skipped
@@ -35,10 +32,13 @@ node_walk-node_at-requires t c =
     let safe = c.requires.node_safe in
     (hangs_there _ _ _ _ safe.tree _ safe.hangs).links_there
 
-pub node_walk-measure_leaf-requires : goal.node_walk-measure_leaf-requires
-node_walk-measure_leaf-requires t c =
-    let wanted = leaf_needs _ _ _ _ _ _ _ _ _ _ (leaf_links c.in-Leaf.ensures) c.requires.node_safe refl in
-    record { entries_below = wanted.0; first_le_last = wanted.1.0; first_bound = wanted.1.1; ready = c.requires.sound }
+pub node_walk-measure_leaf-requires-clause-first_le_last : goal.node_walk-measure_leaf-requires-clause-first_le_last
+node_walk-measure_leaf-requires-clause-first_le_last t c =
+    (leaf_needs _ _ _ _ _ _ _ _ _ _ (leaf_links c.in-Leaf.ensures) c.requires.node_safe refl).1.0
+
+pub node_walk-measure_leaf-requires-clause-first_bound : goal.node_walk-measure_leaf-requires-clause-first_bound
+node_walk-measure_leaf-requires-clause-first_bound t c =
+    (leaf_needs _ _ _ _ _ _ _ _ _ _ (leaf_links c.in-Leaf.ensures) c.requires.node_safe refl).1.1
 
 -- a leaf
 pub node_walk-returns-in-Leaf : goal.node_walk-returns-in-Leaf
@@ -79,14 +79,6 @@ pair_walk-node_squared-to_right-requires t c =
     let safe = c.requires.pair_safe in
     (hangs_there _ _ _ _ safe.right_tree _ safe.right_hangs).boxes_there
 
-pub pair_walk-is_skipped-requires : goal.pair_walk-is_skipped-requires
-pair_walk-is_skipped-requires t c =
-    c.requires.sound
-
-pub pair_walk-node_walk-requires : goal.pair_walk-node_walk-requires
-pair_walk-node_walk-requires t c =
-    (falls_out c.args.depth t (omega arith), (right_needs _ _ _ _ _ _ _ _ c.requires.pair_safe, (c.node_squared-to_right.ensures, c.requires.sound)))
-
 -- the right one alone
 pub pair_walk-returns-then-is_skipped : goal.pair_walk-returns-then-is_skipped
 pair_walk-returns-then-is_skipped t c =
@@ -95,10 +87,6 @@ pair_walk-returns-then-is_skipped t c =
     (right_first_here binary32 _ _ _ _ _ _ true c.node_squared-to_left.ensures c.node_squared-to_right.ensures c.if-to_right-to_left.true)
     (skipped_here binary32 _ _ _ _ _ _ _ _ true c.node_squared-to_left.ensures c.is_skipped.ensures c.if-is_skipped.true)
     refl)
-
-pub pair_walk-node_walk-then-requires : goal.pair_walk-node_walk-then-requires
-pair_walk-node_walk-then-requires t c =
-    (falls_out c.args.depth t (omega arith), (right_needs _ _ _ _ _ _ _ _ c.requires.pair_safe, (c.node_squared-to_right.ensures, c.requires.sound)))
 
 pub pair_walk-node_walk-requires-then-to_right-to_left : goal.pair_walk-node_walk-requires-then-to_right-to_left
 pair_walk-node_walk-requires-then-to_right-to_left t c =
@@ -113,14 +101,6 @@ pair_walk-returns-then-to_right-to_left t c =
     (right_answers _ _ _ _ _ _ _ _ _
     (right_first_here binary32 _ _ _ _ _ _ true c.node_squared-to_left.ensures c.node_squared-to_right.ensures c.if-to_right-to_left.true) refl refl)
 
-pub pair_walk-is_skipped-requires-2 : goal.pair_walk-is_skipped-requires-2
-pair_walk-is_skipped-requires-2 t c =
-    c.requires.sound
-
-pub pair_walk-node_walk-requires-then-is_skipped-2 : goal.pair_walk-node_walk-requires-then-is_skipped-2
-pair_walk-node_walk-requires-then-is_skipped-2 t c =
-    (falls_out c.args.depth t (omega arith), (left_needs _ _ _ _ _ _ _ _ c.requires.pair_safe, (c.node_squared-to_left.ensures, c.requires.sound)))
-
 -- the left one alone
 pub pair_walk-returns-then-is_skipped-2 : goal.pair_walk-returns-then-is_skipped-2
 pair_walk-returns-then-is_skipped-2 t c =
@@ -129,10 +109,6 @@ pair_walk-returns-then-is_skipped-2 t c =
     (right_first_here binary32 _ _ _ _ _ _ false c.node_squared-to_left.ensures c.node_squared-to_right.ensures c.if-to_right-to_left.false)
     (skipped_here binary32 _ _ _ _ _ _ _ _ true c.node_squared-to_right.ensures c.is_skipped-2.ensures c.if-is_skipped-2.true)
     refl)
-
-pub pair_walk-node_walk-then-requires-2 : goal.pair_walk-node_walk-then-requires-2
-pair_walk-node_walk-then-requires-2 t c =
-    (falls_out c.args.depth t (omega arith), (left_needs _ _ _ _ _ _ _ _ c.requires.pair_safe, (c.node_squared-to_left.ensures, c.requires.sound)))
 
 pub pair_walk-node_walk-requires-2 : goal.pair_walk-node_walk-requires-2
 pair_walk-node_walk-requires-2 t c =

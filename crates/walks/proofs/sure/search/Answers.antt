@@ -21,13 +21,13 @@ node_squared-squared-requires c =
     let safe = root_safe _ _ _ _ _ c.requires.searchable in
     (hangs_there _ _ _ _ safe.tree _ safe.hangs).boxes_there
 
-pub node_walk-requires : goal.node_walk-requires
-node_walk-requires c =
-    let most = c.requires.le_most in record {
-      node_safe = root_safe _ _ _ _ _ c.requires.searchable;
-      squared_value = c.node_squared-squared.ensures;
-      sound = start_sound _ _ _ _ (less_number _ (inf false) c.requires.false_value) most.0 most.1 c.start.ensures;
-    }
+pub node_walk-requires-clause-node_safe : goal.node_walk-requires-clause-node_safe
+node_walk-requires-clause-node_safe c = root_safe _ _ _ _ _ c.requires.searchable
+
+pub node_walk-requires-clause-sound : goal.node_walk-requires-clause-sound
+node_walk-requires-clause-sound c =
+    let most = c.requires.le_most in
+    start_sound _ _ _ _ (less_number _ (inf false) c.requires.false_value) most.0 most.1 c.start.ensures
 
 pub returns : goal.returns
 unfolding marked_walk

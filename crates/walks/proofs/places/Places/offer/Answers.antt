@@ -9,11 +9,6 @@ use Rattle.walks.specs.Values.{as_hit}
 use Rattle.walks.proofs.Slots.{offer_inserts, offer_keeps}
 use Rattle.walks.proofs.places.Places.offer.Goals as goal
 
-pub insert-requires : goal.insert-requires
-insert-requires c =
-    let a = c.args in
-    record { sound = c.requires; which_value = sym c.goes_before.ensures ∙ (both_passed (lt a.hit.squared a.limit) c.goes_before.result c.if-hit-limit.true).1 }
-
 pub returns-then-hit-limit : goal.returns-then-hit-limit
 unfolding counts
 returns-then-hit-limit c =

@@ -1,9 +1,0 @@
--- `test_build::large::fill` is safe and ends: the list keeps its length.
-use Rattle.std.proofs.Common.{◌-◌, arith, length-set}
-use Rattle.test_build.proofs.large.fill.Goals as goal
-
-pub loop-i-preserved : goal.loop-i-preserved
-loop-i-preserved c = (simp length-set (omega arith), simp length-set (omega arith))
-
-pub loop-i-smaller : goal.loop-i-smaller
-loop-i-smaller c = simp length-set (omega arith)

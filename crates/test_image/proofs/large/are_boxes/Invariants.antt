@@ -1,9 +1,0 @@
--- `test_image::large::are_boxes` is safe and ends: the two lists are of one length.
-use Rattle.std.proofs.Common.{◌≡◌, ◌-◌, ◌≤◌, length}
-use Rattle.test_image.proofs.large.are_boxes.Given as goal
-
-abbrev pub invariant-loop-i : goal.invariant-loop-i
-invariant-loop-i l = (l.i ≤ length l.boxes) × (length l.boxes ≡ length l.wanted)
-
-abbrev pub decreases-loop-i : goal.decreases-loop-i
-decreases-loop-i l = length l.boxes - l.i

@@ -1,9 +1,0 @@
--- `test_image::large::fill_triangles` is safe and ends: the list keeps its length.
-use Rattle.std.proofs.Common.{◌≡◌, ◌-◌, ◌≤◌, length}
-use Rattle.test_image.proofs.large.fill_triangles.Given as goal
-
-abbrev pub invariant-loop-i : goal.invariant-loop-i
-invariant-loop-i l = (l.i ≤ length l.triangles) × (length l.triangles ≡ length l.initial.triangles) × (l.from ≤ 1)
-
-abbrev pub decreases-loop-i : goal.decreases-loop-i
-decreases-loop-i l = length l.triangles - l.i

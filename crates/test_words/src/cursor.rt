@@ -1,0 +1,27 @@
+// The words of a stored case, read one behind the other.
+use crate::{Word, fill, more, pattern_at};
+
+// Where the next word of a case stands.
+#[derive(Clone, Copy)]
+pub struct Cursor<'a> {
+    pub bytes: &'a [u8],
+    pub at: usize,
+}
+
+impl<'a> Cursor<'a> {
+    // The next word, which the cursor passes.
+    pub fn next<T: Word>(&mut self) -> T {
+        let word = pattern_at(self.bytes, self.at);
+        self.at = more(self.at, 4);
+        T::of_pattern(word)
+    }
+
+    // Fills the first `count` entries of `room` with the next words, or all where it has fewer, and lends them.
+    pub fn fill<'b, T: Word>(&mut self, count: usize, room: &'b mut [T]) -> &'b [T] {
+        let count = count.min(room.len());
+        let out = &mut room[0..count];
+        fill(self.bytes, self.at, out);
+        self.at = more(self.at, count.saturating_mul(4));
+        out
+    }
+}
