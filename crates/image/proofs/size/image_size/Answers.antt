@@ -6,10 +6,8 @@ use Rattle.image.proofs.size.image_size.Goals as goal
 
 pub returns-then-is_wide : goal.returns-then-is_wide
 returns-then-is_wide c =
-    let t = c.args.triangles in
-    rw (version_by t, sym c.is_wide.ensures ∙ c.if-is_wide.true) (omega arith)
+    rw (version_by c.args.triangles, sym c.is_wide.ensures ∙ c.if-is_wide.true) (omega arith)
 
-pub returns : goal.returns
-returns c =
-    let t = c.args.triangles in
-    rw (version_by t, sym c.is_wide.ensures ∙ c.if-is_wide.false) (omega arith)
+pub returns-else-is_wide : goal.returns-else-is_wide
+returns-else-is_wide c =
+    rw (version_by c.args.triangles, sym c.is_wide.ensures ∙ c.if-is_wide.false) (omega arith)
