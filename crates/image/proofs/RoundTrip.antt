@@ -58,7 +58,9 @@ module _ (x : Image) {out out' : List ℕ} {n : ℕ} (w : WrittenIs x (Ok n) out
 -- ---- what reading an image that was written answers, and what the lists then hold: at their fronts what was written, behind it what they held
 pub record ReadBack (x : Image) (r : Result ImageRead Refusal)
     (t : List Float) (o l : List ℕ) (b t' : List Float) (o' l' : List ℕ) (b' : List Float) : Type 0 where
+  -- what it answers
   pub answer : answer_of r ≡ Reading.holds x.settings (triangle_count x.triangles) x.nodes
+  -- what the lists hold
   pub lists : ListsRead (used x) t o l b t' o' l' b'
 
 -- the n bytes that were written, into lists with room

@@ -1,16 +1,15 @@
 -- What reading an image answers and leaves, put together from its steps.
 use mathlib.Core.Path.{◌≡◌, sym, ap, ◌∙◌}
 use mathlib.Core.List.{List}
-use mathlib.Core.Bool.{Bool, true, ◌&&◌}
+use mathlib.Core.Bool.{true}
 use Prim.Native.Nat.{ℕ, ◌*◌, ◌≤◌}
-use borrow.Author.Tests.{leb-true}
+use Rattle.std.proofs.lemmas.Bool.Decides.{nat_tests}
+use native.Mathlib.Omega.{arith}
 use lib.ListN.{length}
-use lib.Dec.{leb}
 use lib.Ieee.{Float}
 use Rattle.spec_tables.proofs.Tables.{overwrite_none}
 use Rattle.spec_records.specs.Records.{wrong, bodies, laid_out}
 use Rattle.spec_records.specs.Layouts.{version_for, image_spans, image_size, image_wants}
-use Rattle.spec_records.proofs.Records.{both}
 use Rattle.spec_image.specs.Reading.{Rooms, refused, room_for, by_room, judged, image_read}
 use Rattle.spec_image.proofs.Laid.{judged_by_room}
 use Rattle.spec_image.proofs.Sizes.{image_is}
@@ -60,16 +59,4 @@ pub record Enough (r : Rooms) (t n : ℕ) : Type 0 where
 -- rooms that pass the test hold each list
 pub enough : (r : Rooms) (t n : ℕ) → room_for r t n ≡ true → Enough r t n
 enough r t n e =
-    let a : Bool = leb (9 * t) r.triangles in
-    let b : Bool = leb t r.order in
-    let c : Bool = leb (3 * n) r.links in
-    let d : Bool = leb (6 * n) r.boxes in
-    let three = both (a && b && c) d e in
-    let two = both (a && b) c three.0 in
-    let one = both a b two.0 in
-    record {
-      triangles = leb-true (9 * t) r.triangles one.0;
-      order = leb-true t r.order one.1;
-      links = leb-true (3 * n) r.links two.1;
-      boxes = leb-true (6 * n) r.boxes three.1;
-    }
+    record { triangles = grind (arith, nat_tests); order = grind (arith, nat_tests); links = grind (arith, nat_tests); boxes = grind (arith, nat_tests) }

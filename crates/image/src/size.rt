@@ -6,7 +6,7 @@ ghost use Rattle.spec_lists.specs.Refusals as Refusals;
 ghost use Rattle.lists.specs.Values.{as_verdict};
 
 use lists::refusal::{Refusal, refused_if};
-use records::versions::{is_wide, node_size};
+use records::versions::{is_wide, node_size, order_size};
 
 // How many bytes so many nodes take.
 pub fn nodes_size(wide: bool, nodes: usize) -> usize
@@ -21,11 +21,8 @@ pub fn image_size(triangles: usize, nodes: usize) -> usize
     requires { 32 + 40 * triangles + 34 * nodes < 2 ^ 64 }
     ensures { result ≡ image_size (version_for triangles) triangles nodes }
 {
-    if is_wide(triangles) {
-        32 + 40 * triangles + 34 * nodes
-    } else {
-        32 + 38 * triangles + 30 * nodes
-    }
+    let wide = is_wide(triangles);
+    32 + 36 * triangles + order_size(wide, triangles) + nodes_size(wide, nodes)
 }
 
 // Whether `given` bytes are too few. The node count may be any number, so it is compared with the room before it is multiplied.

@@ -1,4 +1,4 @@
--- Numbers in bytes, one byte a turn: read from the last byte backwards, written from the first on.
+-- Numbers in bytes, one byte a turn, the lowest first: how they are read and how they are written.
 use mathlib.Core.Path.{◌≡◌, refl, sym, ap, ◌∙◌}
 use mathlib.Core.List.{List, [], ◌∷◌, ◌++◌}
 use Prim.Native.Nat.{ℕ, zero, suc, ◌+◌, ◌*◌, ◌/◌, ◌%◌, ◌^◌, ◌≤◌, ◌<◌}
@@ -7,12 +7,17 @@ use native.Mathlib.Numerals.{add-one}
 use native.Mathlib.Omega.{arith}
 use lib.ListN.{length, get_or, take, drop, length-drop}
 use lib.Seq.{get_or-drop}
+use Rattle.std.proofs.Common.{Fits, w8}
 use Rattle.spec_tables.specs.Tables.{overwrite, concat_map, Put}
 use Rattle.spec_tables.proofs.Runs.{Run, run_end}
 use Rattle.spec_records.specs.Little.{little, of_little, little_at, Bytes}
 use Rattle.spec_records.proofs.Little.{length_little, number_below}
 
 -- ---- read
+-- what stands in a slice of u8 are bytes
+pub are_bytes : (s : List ℕ) → ((i : ℕ) → Fits w8 (get_or s i 0)) → Bytes s
+are_bytes s fit = record { below = λ i. omega (arith, fit i) }
+
 -- one byte more: the last counts by its place
 last_counts : (k : ℕ) (bytes : List ℕ) → k < length bytes → of_little (take (suc k) bytes) ≡ of_little (take k bytes) + 256 ^ k * get_or bytes k 0
 unfolding of_little

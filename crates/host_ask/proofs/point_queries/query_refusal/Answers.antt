@@ -1,4 +1,5 @@
--- `host_ask::point_queries::query_refusal` meets its contract: the triangles' tests, what the query chooses, the room, and then, for triangles that passed, three more.
+-- `host_ask::point_queries::query_refusal` meets its contract: the triangles' tests, what the query chooses, the room, and then, for triangles
+-- that passed, three more.
 use mathlib.Core.Path.{sym}
 use native.Mathlib.Omega.{arith}
 use Rattle.lists.proofs.Rows.{handed_on, refused_first, passed_first, last}

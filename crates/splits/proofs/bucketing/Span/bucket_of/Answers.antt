@@ -1,6 +1,6 @@
--- `splits::bucketing::bucket_of` meets its contract: what each call ensures, put in.
+-- `splits::bucketing::Span::bucket_of` meets its contract: what each call ensures, put in.
 use Rattle.spec_splits.specs.Area.{bucket_between}
-use Rattle.splits.proofs.bucketing.bucket_of.Goals as goal
+use Rattle.splits.proofs.bucketing.Span.bucket_of.Goals as goal
 
 pub returns : goal.returns
 unfolding bucket_between

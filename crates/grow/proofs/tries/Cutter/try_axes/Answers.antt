@@ -1,4 +1,4 @@
--- `grow::tries::try_axes` meets its contract. The invariant: the tries on the axes that remain, of the order that the last one left, are those on all.
+-- `grow::tries::Cutter::try_axes` meets its contract. The invariant: the tries on the axes that remain, of the order that the last one left, are those on all.
 use mathlib.Core.Path.{◌≡◌, refl, sym, ap, ◌∙◌}
 use mathlib.Core.List.{List, ◌∷◌}
 use Prim.Native.Nat.{ℕ, ◌+◌, ◌<◌, ◌≤◌}
@@ -18,7 +18,7 @@ use Rattle.spec_build.specs.Grown.{Tried, uncut}
 use Rattle.spec_build.specs.Tries.{axes_by_size, tried_in}
 use Rattle.spec_build.proofs.Trying.{next_needs, stays_cut, tries_next, in_turn_lem}
 use Rattle.grow.specs.Values.{as_axes}
-use Rattle.grow.proofs.tries.try_axes.Goals as goal
+use Rattle.grow.proofs.tries.Cutter.try_axes.Goals as goal
 
 -- of the axes that remain the first is the one at the index
 next_axis : (d : Axis) (axes : List Axis) (i : ℕ) → i < length axes → as_axes (drop i axes) ≡ as_axis (get_or axes i d) ∷ as_axes (drop (i + 1) axes)

@@ -1,10 +1,8 @@
--- `grow::tries::try_slice` meets its contract: what `union_of` and `try_axes` ensure.
-use mathlib.Core.Path.{◌∙◌}
+-- `grow::tries::Cutter::try_slice` meets its contract: what `union_of` and `try_axes` ensure.
 use native.Mathlib.Omega.{arith}
 use lib.Ieee.{binary32}
 use Rattle.spec_build.proofs.Trying.{try_rule_needs, tried_is}
-use Rattle.grow.proofs.Strategies.{tried_same}
-use Rattle.grow.proofs.tries.try_slice.Goals as goal
+use Rattle.grow.proofs.tries.Cutter.try_slice.Goals as goal
 
 pub union_of-parent-requires : goal.union_of-parent-requires
 union_of-parent-requires c =
@@ -13,4 +11,3 @@ union_of-parent-requires c =
 pub returns : goal.returns
 returns c =
     tried_is binary32 _ _ _ _ _ (omega (arith, c.requires.some)) c.union_of-parent.ensures c.try_axes.ensures
-    ∙ tried_same binary32 _ _ _ c.of_number.ensures _
