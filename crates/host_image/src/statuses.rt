@@ -36,9 +36,11 @@ fn put_settings(settings: Settings, list: &mut [u32])
     requires small_settings { SmallSettings (as_settings settings) }
     ensures { list.new ≡ overwrite 0 (settings_list (as_settings settings)) list.old }
 {
-    list[0] = settings.strategy as u32;
-    list[1] = settings.leaf_minimum as u32;
-    list[2] = settings.maximum_depth as u32;
+    list[..3].copy_from_slice(&[
+        settings.strategy as u32,
+        settings.leaf_minimum as u32,
+        settings.maximum_depth as u32,
+    ]);
 }
 
 // The status of reading, the number of nodes or its refusal. Leaves the settings that were read in the list.

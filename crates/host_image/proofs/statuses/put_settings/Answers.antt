@@ -1,7 +1,7 @@
--- `host_image::statuses::put_settings` meets its contract: three stores are one write.
-use Rattle.std.proofs.Common.{rules}
-use Rattle.spec_tables.proofs.Stores.{three_stores}
+-- `host_image::statuses::put_settings` meets its contract: what is copied to the front overwrites it.
+use Rattle.spec_tables.specs.Tables.{overwrite}
 use Rattle.host_image.proofs.statuses.put_settings.Goals as goal
 
 pub returns : goal.returns
-returns c = three_stores _ _ _ _ _ (search rules)
+unfolding overwrite
+returns c = rw c.copy_from_slice.ensures.after
