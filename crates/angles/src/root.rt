@@ -38,7 +38,7 @@ fn guess(n: u64) -> u64
     if shifted.is_nan() {
         0
     } else {
-        f64::to_bits(shifted) % 0x2000000
+        shifted.to_bits() % 0x2000000
     }
 }
 
@@ -69,11 +69,11 @@ fn by_fours(significand: u32, power: u32) -> ByFours
     requires { (0 < significand) × (significand < 2 ^ 24) × (149 ≤ power) × (power < 403) }
     ensures { InFours significand power result.digits result.scale }
 {
-    let spare = u32::leading_zeros(significand) - 8;
+    let spare = significand.leading_zeros() - 8;
     let rest = power - spare - 23;
     let shift = spare + 23 + rest % 2;
     ByFours {
-        digits: (significand as u64) << shift,
+        digits: u64::from(significand) << shift,
         scale: rest / 2,
     }
 }
@@ -99,7 +99,7 @@ pub fn root(x: f32) -> f32
     if x == 0.0 {
         return 0.0;
     }
-    let s = scaled(f32::to_bits(x));
+    let s = scaled(x.to_bits());
     let r = nearest_root(s.digits);
     f32::from_bits(s.scale * 0x800000 + r as u32)
 }

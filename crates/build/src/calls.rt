@@ -10,6 +10,7 @@ ghost use Rattle.build.specs.Values as Values;
 use crate::tests::build_refusal;
 use grow::grow::grow;
 use grow::tables::{put_bounds, put_centres, put_order};
+use grow::tries::Cutter;
 use lists::refusal::Refusal;
 use lists::settings::Settings;
 use lists::tests::triangle_count;
@@ -49,10 +50,13 @@ fn grow_tree(
     put_bounds(triangles, count, bounds);
     put_centres(bounds, count, centres);
     put_order(count, order);
-    let grown = grow(
+    let cutter = Cutter {
         bounds,
         centres,
-        settings.strategy,
+        strategy: settings.strategy,
+    };
+    let grown = grow(
+        &cutter,
         settings.leaf_minimum,
         settings.maximum_depth.saturating_sub(1),
         &mut order[..count],

@@ -95,9 +95,10 @@ fn with_next(triangles: &[f32], sums: Sums, t: u32) -> Sums
 {
     let triangle = triangle_at(triangles, t as usize);
     if has_normal(triangle) {
-        return sums.with_triangle(triangle);
+        sums.with_triangle(triangle)
+    } else {
+        sums
     }
-    sums
 }
 
 // The sums of the triangles of a leaf, one after another.

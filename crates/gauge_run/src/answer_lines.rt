@@ -1,5 +1,5 @@
 // One printed line a point, from the words of its answer.
-ghost use Rattle.std.specs.Prelude.{◌≡◌, ◌+◌, ◌*◌, ◌≤◌, length};
+ghost use Rattle.std.specs.Prelude.{◌+◌, ◌*◌, ◌≤◌, length};
 ghost use Rattle.spec_tables.specs.Tables.{Put, concat_map};
 ghost use Rattle.spec_printing.specs.Printed.{longest_found};
 ghost use Rattle.spec_search.specs.Answers.{answer_width};
@@ -7,13 +7,6 @@ ghost use Rattle.spec_gauge.specs.Lines.{words_line};
 
 use printing::lines::{Found, put_found, put_nothing};
 use walks::words::ANSWER_WIDTH;
-
-// A word as a usize.
-fn whole(word: u32) -> usize
-    ensures { result ≡ word }
-{
-    word as usize
-}
 
 // Writes the line of point k.
 fn put_answer_line(answers: &[u32], k: usize, out: &mut [u8], at: usize) -> usize
@@ -26,12 +19,12 @@ fn put_answer_line(answers: &[u32], k: usize, out: &mut [u8], at: usize) -> usiz
         return put_nothing(out, at, k);
     }
     let found = Found {
-        triangle: whole(answers[first + 1]),
+        triangle: answers[first + 1] as usize,
         x: answers[first + 2],
         y: answers[first + 3],
         z: answers[first + 4],
         squared: answers[first + 5],
-        part: whole(answers[first + 6]),
+        part: answers[first + 6] as usize,
     };
     put_found(out, at, k, found)
 }
@@ -42,10 +35,8 @@ pub fn put_answer_lines(answers: &[u32], count: usize, out: &mut [u8], at: usize
     ensures { Put at (concat_map (words_line answers.now) count) out.old out.new result }
 {
     let mut next = at;
-    let mut k = 0;
-    while k < count {
+    for k in 0..count {
         next = put_answer_line(answers, k, out, next);
-        k += 1;
     }
     next
 }

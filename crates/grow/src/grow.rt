@@ -5,15 +5,12 @@ ghost use Rattle.shapes.specs.Values as Shapes;
 ghost use Rattle.spec_build.specs.Growing.{Growable, GrownIs};
 
 use crate::nodes::{Grown, put_branch, put_leaf};
-use crate::tries::try_slice;
+use crate::tries::Cutter;
 
-// Kept: (a) the strategy stays a number, since `GrownIs` says what is grown for any; `try_slice` reads it.
 // Grows the tree of the slice, which begins at `entry` of the order list, and answers its root, levels and box.
 // `levels_remaining` levels remain below this one. The slice is left in the order of the leaves, and the nodes stand in the lists from `node` on.
 pub fn grow(
-    bounds: &[f32],
-    centres: &[f32],
-    strategy: usize,
+    cutter: &Cutter,
     leaf_minimum: usize,
     levels_remaining: usize,
     slice: &mut [u32],
@@ -23,20 +20,19 @@ pub fn grow(
     boxes: &mut [f32],
     node: usize,
 ) -> Grown
-    requires { Growable binary32 bounds.now centres.now leaf_minimum levels_remaining slice.old scratch.old entry links.old boxes.old node }
-    ensures { GrownIs binary32 bounds.now strategy leaf_minimum levels_remaining slice.old slice.new entry
+    requires { Growable binary32 cutter.now.bounds.now cutter.now.centres.now leaf_minimum levels_remaining
+        slice.old scratch.old entry links.old boxes.old node }
+    ensures { GrownIs binary32 cutter.now.bounds.now cutter.now.strategy leaf_minimum levels_remaining slice.old slice.new entry
         links.old links.new boxes.old boxes.new node result.root result.levels (Shapes.as_box result.bounds) }
 {
     if (levels_remaining == 0) | (slice.len() <= leaf_minimum) {
-        return put_leaf(bounds, slice, entry, links, boxes, node);
+        return put_leaf(cutter.bounds, slice, entry, links, boxes, node);
     }
-    let Some(cut) = try_slice(bounds, centres, strategy, slice, scratch) else {
-        return put_leaf(bounds, slice, entry, links, boxes, node);
+    let Some(cut) = cutter.try_slice(slice, scratch) else {
+        return put_leaf(cutter.bounds, slice, entry, links, boxes, node);
     };
     let left = grow(
-        bounds,
-        centres,
-        strategy,
+        cutter,
         leaf_minimum,
         levels_remaining - 1,
         &mut slice[..cut],
@@ -47,9 +43,7 @@ pub fn grow(
         node,
     );
     let right = grow(
-        bounds,
-        centres,
-        strategy,
+        cutter,
         leaf_minimum,
         levels_remaining - 1,
         &mut slice[cut..],

@@ -5,6 +5,7 @@ ghost use Rattle.spec_tables.specs.Tables.{overwrite};
 ghost use Rattle.spec_tree.specs.Trees as Trees;
 ghost use Rattle.spec_splits.specs.Splits.{box_in};
 ghost use Rattle.spec_build.specs.Growing.{LeafNeeds, BranchNeeds, BranchPut, Written};
+ghost use Rattle.grow.specs.Values as Values;
 
 use crate::tables::put_box;
 use shapes::box3::Box3;
@@ -18,12 +19,19 @@ pub struct Grown {
     pub bounds: Box3,
 }
 
+// What a node is, by the number that says so in its first link.
+#[derive(Clone, Copy, PartialEq, Eq)]
+pub enum Kind {
+    Leaf = 1,
+    Branch = 2,
+}
+
 // Writes the kind and the two links of a node.
-pub fn put_links(links: &mut [u32], node: usize, kind: u32, left: u32, right: u32)
+fn put_links(links: &mut [u32], node: usize, kind: Kind, left: u32, right: u32)
     requires { 3 * node + 3 ≤ length links.old }
-    ensures { links.new ≡ overwrite (3 * node) (kind ∷ left ∷ right ∷ []) links.old }
+    ensures { links.new ≡ overwrite (3 * node) (Values.number_of kind ∷ left ∷ right ∷ []) links.old }
 {
-    links[3 * node..3 * node + 3].copy_from_slice(&[kind, left, right]);
+    links[3 * node..3 * node + 3].copy_from_slice(&[kind as u32, left, right]);
 }
 
 // Writes a leaf over the slice, which begins at this entry of the order list, as node `node`.
@@ -40,7 +48,13 @@ pub fn put_leaf(
         boxes.old boxes.new result.root result.levels (Shapes.as_box result.bounds) }
 {
     let over = union_of(bounds, slice);
-    put_links(links, node, 1, entry as u32, (entry + slice.len()) as u32);
+    put_links(
+        links,
+        node,
+        Kind::Leaf,
+        entry as u32,
+        (entry + slice.len()) as u32,
+    );
     put_box(boxes, node, over);
     Grown {
         root: node,
@@ -57,7 +71,13 @@ pub fn put_branch(left: Grown, right: Grown, links: &mut [u32], boxes: &mut [f32
 {
     let node = right.root + 1;
     let over = left.bounds.union_box(right.bounds);
-    put_links(links, node, 2, left.root as u32, right.root as u32);
+    put_links(
+        links,
+        node,
+        Kind::Branch,
+        left.root as u32,
+        right.root as u32,
+    );
     put_box(boxes, node, over);
     Grown {
         root: node,

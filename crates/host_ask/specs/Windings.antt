@@ -7,12 +7,16 @@ use Rattle.spec_host.specs.PointBytes.{numbers_of, bytes_of}
 use Rattle.shapes.specs.declared.vec3.Vec3.{Vec3}
 use Rattle.shapes.specs.Values.{as_point}
 
--- the bytes of a number at each point
-abbrev pub number_bytes_at : (Point → Float) → (points : List ℕ) → List ℕ
-number_bytes_at number points =
-    bytes_of (concat_map (λ k. number (point_at (numbers_of points) (3 * k)) ∷ []) (point_count (numbers_of points)))
+-- what is computed at each point is the point's number
+abbrev pub Gives : (computes : Vec3 → Float → Type 0) → (number : Point → Float) → Type 0
+Gives computes number = (p : Vec3) (r : Float) → computes p r → r ≡ number (as_point p)
 
--- the numbers that `computes` gives stand at the front
+-- the number of point k
+abbrev pub number_at : (number : Point → Float) → (points : List ℕ) → ℕ → Float
+number_at number points k = number (point_at (numbers_of points) (3 * k))
+
+-- the numbers that are computed at the points stand at the front, four bytes each
 abbrev pub Written : (computes : Vec3 → Float → Type 0) → (points old new : List ℕ) → Type 0
 Written computes points old new =
-    (number : Point → Float) → ((p : Vec3) (r : Float) → computes p r → r ≡ number (as_point p)) → new ≡ overwrite 0 (number_bytes_at number points) old
+    (number : Point → Float) → Gives computes number
+    → new ≡ overwrite 0 (bytes_of (concat_map (λ k. number_at number points k ∷ []) (point_count (numbers_of points)))) old

@@ -1,6 +1,8 @@
 // The winding numbers by dipoles about all points: tests 1 to 4, 6, 71 to 75, 8 and 14, then four bytes a point.
-ghost use Rattle.std.specs.Prelude.{◌≡◌, length};
+ghost use Rattle.std.specs.Prelude.{◌≡◌, ◌*◌, ◌/◌, ◌≤◌, length};
+ghost use Rattle.spec_tables.specs.Tables.{overwrite};
 ghost use Rattle.lists.specs.Values.{as_verdict};
+ghost use Rattle.spec_dipoles.specs.Stored.{RootIn};
 ghost use Rattle.spec_host.specs.PointBytes.{fast_bytes, after_bytes};
 ghost use Rattle.spec_host.specs.Requests.{fast_bytes_refusal};
 
@@ -33,7 +35,23 @@ fn fast_refusal(
     scale_refusal(accuracy)
 }
 
-// Makes the tests, and writes the winding numbers. A refusal changes nothing. The table of arc tangents is laid out once for all of them.
+// Writes the winding number about each point to the front of the bytes. The table of arc tangents is laid out once for all of them.
+fn put_fast(drawing: &Drawing, sums: &[f32], points: &[u8], accuracy: f32, out: &mut [u8])
+    requires there { RootIn drawing.now.triangles.now drawing.now.order.now drawing.now.links.now sums.now drawing.now.nodes }
+    requires room { 4 * (length points.now / 12) ≤ length out.old }
+    ensures { out.new
+        ≡ overwrite 0 (fast_bytes drawing.now.triangles.now drawing.now.order.now drawing.now.links.now drawing.now.nodes
+        sums.now accuracy points.now) out.old }
+{
+    let table = arc_table();
+    put_windings(
+        points,
+        |p| fast_winding_by(&table, drawing, sums, accuracy, p),
+        out,
+    );
+}
+
+// Makes the tests, and writes the winding numbers. A refusal changes nothing.
 pub fn fast_winding(
     drawing: &Drawing,
     sums: &[f32],
@@ -49,7 +67,6 @@ pub fn fast_winding(
         drawing.now.nodes sums.now accuracy points.now) out.old }
 {
     fast_refusal(drawing, sums, points, accuracy, out.len())?;
-    let table = arc_table();
-    put_windings(points, |p| fast_winding_by(&table, drawing, sums, accuracy, p), out);
+    put_fast(drawing, sums, points, accuracy, out);
     Ok(())
 }

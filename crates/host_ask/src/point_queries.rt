@@ -1,4 +1,5 @@
 // The answers of a query at all points: tests 1 to 6, 71 to 75, 8 and 9, then an answer a point or so many of them.
+// Kept: (d) beside `queries::calls`: `put_few<S: Store>(.., points: &S::Points, .., out: &mut S)` asks for a trait with laws of reading and writing.
 ghost use Rattle.std.specs.Prelude.{◌≡◌, ◌*◌, ◌/◌, ◌≤◌, length};
 ghost use Rattle.std.specs.Float.{binary32};
 ghost use Rattle.spec_tables.specs.Tables.{overwrite};
@@ -12,198 +13,125 @@ ghost use Rattle.walks.specs.Values.{as_query};
 
 use host_bytes::answers::{ANSWER_SIZE, put_answer_bytes, put_places_bytes};
 use host_bytes::points::{point_bytes_refusal, point_in};
+use lists::drawing::Drawing;
+use lists::refusal::{Refusal, room_refusal};
 use lists::tests::{distance_refusal, triangles_refusal};
-use lists::verdict::{Verdict, room_refusal};
 use queries::query::{few_at, source_at};
 use queries::rules::{choice_refusal, most_by};
 use tree::calls::tree_refusal;
-use tree::nodes::wide;
 use walks::answer::Query;
-use walks::places::{BEST, WHICH};
+use walks::places::{BEST, Places, WHICH};
 
 // The first of the tests 1 to 6, 71 to 75, 8 and 9 that refuses. The room is in bytes, as are the points: one has 12.
 fn query_refusal(
     query: Query,
-    triangles: &[f32],
-    order: &[u32],
-    links: &[u32],
-    boxes: &[f32],
-    nodes: usize,
+    drawing: &Drawing,
     points: &[u8],
     distance: f32,
     room: usize,
-) -> Verdict
+) -> Result<(), Refusal>
     ensures { as_verdict result
-        ≡ query_bytes_refusal (as_query query) triangles.now order.now links.now boxes.now nodes
-        points.now distance room }
+        ≡ query_bytes_refusal (as_query query) drawing.now.triangles.now drawing.now.order.now drawing.now.links.now
+        drawing.now.boxes.now drawing.now.nodes points.now distance room }
 {
-    let drawing = triangles_refusal(triangles);
-    if drawing.refuses() {
-        return drawing;
-    }
-    let choice = choice_refusal(query);
-    if choice.refuses() {
-        return choice;
-    }
-    let answers = room / ANSWER_SIZE;
-    let fits = room_refusal(answers / most_by(query), points.len() / 12);
-    if fits.refuses() {
-        return fits;
-    }
-    tree_refusal(triangles, order, links, boxes, nodes)
-        .or(point_bytes_refusal(points))
-        .or(distance_refusal(distance))
+    triangles_refusal(drawing.triangles)?;
+    choice_refusal(query)?;
+    room_refusal(room / ANSWER_SIZE / most_by(query), points.len() / 12)?;
+    tree_refusal(drawing)?;
+    point_bytes_refusal(points)?;
+    distance_refusal(distance)
 }
 
 // Writes the nearest few at all points to the front of the bytes.
 fn put_few(
-    triangles: &[f32],
-    order: &[u32],
-    links: &[u32],
-    boxes: &[f32],
-    nodes: usize,
+    drawing: &Drawing,
     points: &[u8],
     distance: f32,
     rule: u32,
     most: usize,
     answers: &mut [u8],
 )
-    requires searchable { Searchable triangles.now order.now links.now boxes.now nodes }
+    requires searchable { Searchable drawing.now.triangles.now drawing.now.order.now drawing.now.links.now drawing.now.boxes.now
+        drawing.now.nodes }
     requires good_points { GoodPoints (numbers_of points.now) }
     requires points_in_bounds { (answer_size * most) * (length points.now / 12) ≤ length answers.old }
     requires good_distance { GoodDistance distance }
     requires le_most { (1 ≤ most) × (most ≤ most_few) }
     ensures { answers.new
-        ≡ overwrite 0 (answer_bytes most (few_answer binary32 (rule_of rule) most triangles.now distance) points.now)
+        ≡ overwrite 0 (answer_bytes most (few_answer binary32 (rule_of rule) most drawing.now.triangles.now distance) points.now)
         answers.old }
 {
-    let count = points.len() / 12;
     let width = ANSWER_SIZE * most;
-    let mut best = [0.0; BEST];
-    let mut which = [0u32; WHICH];
-    let mut k = 0;
-    while k < count {
+    let mut places = Places {
+        best: [0.0; BEST],
+        which: [0; WHICH],
+    };
+    let count = points.len() / 12;
+    for k in 0..count {
         let touched = point_in(points, k);
-        few_at(
-            triangles, order, links, boxes, nodes, touched, distance, rule, most, &mut best,
-            &mut which,
-        );
-        put_places_bytes(answers, width * k, &best, &which);
-        k += 1;
+        few_at(drawing, touched, distance, rule, most, &mut places);
+        put_places_bytes(answers, width * k, &places);
     }
 }
 
 // Writes the source's answers at all points to the front of the bytes.
-fn put_source(
-    triangles: &[f32],
-    order: &[u32],
-    links: &[u32],
-    boxes: &[f32],
-    nodes: usize,
-    points: &[u8],
-    distance: f32,
-    answers: &mut [u8],
-)
-    requires searchable { Searchable triangles.now order.now links.now boxes.now nodes }
+fn put_source(drawing: &Drawing, points: &[u8], distance: f32, answers: &mut [u8])
+    requires searchable { Searchable drawing.now.triangles.now drawing.now.order.now drawing.now.links.now drawing.now.boxes.now
+        drawing.now.nodes }
     requires points_in_bounds { answer_size * (length points.now / 12) ≤ length answers.old }
     ensures { answers.new
-        ≡ overwrite 0 (answer_bytes 1 (λ p j. source_answer binary32 triangles.now order.now links.now boxes.now
-        nodes distance p) points.now) answers.old }
+        ≡ overwrite 0 (answer_bytes 1 (λ p j. source_answer binary32 drawing.now.triangles.now drawing.now.order.now
+        drawing.now.links.now drawing.now.boxes.now drawing.now.nodes distance p) points.now) answers.old }
 {
     let count = points.len() / 12;
-    let mut k = 0;
-    while k < count {
+    for k in 0..count {
         let touched = point_in(points, k);
-        let answer = source_at(triangles, order, links, boxes, nodes, touched, distance);
-        put_answer_bytes(answers, ANSWER_SIZE * k, answer);
-        k += 1;
+        put_answer_bytes(
+            answers,
+            ANSWER_SIZE * k,
+            source_at(drawing, touched, distance),
+        );
     }
 }
 
 // Writes the answers at all points to the front of the bytes.
-fn put_answers(
-    query: Query,
-    triangles: &[f32],
-    order: &[u32],
-    links: &[u32],
-    boxes: &[f32],
-    nodes: usize,
-    points: &[u8],
-    distance: f32,
-    answers: &mut [u8],
-)
-    requires searchable { Searchable triangles.now order.now links.now boxes.now nodes }
+fn put_answers(query: Query, drawing: &Drawing, points: &[u8], distance: f32, answers: &mut [u8])
+    requires searchable { Searchable drawing.now.triangles.now drawing.now.order.now drawing.now.links.now drawing.now.boxes.now
+        drawing.now.nodes }
     requires good_points { GoodPoints (numbers_of points.now) }
     requires points_in_bounds { (answer_size * most_by (as_query query)) * (length points.now / 12) ≤ length answers.old }
     requires good_distance { GoodDistance distance }
     requires bound { (1 ≤ most_by (as_query query)) × (most_by (as_query query) ≤ most_few) }
     ensures { answers.new
-        ≡ overwrite 0 (answer_bytes (most_by (as_query query)) (answer_by binary32 (as_query query) triangles.now order.now
-        links.now boxes.now nodes distance) points.now) answers.old }
+        ≡ overwrite 0 (answer_bytes (most_by (as_query query)) (answer_by binary32 (as_query query) drawing.now.triangles.now
+        drawing.now.order.now drawing.now.links.now drawing.now.boxes.now drawing.now.nodes distance) points.now) answers.old }
 {
     match query {
-        Query::Sure { rule } => {
-            put_few(
-                triangles, order, links, boxes, nodes, points, distance, rule, 1, answers,
-            );
-        }
+        Query::Sure { rule } => put_few(drawing, points, distance, rule, 1, answers),
         Query::Few { rule, most } => {
-            put_few(
-                triangles,
-                order,
-                links,
-                boxes,
-                nodes,
-                points,
-                distance,
-                rule,
-                wide(most),
-                answers,
-            );
+            put_few(drawing, points, distance, rule, most as usize, answers)
         }
-        Query::Source => {
-            put_source(
-                triangles, order, links, boxes, nodes, points, distance, answers,
-            );
-        }
+        Query::Source => put_source(drawing, points, distance, answers),
     }
 }
 
 // Makes the tests, and writes the answers. A refusal changes nothing.
 pub fn ask(
     query: Query,
-    triangles: &[f32],
-    order: &[u32],
-    links: &[u32],
-    boxes: &[f32],
-    nodes: usize,
+    drawing: &Drawing,
     points: &[u8],
     distance: f32,
     answers: &mut [u8],
-) -> Verdict
+) -> Result<(), Refusal>
     ensures verdict { as_verdict result
-        ≡ query_bytes_refusal (as_query query) triangles.now order.now links.now boxes.now nodes
-        points.now distance (length answers.old) }
+        ≡ query_bytes_refusal (as_query query) drawing.now.triangles.now drawing.now.order.now drawing.now.links.now
+        drawing.now.boxes.now drawing.now.nodes points.now distance (length answers.old) }
     ensures answers { answers.new
-        ≡ after_bytes (as_verdict result) (answer_bytes (most_by (as_query query)) (answer_by binary32 (as_query query) triangles.now order.now
-        links.now boxes.now nodes distance) points.now) answers.old }
+        ≡ after_bytes (as_verdict result) (answer_bytes (most_by (as_query query)) (answer_by binary32 (as_query query)
+        drawing.now.triangles.now drawing.now.order.now drawing.now.links.now drawing.now.boxes.now drawing.now.nodes
+        distance) points.now) answers.old }
 {
-    let verdict = query_refusal(
-        query,
-        triangles,
-        order,
-        links,
-        boxes,
-        nodes,
-        points,
-        distance,
-        answers.len(),
-    );
-    if verdict.refuses() {
-        return verdict;
-    }
-    put_answers(
-        query, triangles, order, links, boxes, nodes, points, distance, answers,
-    );
-    verdict
+    query_refusal(query, drawing, points, distance, answers.len())?;
+    put_answers(query, drawing, points, distance, answers);
+    Ok(())
 }

@@ -1,20 +1,20 @@
 // The build of a C host: the tree in the lent lists, or a refusal that changes nothing.
+// Kept: (a) the flat settings and lists of `build_lists`, which are those of the export `gauge_build`: the C interface.
 ghost use Rattle.std.specs.Prelude.{◌≡◌};
 ghost use Rattle.build.specs.Values.{as_built};
 ghost use Rattle.spec_host.specs.Build.{BuildPut, built_status, BuiltPlaced};
 
 use build::calls::{Built, build};
-use host_bytes::status::encode_refusal;
+use host_bytes::status::encode;
+use lists::refusal::Refusal;
+use lists::settings::Settings;
 
 // The status of a build: the number of nodes, or its refusal.
-fn encode_built(built: Built) -> u64
+fn encode_built(built: Result<Built, Refusal>) -> u64
     requires { BuiltPlaced (as_built built) }
     ensures { result ≡ built_status (as_built built) }
 {
-    match built {
-        Built::Tree { nodes, .. } => nodes as u64,
-        Built::Refused { number, place } => encode_refusal(number, place),
-    }
+    encode(built.map(|tree| tree.nodes))
 }
 
 // Builds the tree over the triangles in the lent lists: tests 1 to 6. The status is the number of nodes.
@@ -47,17 +47,13 @@ pub fn build_lists(
           scratch = scratch.new;
         }) }
 {
-    let built = build(
-        triangles,
+    let settings = Settings {
         strategy,
         leaf_minimum,
         maximum_depth,
-        order,
-        links,
-        boxes,
-        bounds,
-        centres,
-        scratch,
+    };
+    let built = build(
+        triangles, settings, order, links, boxes, bounds, centres, scratch,
     );
     encode_built(built)
 }

@@ -1,4 +1,5 @@
 // The calls of a C host over images: sizes and counts, writing lists, reading them back. A call that refuses changes nothing that is lent.
+// Kept: (a) the flat lists of `write_lists` and `read_lists`, which are those of the exports `gauge_write` and `gauge_read`: the C interface.
 ghost use Rattle.std.specs.Prelude.{◌≡◌};
 ghost use Rattle.image.specs.Values.{image_from};
 ghost use Rattle.spec_host.specs.Status.{status};
@@ -9,20 +10,20 @@ use host_bytes::status::encode_refusal;
 use image::read::read_image;
 use image::size::image_size;
 use image::write::write_image;
+use lists::drawing::Drawing;
 use lists::limits;
-use records::layout::{ImageLayout, image_layout};
+use lists::settings::Settings;
+use records::layout::image_layout;
 
 // The maximum size of the image of a list of `triangles` triangles, or 0 where no such list passes.
 pub fn image_max(triangles: usize) -> u64
     ensures { result ≡ image_max triangles }
 {
-    if triangles < 1 {
-        return 0;
+    if (1..=limits::MAX_TRIANGLES).contains(&triangles) {
+        image_size(triangles, 2 * triangles - 1) as u64
+    } else {
+        0
     }
-    if triangles > limits::MAX_TRIANGLES {
-        return 0;
-    }
-    image_size(triangles, 2 * triangles - 1) as u64
 }
 
 // How many triangles an image has: test 10. The status is their number.
@@ -30,8 +31,8 @@ pub fn image_triangles(image: &[u8]) -> u64
     ensures { result ≡ status (layout_refusal image.now) (image_triangles image.now) }
 {
     match image_layout(image) {
-        ImageLayout::Wrong(at) => encode_refusal(10, at),
-        ImageLayout::Right { triangles, .. } => triangles as u64,
+        Ok(counts) => counts.triangles as u64,
+        Err(wrong) => encode_refusal(wrong.into()),
     }
 }
 
@@ -50,17 +51,19 @@ pub fn write_lists(
     ensures { WritePut (image_from strategy leaf_minimum maximum_depth triangles.now order.now links.now
         boxes.now nodes) image.old result image.new }
 {
-    let written = write_image(
+    let settings = Settings {
         strategy,
         leaf_minimum,
         maximum_depth,
+    };
+    let drawing = Drawing {
         triangles,
         order,
         links,
         boxes,
         nodes,
-        image,
-    );
+    };
+    let written = write_image(settings, &drawing, image);
     encode_written(written)
 }
 

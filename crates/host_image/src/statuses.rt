@@ -6,21 +6,18 @@ ghost use Rattle.image.specs.Values.{as_written, answer_of};
 ghost use Rattle.spec_host.specs.Status.{status};
 ghost use Rattle.spec_host.specs.Images.{settings_list, short_refusal, written_status, WrittenPlaced, read_status, SmallSettings, ReadPlaced, settings_left};
 
-use host_bytes::status::encode_refusal;
+use host_bytes::status::{encode, encode_refusal};
 use image::read::ImageRead;
-use image::write::ImageWritten;
+use lists::refusal::Refusal;
 use lists::settings::Settings;
-use records::layout::{ImageLayout, image_layout};
+use records::layout::image_layout;
 
 // The status of writing: the number of bytes, or its refusal.
-pub fn encode_written(written: ImageWritten) -> u64
+pub fn encode_written(written: Result<usize, Refusal>) -> u64
     requires { WrittenPlaced (as_written written) }
     ensures { result ≡ written_status (as_written written) }
 {
-    match written {
-        ImageWritten::Refused { number, place } => encode_refusal(number, place),
-        ImageWritten::Bytes(bytes) => bytes as u64,
-    }
+    encode(written)
 }
 
 // 10 where the image is laid out wrong, or else 6: the list of the settings is short.
@@ -28,8 +25,8 @@ pub fn encode_short(image: &[u8]) -> u64
     ensures { result ≡ status (short_refusal image.now) 0 }
 {
     match image_layout(image) {
-        ImageLayout::Wrong(at) => encode_refusal(10, at),
-        ImageLayout::Right { .. } => encode_refusal(6, 0),
+        Ok(_) => encode_refusal(Refusal::NoRoom),
+        Err(wrong) => encode_refusal(wrong.into()),
     }
 }
 
@@ -39,27 +36,25 @@ fn put_settings(settings: Settings, list: &mut [u32])
     requires small_settings { SmallSettings (as_settings settings) }
     ensures { list.new ≡ overwrite 0 (settings_list (as_settings settings)) list.old }
 {
-    list[0] = settings.strategy as u32;
-    list[1] = settings.leaf_minimum as u32;
-    list[2] = settings.maximum_depth as u32;
+    list[..3].copy_from_slice(&[
+        settings.strategy as u32,
+        settings.leaf_minimum as u32,
+        settings.maximum_depth as u32,
+    ]);
 }
 
 // The status of reading, the number of nodes or its refusal. Leaves the settings that were read in the list.
-pub fn encode_read(read: ImageRead, settings: &mut [u32]) -> u64
+pub fn encode_read(read: Result<ImageRead, Refusal>, settings: &mut [u32]) -> u64
     requires in_bounds { 3 ≤ length settings.old }
     requires read_placed { ReadPlaced (answer_of read) }
     ensures status { result ≡ read_status (answer_of read) }
     ensures settings { settings.new ≡ settings_left (answer_of read) settings.old }
 {
     match read {
-        ImageRead::Refused { number, place } => encode_refusal(number, place),
-        ImageRead::Read {
-            settings: held,
-            nodes,
-            ..
-        } => {
-            put_settings(held, settings);
-            nodes as u64
+        Ok(image) => {
+            put_settings(image.settings, settings);
+            image.nodes as u64
         }
+        Err(refusal) => encode_refusal(refusal),
     }
 }

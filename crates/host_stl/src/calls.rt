@@ -3,17 +3,18 @@ ghost use Rattle.std.specs.Prelude.{◌≡◌};
 ghost use Rattle.stl.specs.Values.{as_counted};
 ghost use Rattle.spec_host.specs.Stls.{counted_status, CountedPlaced, ReadStlPut, WriteStlPut};
 
-use host_bytes::status::{encode_refusal, told_place};
-use stl::calls::{Counted, read_stl, write_stl};
+use host_bytes::status::encode_told;
+use lists::refusal::Refusal;
+use stl::calls::{read_stl, write_stl};
 
 // The status of reading or writing: the count, or its refusal.
-fn encode_counted(counted: Counted) -> u64
+fn encode_counted(counted: Result<usize, Refusal>) -> u64
     requires { CountedPlaced (as_counted counted) }
     ensures { result ≡ counted_status (as_counted counted) }
 {
     match counted {
-        Counted::Refused { number, place } => encode_refusal(number, told_place(place)),
-        Counted::Count(count) => count as u64,
+        Ok(count) => count as u64,
+        Err(refusal) => encode_told(refusal),
     }
 }
 

@@ -24,11 +24,11 @@ use Rattle.spec_image.proofs.Sizes.{length_links, length_box}
 use Rattle.spec_image.proofs.Used.{used_bytes}
 use Rattle.spec_image.proofs.Writing.{Good, used_good, write_passed, write_passes}
 use Rattle.spec_image.proofs.Kept.{good_long, written_front, written_back, written_held, read_settings, read_back}
+use Rattle.std.specs.Prelude.{Result, Ok}
+use Rattle.lists.specs.declared.refusal.Refusal.{Refusal}
 use Rattle.lists.specs.declared.settings.Settings.{Settings}
 use Rattle.lists.specs.Values.{as_settings}
 use Rattle.image.specs.declared.read.ImageRead.{ImageRead}
-use Rattle.image.specs.declared.read.ImageRead.TheVariants.{Read}
-use Rattle.image.specs.declared.write.ImageWritten.TheVariants as Written
 use Rattle.image.specs.Values.{image_of, rooms_in, answer_of, ListsRead, ReadIs, WrittenIs}
 
 -- ---- an answer of n bytes: the tests passed, and n is the exact size
@@ -36,7 +36,7 @@ wrote_parts : (v : Verdict) (size n : ℕ) → Writing.wrote n ≡ answered v si
 wrote_parts passes size n e = (refl, cc)
 wrote_parts (refused number place) size n e = absurd (let z : ◌≡◌ {A = ℕ} 0 1 = cc in omega arith)
 
-module _ (x : Image) {out out' : List ℕ} {n : ℕ} (w : WrittenIs x (Written.Bytes n) out out') where
+module _ (x : Image) {out out' : List ℕ} {n : ℕ} (w : WrittenIs x (Ok n) out out') where
   accepts : write_refusal x (length out) ≡ passes
   unfolding image_written
   accepts = (wrote_parts (write_refusal x (length out)) (exact_size x) n w.answer).0
@@ -56,13 +56,16 @@ module _ (x : Image) {out out' : List ℕ} {n : ℕ} (w : WrittenIs x (Written.B
   bytes_are = rw accepts at w.filled
 
 -- ---- what reading an image that was written answers, and what the lists then hold: at their fronts what was written, behind it what they held
-pub record ReadBack (x : Image) (r : ImageRead) (t : List Float) (o l : List ℕ) (b t' : List Float) (o' l' : List ℕ) (b' : List Float) : Type 0 where
+pub record ReadBack (x : Image) (r : Result ImageRead Refusal)
+    (t : List Float) (o l : List ℕ) (b t' : List Float) (o' l' : List ℕ) (b' : List Float) : Type 0 where
+  -- what it answers
   pub answer : answer_of r ≡ Reading.holds x.settings (triangle_count x.triangles) x.nodes
+  -- what the lists hold
   pub lists : ListsRead (used x) t o l b t' o' l' b'
 
 -- the n bytes that were written, into lists with room
-pub written_then_read : (x : Image) → AllFit binary32 x.triangles → {out out' : List ℕ} {n : ℕ} → WrittenIs x (Written.Bytes n) out out'
-    → {r : ImageRead} {t : List Float} {o l : List ℕ} {b t' : List Float} {o' l' : List ℕ} {b' : List Float}
+pub written_then_read : (x : Image) → AllFit binary32 x.triangles → {out out' : List ℕ} {n : ℕ} → WrittenIs x (Ok n) out out'
+    → {r : Result ImageRead Refusal} {t : List Float} {o l : List ℕ} {b t' : List Float} {o' l' : List ℕ} {b' : List Float}
     → room_for (rooms_in t o l b) (triangle_count x.triangles) x.nodes ≡ true
     → ReadIs (take n out') r t o l b t' o' l' b' → ReadBack x r t o l b t' o' l' b'
 written_then_read x fit {out} {out'} {n} w {r} {t} {o} {l} {b} {t'} {o'} {l'} {b'} enough is =
@@ -74,8 +77,12 @@ written_then_read x fit {out} {out'} {n} w {r} {t} {o} {l} {b} {t'} {o'} {l'} {b
     record { answer = answer; lists = subst (λ (y : Image). ListsRead y t o l b t' o' l' b') held is.filled }
 
 -- ---- what was read
+-- the answer of a read that passed
+abbrev pub read : Settings → (count nodes : ℕ) → Result ImageRead Refusal
+read settings count nodes = Ok (record { settings = settings; triangles = count; nodes = nodes })
+
 module _ {s : List ℕ} {settings : Settings} {count nodes : ℕ} {t : List Float} {o l : List ℕ} {b t' : List Float} {o' l' : List ℕ} {b' : List Float}
-    (is : ReadIs s (Read settings count nodes) t o l b t' o' l' b') where
+    (is : ReadIs s (read settings count nodes) t o l b t' o' l' b') where
   abbrev sh : Shape
   sh = version_for count
 
@@ -105,7 +112,7 @@ module _ {s : List ℕ} {settings : Settings} {count nodes : ℕ} {t : List Floa
   -- where the writer accepts what stands at the lists' fronts, it writes the image that was read
   pub read_then_written : Bytes s → {links : List ℕ} {boxes : List Float}
       → take (3 * nodes) links ≡ take (3 * nodes) l' → take (6 * nodes) boxes ≡ take (6 * nodes) b'
-      → {out out' : List ℕ} {n : ℕ} → WrittenIs (image_of settings (take (9 * count) t') (take count o') links boxes nodes) (Written.Bytes n) out out'
+      → {out out' : List ℕ} {n : ℕ} → WrittenIs (image_of settings (take (9 * count) t') (take count o') links boxes nodes) (Ok n) out out'
       → (n ≡ length s) × (out' ≡ overwrite 0 s out)
   unfolding image_in
   read_then_written ok {links} {boxes} e f {out} {out'} {n} w =
@@ -141,9 +148,9 @@ pub record SameFronts (count nodes : ℕ) (t : List Float) (o l : List ℕ) (b t
 pub one_image_read : {s s₂ : List ℕ} {settings : Settings} {count nodes : ℕ}
     → {t : List Float} {o l : List ℕ} {b t' : List Float} {o' l' : List ℕ} {b' : List Float}
     → {t₂ : List Float} {o₂ l₂ : List ℕ} {b₂ t₂' : List Float} {o₂' l₂' : List ℕ} {b₂' : List Float}
-    → ReadIs s (Read settings count nodes) t o l b t' o' l' b' → Bytes s → ReadIs s₂ (Read settings count nodes) t₂ o₂ l₂ b₂ t₂' o₂' l₂' b₂' → Bytes s₂
+    → ReadIs s (read settings count nodes) t o l b t' o' l' b' → Bytes s → ReadIs s₂ (read settings count nodes) t₂ o₂ l₂ b₂ t₂' o₂' l₂' b₂' → Bytes s₂
     → SameFronts count nodes t' o' l' b' t₂' o₂' l₂' b₂'
-    → {out out' : List ℕ} {n : ℕ} → WrittenIs (image_of settings (take (9 * count) t') (take count o') l' b' nodes) (Written.Bytes n) out out'
+    → {out out' : List ℕ} {n : ℕ} → WrittenIs (image_of settings (take (9 * count) t') (take count o') l' b' nodes) (Ok n) out out'
     → s ≡ s₂
 one_image_read {s} {s₂} {settings} {count} {nodes} is ok is₂ ok₂ same {out} {out'} {n} w =
     let first = read_then_written is ok refl refl w in

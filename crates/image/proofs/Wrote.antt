@@ -1,5 +1,5 @@
 -- What writing an image answers and leaves, put together from its steps.
-use mathlib.Core.Path.{◌≡◌, sym, ap, ◌∙◌}
+use mathlib.Core.Path.{◌≡◌, sym}
 use Prim.Native.Nat.{ℕ, ◌≤◌}
 use mathlib.Core.List.{List}
 use lib.ListN.{length}
@@ -10,33 +10,28 @@ use Rattle.spec_image.specs.Image.{Image, image_bytes}
 use Rattle.spec_image.specs.Stored.{Complete}
 use Rattle.spec_image.specs.Writing.{version_of, write_refusal, image_written, bytes_after}
 use Rattle.spec_image.proofs.Writing.{Good, write_passed, good_count, good_complete}
-use Rattle.lists.specs.Values.{as_verdict}
-use Rattle.lists.specs.declared.verdict.Verdict.{Verdict}
-use Rattle.lists.specs.declared.verdict.Verdict.TheVariants.{Passed, Refused}
+use Rattle.std.specs.Prelude.{Result, Ok, Err}
+use Rattle.lists.specs.declared.refusal.Refusal.{Refusal}
+use Rattle.lists.specs.Values.{number_of, place_of}
 use Rattle.image.specs.Values.{WrittenIs}
-use Rattle.image.specs.declared.write.ImageWritten.TheVariants as Written
 
-module _ (x : Image) (out : List ℕ) {v : Verdict} (tests : as_verdict v ≡ write_refusal x (length out)) where
+module _ (x : Image) (out : List ℕ) where
   -- a refusal leaves the bytes as they were
-  pub wrote_nothing : {number place : ℕ} → v ≡ Refused number place → WrittenIs x (Written.Refused number place) out out
+  pub wrote_nothing : (r : Result ℕ Refusal) (e : Refusal) → r ≡ Err e → refused (number_of e) (place_of e) ≡ write_refusal x (length out)
+      → WrittenIs x r out out
   unfolding image_written bytes_after
-  wrote_nothing {number} {place} e =
-      let r : write_refusal x (length out) ≡ refused number place = sym tests ∙ ap as_verdict e in
-      record { answer = rw r; filled = rw r }
+  wrote_nothing r e is tests = record { answer = rw (is, ← tests); filled = rw (← tests) }
 
-  module _ (e : v ≡ Passed) where
-    passed : write_refusal x (length out) ≡ passes
-    passed = sym tests ∙ ap as_verdict e
-
+  module _ (passed : passes ≡ write_refusal x (length out)) where
     good : Good x
-    good = (write_passed x (length out) passed).0
+    good = (write_passed x (length out) (sym passed)).0
 
     -- where the tests pass, the image is complete and the bytes have room for it
     pub can_put : Complete x × image_size (version_of x) (length x.order) x.nodes ≤ length out
-    can_put = (good_complete x good, rw (good_count x good) (write_passed x (length out) passed).1)
+    can_put = (good_complete x good, rw (good_count x good) (write_passed x (length out) (sym passed)).1)
 
     -- where the tests pass, the image stands at the front of the bytes
     pub wrote_image : {n : ℕ} {out' : List ℕ} → Put 0 (image_bytes (version_of x) x) out out' n → n ≡ image_size (version_of x) (length x.order) x.nodes
-        → WrittenIs x (Written.Bytes n) out out'
+        → WrittenIs x (Ok n) out out'
     unfolding image_written bytes_after
-    wrote_image p size = record { answer = rw (passed, size, good_count x good); filled = rw passed p.written }
+    wrote_image p size = record { answer = rw (← passed, size, good_count x good); filled = rw (← passed) p.written }

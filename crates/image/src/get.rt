@@ -1,14 +1,15 @@
 // Reads an image whose layout is right: its settings, its triangles, its tree. A wide image is one of version 2.
+// Kept: (d) four lists beside each other. As one, `lists.read(wide, bytes, count, nodes)`, the contracts name the same four, before and after.
 ghost use Rattle.std.specs.Prelude.{◌≡◌, ◌+◌, ◌*◌, ◌≤◌, ◌<◌, ◌^◌, length};
 ghost use Rattle.spec_tables.specs.Tables.{overwrite, concat_map};
 ghost use Rattle.spec_records.specs.Layouts.{shape_by, node_size, image_size};
 ghost use Rattle.spec_image.specs.Image.{leaf_in, settings_in, links_in, sides_in, image_in};
 ghost use Rattle.lists.specs.Values.{as_settings};
-ghost use Rattle.image.specs.Values.{TreeFilled, ListsRead};
+ghost use Rattle.image.specs.Values.{NodesFit, ListsRead};
 
 use crate::size::nodes_size;
 use lists::settings::Settings;
-use records::entries::{read_entries, read_f32s, read_u16s};
+use records::entries::{read_entries, read_f32s, read_numbers};
 use records::numbers::u16_at;
 use records::versions::order_size;
 
@@ -16,13 +17,7 @@ use records::versions::order_size;
 fn leaf_of(wide: bool, stored: usize) -> usize
     ensures { result ≡ leaf_in (shape_by wide) stored }
 {
-    if stored > 0 {
-        return stored;
-    }
-    if wide {
-        return 65536;
-    }
-    0
+    if wide && stored == 0 { 65536 } else { stored }
 }
 
 // The settings in record 1, which stands at the front.
@@ -42,10 +37,7 @@ fn bounds_at(wide: bool, at: usize) -> usize
     requires { at + 10 < 2 ^ 64 }
     ensures { result ≡ at + (2 + 2 * (shape_by wide).entry) }
 {
-    if wide {
-        return at + 10;
-    }
-    at + 6
+    at + if wide { 10 } else { 6 }
 }
 
 // Leaves the links and the box of one node in their lists. The nodes stand from byte `start` on.
@@ -63,7 +55,7 @@ fn read_node(
     ensures boxes_after { boxes.new ≡ overwrite (6 * node) (sides_in (shape_by wide) bytes.now start node) boxes.old }
 {
     let at = start + nodes_size(wide, node);
-    read_u16s(bytes, at, 1, links, 3 * node);
+    read_numbers::<2>(bytes, at, 1, links, 3 * node);
     read_entries(wide, bytes, at + 2, 2, links, 3 * node + 1);
     read_f32s(bytes, bounds_at(wide, at), 6, boxes, 6 * node);
 }
@@ -78,40 +70,16 @@ fn read_nodes(
     boxes: &mut [f32],
 )
     requires nodes_in_bounds { start + node_size (shape_by wide) * nodes ≤ length bytes.now }
-    requires nodes_in_bounds_2 { (3 * nodes ≤ length links.old) × (6 * nodes ≤ length boxes.old) }
+    requires nodes_in_bounds_2 { NodesFit nodes links.old boxes.old }
     ensures links_after { links.new ≡ overwrite 0 (concat_map (links_in (shape_by wide) bytes.now start) nodes) links.old }
     ensures boxes_after { boxes.new ≡ overwrite 0 (concat_map (sides_in (shape_by wide) bytes.now start) nodes) boxes.old }
 {
-    let mut i = 0;
-    while i < nodes {
-        read_node(wide, bytes, start, i, links, boxes);
-        i += 1;
+    for node in 0..nodes {
+        read_node(wide, bytes, start, node, links, boxes);
     }
 }
 
-// Leaves the order and the nodes of an image of `count` triangles and `nodes` nodes at the front of the lists.
-fn read_tree(
-    wide: bool,
-    bytes: &[u8],
-    count: usize,
-    nodes: usize,
-    order: &mut [u32],
-    links: &mut [u32],
-    boxes: &mut [f32],
-)
-    requires nodes_in_bounds { image_size (shape_by wide) count nodes ≤ length bytes.now }
-    requires count_in_bounds { count ≤ length order.old }
-    requires nodes_in_bounds_2 { (3 * nodes ≤ length links.old) × (6 * nodes ≤ length boxes.old) }
-    ensures { TreeFilled (image_in (shape_by wide) bytes.now count nodes) order.old links.old boxes.old
-        order.new links.new boxes.new }
-{
-    let third = 20 + 36 * count + 6;
-    let fourth = third + order_size(wide, count) + 6;
-    read_entries(wide, bytes, third, count, order, 0);
-    read_nodes(wide, bytes, fourth, nodes, links, boxes);
-}
-
-// Leaves the triangles, the order and the nodes of such an image at the front of the lists.
+// Leaves the triangles, the order and the nodes of an image of `count` triangles and `nodes` nodes at the front of the lists.
 pub fn read_lists(
     wide: bool,
     bytes: &[u8],
@@ -124,10 +92,13 @@ pub fn read_lists(
 )
     requires nodes_in_bounds { image_size (shape_by wide) count nodes ≤ length bytes.now }
     requires count_in_bounds { (9 * count ≤ length triangles.old) × (count ≤ length order.old) }
-    requires nodes_in_bounds_2 { (3 * nodes ≤ length links.old) × (6 * nodes ≤ length boxes.old) }
+    requires nodes_in_bounds_2 { NodesFit nodes links.old boxes.old }
     ensures { ListsRead (image_in (shape_by wide) bytes.now count nodes) triangles.old order.old links.old
         boxes.old triangles.new order.new links.new boxes.new }
 {
+    let third = 20 + 36 * count + 6;
+    let fourth = third + order_size(wide, count) + 6;
     read_f32s(bytes, 20, 9 * count, triangles, 0);
-    read_tree(wide, bytes, count, nodes, order, links, boxes);
+    read_entries(wide, bytes, third, count, order, 0);
+    read_nodes(wide, bytes, fourth, nodes, links, boxes);
 }

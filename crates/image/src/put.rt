@@ -1,4 +1,5 @@
 // Writes the records of an image, one behind the other. What writes answers the index behind what it wrote. A wide image is one of version 2.
+// Kept: (d) the bytes and the index beside them, as in `records`. As one, `next.put_u16(kind)`, the contracts say of its two parts what they say now.
 ghost use Rattle.std.specs.Prelude.{◌≡◌, ◌+◌, ◌*◌, ◌≤◌, length};
 ghost use Rattle.std.specs.Float.{binary32};
 ghost use Rattle.spec_tables.specs.Tables.{concat_map, Put};
@@ -8,11 +9,12 @@ ghost use Rattle.spec_records.specs.Layouts.{shape_by, node_size, image_size};
 ghost use Rattle.spec_image.specs.Image.{settings_bytes, node_bytes, image_bytes};
 ghost use Rattle.spec_image.specs.Stored.{Complete};
 ghost use Rattle.lists.specs.Values.{as_settings};
-ghost use Rattle.image.specs.Values.{image_of};
+ghost use Rattle.image.specs.Values.{image_of, NodesFit};
 
 use crate::size::nodes_size;
+use lists::drawing::Drawing;
 use lists::settings::Settings;
-use records::entries::{put_entries, put_f32s, put_u16s};
+use records::entries::{put_entries, put_f32s, put_numbers};
 use records::numbers::{put_u16, put_u32};
 use records::versions::{order_size, version};
 
@@ -62,85 +64,55 @@ fn put_order(wide: bool, order: &[u32], out: &mut [u8], at: usize) -> usize
 }
 
 // Writes the kind, left and right of a node, and its box.
-fn put_node(
-    wide: bool,
-    links: &[u32],
-    boxes: &[f32],
-    node: usize,
-    out: &mut [u8],
-    at: usize,
-) -> usize
-    requires node_in_bounds { (3 * node + 3 ≤ length links.now) × (6 * node + 6 ≤ length boxes.now) }
+fn put_node(wide: bool, drawing: &Drawing, node: usize, out: &mut [u8], at: usize) -> usize
+    requires node_in_bounds { (3 * node + 3 ≤ length drawing.now.links.now) × (6 * node + 6 ≤ length drawing.now.boxes.now) }
     requires wide_in_bounds { at + node_size (shape_by wide) ≤ length out.old }
-    ensures put { Put at (node_bytes (shape_by wide) links.now boxes.now node) out.old out.new result }
+    ensures put { Put at (node_bytes (shape_by wide) drawing.now.links.now drawing.now.boxes.now node) out.old out.new result }
     ensures value { result ≡ at + node_size (shape_by wide) }
 {
-    let sides = put_u16s(links, 3 * node, 1, out, at);
-    let bounds = put_entries(wide, links, 3 * node + 1, 2, out, sides);
-    put_f32s(boxes, 6 * node, 6, out, bounds)
+    let sides = put_numbers::<2>(drawing.links, 3 * node, 1, out, at);
+    let bounds = put_entries(wide, drawing.links, 3 * node + 1, 2, out, sides);
+    put_f32s(drawing.boxes, 6 * node, 6, out, bounds)
 }
 
 // Writes all nodes.
-fn put_nodes(
-    wide: bool,
-    links: &[u32],
-    boxes: &[f32],
-    nodes: usize,
-    out: &mut [u8],
-    at: usize,
-) -> usize
-    requires nodes_in_bounds { (3 * nodes ≤ length links.now) × (6 * nodes ≤ length boxes.now) }
-    requires nodes_in_bounds_2 { at + node_size (shape_by wide) * nodes ≤ length out.old }
-    ensures put { Put at (concat_map (node_bytes (shape_by wide) links.now boxes.now) nodes) out.old out.new result }
-    ensures value { result ≡ at + node_size (shape_by wide) * nodes }
+fn put_nodes(wide: bool, drawing: &Drawing, out: &mut [u8], at: usize) -> usize
+    requires nodes_in_bounds { NodesFit drawing.now.nodes drawing.now.links.now drawing.now.boxes.now }
+    requires nodes_in_bounds_2 { at + node_size (shape_by wide) * drawing.now.nodes ≤ length out.old }
+    ensures put { Put at (concat_map (node_bytes (shape_by wide) drawing.now.links.now drawing.now.boxes.now) drawing.now.nodes)
+        out.old out.new result }
+    ensures value { result ≡ at + node_size (shape_by wide) * drawing.now.nodes }
 {
     let mut next = at;
-    let mut i = 0;
-    while i < nodes {
-        next = put_node(wide, links, boxes, i, out, next);
-        i += 1;
+    for node in 0..drawing.nodes {
+        next = put_node(wide, drawing, node, out, next);
     }
     next
 }
 
 // Writes record 4, the nodes.
-fn put_tree(
-    wide: bool,
-    links: &[u32],
-    boxes: &[f32],
-    nodes: usize,
-    out: &mut [u8],
-    at: usize,
-) -> usize
-    requires nodes_in_bounds { (3 * nodes ≤ length links.now) × (6 * nodes ≤ length boxes.now) }
-    requires nodes_in_bounds_2 { at + 6 + node_size (shape_by wide) * nodes ≤ length out.old }
-    ensures put { Put at (record_of 4 (concat_map (node_bytes (shape_by wide) links.now boxes.now) nodes)) out.old
-        out.new result }
-    ensures value { result ≡ at + 6 + node_size (shape_by wide) * nodes }
+fn put_tree(wide: bool, drawing: &Drawing, out: &mut [u8], at: usize) -> usize
+    requires nodes_in_bounds { NodesFit drawing.now.nodes drawing.now.links.now drawing.now.boxes.now }
+    requires nodes_in_bounds_2 { at + 6 + node_size (shape_by wide) * drawing.now.nodes ≤ length out.old }
+    ensures put { Put at (record_of 4 (concat_map (node_bytes (shape_by wide) drawing.now.links.now drawing.now.boxes.now)
+        drawing.now.nodes)) out.old out.new result }
+    ensures value { result ≡ at + 6 + node_size (shape_by wide) * drawing.now.nodes }
 {
-    let body = put_header(out, at, nodes_size(wide, nodes), 4);
-    put_nodes(wide, links, boxes, nodes, out, body)
+    let body = put_header(out, at, nodes_size(wide, drawing.nodes), 4);
+    put_nodes(wide, drawing, out, body)
 }
 
 // Writes the image of a tree that passed the tests to the front of `out` and answers how many bytes it has. The bytes behind them stay as they were.
-pub fn put_image(
-    wide: bool,
-    settings: Settings,
-    triangles: &[f32],
-    order: &[u32],
-    links: &[u32],
-    boxes: &[f32],
-    nodes: usize,
-    out: &mut [u8],
-) -> usize
-    requires complete { Complete (image_of settings triangles.now order.now links.now boxes.now nodes) }
-    requires nodes_in_bounds { image_size (shape_by wide) (length order.now) nodes ≤ length out.old }
-    ensures put { Put 0 (image_bytes (shape_by wide) (image_of settings triangles.now order.now links.now
-        boxes.now nodes)) out.old out.new result }
-    ensures value { result ≡ image_size (shape_by wide) (length order.now) nodes }
+pub fn put_image(wide: bool, settings: Settings, drawing: &Drawing, out: &mut [u8]) -> usize
+    requires complete { Complete (image_of settings drawing.now.triangles.now drawing.now.order.now drawing.now.links.now
+        drawing.now.boxes.now drawing.now.nodes) }
+    requires nodes_in_bounds { image_size (shape_by wide) (length drawing.now.order.now) drawing.now.nodes ≤ length out.old }
+    ensures put { Put 0 (image_bytes (shape_by wide) (image_of settings drawing.now.triangles.now drawing.now.order.now
+        drawing.now.links.now drawing.now.boxes.now drawing.now.nodes)) out.old out.new result }
+    ensures value { result ≡ image_size (shape_by wide) (length drawing.now.order.now) drawing.now.nodes }
 {
     let second = put_settings(wide, settings, out);
-    let third = put_triangles(triangles, out, second);
-    let fourth = put_order(wide, order, out, third);
-    put_tree(wide, links, boxes, nodes, out, fourth)
+    let third = put_triangles(drawing.triangles, out, second);
+    let fourth = put_order(wide, drawing.order, out, third);
+    put_tree(wide, drawing, out, fourth)
 }

@@ -4,8 +4,9 @@ ghost use Rattle.spec_image.specs.Reading.{room_for};
 ghost use Rattle.image.specs.Values.{rooms_of, ReadIs};
 
 use crate::get::{read_lists, settings_of};
+use lists::refusal::Refusal;
 use lists::settings::Settings;
-use records::layout::{ImageLayout, image_layout};
+use records::layout::image_layout;
 use records::versions::is_wide;
 
 // How many entries the lent lists have.
@@ -17,18 +18,12 @@ struct Rooms {
     boxes: usize,
 }
 
-// A refusal, or what the image holds besides its lists.
+// What an image holds besides its lists.
 #[derive(Clone, Copy)]
-pub enum ImageRead {
-    Refused {
-        number: usize,
-        place: usize,
-    },
-    Read {
-        settings: Settings,
-        triangles: usize,
-        nodes: usize,
-    },
+pub struct ImageRead {
+    pub settings: Settings,
+    pub triangles: usize,
+    pub nodes: usize,
 }
 
 // Whether the lists have room for that many triangles and nodes.
@@ -51,38 +46,34 @@ pub fn read_image(
     order: &mut [u32],
     links: &mut [u32],
     boxes: &mut [f32],
-) -> ImageRead
+) -> Result<ImageRead, Refusal>
     ensures { ReadIs bytes.now result triangles.old order.old links.old boxes.old
         triangles.new order.new links.new boxes.new }
 {
-    match image_layout(bytes) {
-        ImageLayout::Wrong(at) => ImageRead::Refused {
-            number: 10,
-            place: at,
-        },
-        ImageLayout::Right {
-            triangles: count,
-            nodes,
-        } => {
-            let rooms = Rooms {
-                triangles: triangles.len(),
-                order: order.len(),
-                links: links.len(),
-                boxes: boxes.len(),
-            };
-            if has_room(rooms, count, nodes) {
-                let wide = is_wide(count);
-                read_lists(wide, bytes, count, nodes, triangles, order, links, boxes);
-                return ImageRead::Read {
-                    settings: settings_of(bytes, wide),
-                    triangles: count,
-                    nodes,
-                };
-            }
-            ImageRead::Refused {
-                number: 6,
-                place: 0,
-            }
-        }
+    let counts = image_layout(bytes)?;
+    let rooms = Rooms {
+        triangles: triangles.len(),
+        order: order.len(),
+        links: links.len(),
+        boxes: boxes.len(),
+    };
+    if !has_room(rooms, counts.triangles, counts.nodes) {
+        return Err(Refusal::NoRoom);
     }
+    let wide = is_wide(counts.triangles);
+    read_lists(
+        wide,
+        bytes,
+        counts.triangles,
+        counts.nodes,
+        triangles,
+        order,
+        links,
+        boxes,
+    );
+    Ok(ImageRead {
+        settings: settings_of(bytes, wide),
+        triangles: counts.triangles,
+        nodes: counts.nodes,
+    })
 }

@@ -5,18 +5,15 @@ ghost use Rattle.spec_lists.specs.Limits.{max_triangles};
 ghost use Rattle.spec_lists.specs.Refusals as Refusals;
 ghost use Rattle.lists.specs.Values.{as_verdict};
 
-use lists::verdict::{Verdict, refused_if};
-use records::versions::is_wide;
+use lists::refusal::{Refusal, refused_if};
+use records::versions::{is_wide, node_size, order_size};
 
 // How many bytes so many nodes take.
 pub fn nodes_size(wide: bool, nodes: usize) -> usize
     requires { 34 * nodes < 2 ^ 64 }
     ensures { result ≡ node_size (shape_by wide) * nodes }
 {
-    if wide {
-        return 34 * nodes;
-    }
-    30 * nodes
+    node_size(wide) * nodes
 }
 
 // How many bytes the image of that many triangles and nodes has.
@@ -24,10 +21,8 @@ pub fn image_size(triangles: usize, nodes: usize) -> usize
     requires { 32 + 40 * triangles + 34 * nodes < 2 ^ 64 }
     ensures { result ≡ image_size (version_for triangles) triangles nodes }
 {
-    if is_wide(triangles) {
-        return 32 + 40 * triangles + 34 * nodes;
-    }
-    32 + 38 * triangles + 30 * nodes
+    let wide = is_wide(triangles);
+    32 + 36 * triangles + order_size(wide, triangles) + nodes_size(wide, nodes)
 }
 
 // Whether `given` bytes are too few. The node count may be any number, so it is compared with the room before it is multiplied.
@@ -35,16 +30,13 @@ fn is_short(given: usize, triangles: usize, nodes: usize) -> bool
     requires { (given < 2 ^ 63) × (triangles ≤ max_triangles) }
     ensures { result ≡ ltb given (image_size (version_for triangles) triangles nodes) }
 {
-    if nodes > given / 30 {
-        return true;
-    }
-    given < image_size(triangles, nodes)
+    nodes > given / 30 || given < image_size(triangles, nodes)
 }
 
 // 6: `given` bytes are fewer than the image has.
-pub fn image_room_refusal(given: usize, triangles: usize, nodes: usize) -> Verdict
+pub fn image_room_refusal(given: usize, triangles: usize, nodes: usize) -> Result<(), Refusal>
     requires { (given < 2 ^ 63) × (triangles ≤ max_triangles) }
     ensures { as_verdict result ≡ Refusals.room_refusal given (image_size (version_for triangles) triangles nodes) }
 {
-    refused_if(is_short(given, triangles, nodes), 6, 0)
+    refused_if(is_short(given, triangles, nodes), Refusal::NoRoom)
 }

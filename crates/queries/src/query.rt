@@ -41,6 +41,7 @@ pub fn few_at(
 }
 
 // The answer of the source's walk at one point.
+#[tactic(auto, unfolding(spec_search::specs::Calls::source_answer, spec_search::specs::Rules::limit_squared))]
 pub fn source_at(drawing: &Drawing, p: Vec3, distance: f32) -> Option<Hit>
     requires { Searchable drawing.now.triangles.now drawing.now.order.now drawing.now.links.now drawing.now.boxes.now drawing.now.nodes }
     ensures { as_answer result ≡ source_answer binary32 drawing.now.triangles.now drawing.now.order.now drawing.now.links.now

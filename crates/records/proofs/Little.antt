@@ -1,45 +1,58 @@
--- Numbers in bytes, one byte a turn: read from the last byte backwards, written from the first on.
-use mathlib.Core.Path.{◌≡◌, refl, sym, ap, ◌∙◌, subst}
+-- Numbers in bytes, one byte a turn, the lowest first: how they are read and how they are written.
+use mathlib.Core.Path.{◌≡◌, refl, sym, ap, ◌∙◌}
 use mathlib.Core.List.{List, [], ◌∷◌, ◌++◌}
-use Prim.Native.Nat.{ℕ, zero, suc, ◌+◌, ◌-◌, ◌*◌, ◌/◌, ◌%◌, ◌^◌, ◌≤◌, ◌<◌}
+use Prim.Native.Nat.{ℕ, zero, suc, ◌+◌, ◌*◌, ◌/◌, ◌%◌, ◌^◌, ◌≤◌, ◌<◌}
 use native.Mathlib.Nat.{pow-suc, pow-succ', pow-le-pow_right, div-one, div-div-eq-div-mul}
 use native.Mathlib.Numerals.{add-one}
 use native.Mathlib.Omega.{arith}
-use lib.ListN.{length, get_or}
-use lib.Seq.{drop-cons}
+use lib.ListN.{length, get_or, take, drop, length-drop}
+use lib.Seq.{get_or-drop}
+use Rattle.std.proofs.Common.{Fits, w8}
 use Rattle.spec_tables.specs.Tables.{overwrite, concat_map, Put}
 use Rattle.spec_tables.proofs.Runs.{Run, run_end}
 use Rattle.spec_records.specs.Little.{little, of_little, little_at, Bytes}
 use Rattle.spec_records.proofs.Little.{length_little, number_below}
 
 -- ---- read
--- no byte is read yet
-pub read_start : (size : ℕ) (s : List ℕ) (at : ℕ) → 0 ≡ little_at (size - size) s at
+-- what stands in a slice of u8 are bytes
+pub are_bytes : (s : List ℕ) → ((i : ℕ) → Fits w8 (get_or s i 0)) → Bytes s
+are_bytes s fit = record { below = λ i. omega (arith, fit i) }
+
+-- one byte more: the last counts by its place
+last_counts : (k : ℕ) (bytes : List ℕ) → k < length bytes → of_little (take (suc k) bytes) ≡ of_little (take k bytes) + 256 ^ k * get_or bytes k 0
+unfolding of_little
+last_counts k [] h = omega arith
+last_counts zero (b ∷ bytes) h = omega arith
+last_counts (suc k) (b ∷ bytes) h = rw pow-suc (omega (arith, last_counts k bytes (omega arith)))
+
+-- a byte that is shifted to its place
+shifted : (k b : ℕ) → k < 4 → b < 256 → b * 2 ^ (8 * k) % 4294967296 ≡ 256 ^ k * b
+shifted zero b h small = omega arith
+shifted (suc zero) b h small = omega arith
+shifted (suc (suc zero)) b h small = omega arith
+shifted (suc (suc (suc zero))) b h small = omega arith
+shifted (suc (suc (suc (suc k)))) b h small = absurd (omega arith)
+
+-- before the first turn no byte is read
+pub read_start : (s : List ℕ) (at : ℕ) → 0 ≡ little_at 0 s at
 unfolding little_at of_little
-read_start size s at = let none : size - size ≡ 0 = omega arith in rw none
+read_start s at = refl
 
--- a turn reads the byte in front of those that were read
-pub read_more : (size at k : ℕ) (s : List ℕ) → 0 < k → k ≤ size → at + size ≤ length s
-    → little_at (size - (k - 1)) s (at + (k - 1)) ≡ get_or s (at + (k - 1)) 0 + 256 * little_at (size - k) s (at + k)
-unfolding little_at of_little
-read_more size at k s first within room =
-    let one_more : size - (k - 1) ≡ suc (size - k) = omega arith in
-    let next : suc (at + (k - 1)) ≡ at + k = omega arith in
-    let inside : at + (k - 1) < length s = omega arith in
-    rw (one_more, drop-cons s (at + (k - 1)) 0 inside, next)
+-- a turn reads the byte behind those that were read
+pub read_more : (k at : ℕ) (s : List ℕ) → Bytes s → k < 4 → at + k < length s
+    → little_at k s at + get_or s (at + k) 0 * 2 ^ (8 * k) % 4294967296 ≡ little_at (k + 1) s at
+unfolding little_at
+read_more k at s bytes few inside =
+    let rest : k < length (drop at s) = simp length-drop (omega arith) in
+    let here : get_or (drop at s) k 0 ≡ get_or s (at + k) 0 = get_or-drop at s k 0 in
+    rw (shifted k (get_or s (at + k) 0) few (bytes.below (at + k)), add-one) (sym (rw here at (last_counts k (drop at s) rest)))
 
--- the bytes that were read before the last turn leave room for one more in 32 bits
-pub read_small : (w : ℕ) (s : List ℕ) (at : ℕ) → Bytes s → at + w ≤ length s → w ≤ 3 → little_at w s at < 16777216
-read_small w s at bytes room few =
-    let most : 256 ^ w ≤ 256 ^ 3 = pow-le-pow_right {n = 256} (omega arith) few in
-    omega (arith, number_below w s at bytes room)
-
--- after the last turn the number is one of so many bytes
-pub read_end : (size at k n : ℕ) (s : List ℕ) → Bytes s → at + size ≤ length s → k ≤ 0 → n ≡ little_at (size - k) s (at + k) → n < 256 ^ size
-read_end size at k n s bytes room last e =
-    let all : size - k ≡ size = omega arith in
-    let first : at + k ≡ at = omega arith in
-    subst (λ (m : ℕ). m < 256 ^ size) (sym (rw (all, first) at e)) (number_below size s at bytes room)
+-- it still fits 32 bits
+pub read_small : (k at : ℕ) (s : List ℕ) → Bytes s → k < 4 → at + k < length s → little_at (k + 1) s at < 4294967296
+read_small k at s bytes few inside =
+    let four : k + 1 ≤ 4 = omega arith in
+    let most : 256 ^ (k + 1) ≤ 256 ^ 4 = pow-le-pow_right {n = 256} (omega arith) four in
+    omega (arith, number_below (k + 1) s at bytes (omega arith))
 
 -- ---- written
 -- one byte more: the last is the lowest of what the others left

@@ -49,7 +49,9 @@ back_gauge (bodies ss) = Ok (record { triangles = size_at ss 1 / 36; points = si
 
 gauge_is : (a : Result GaugeCounts WrongRecord) → back_gauge (gauge_laid a) ≡ a
 unfolding gauge_spans
-gauge_is (Ok n) = rw (triangles_counted n.triangles, points_counted n.points) (ap (λ (ruled : Bool). Ok (record { triangles = n.triangles; points = n.points; ruled = ruled })) (told n.ruled))
+gauge_is (Ok n) =
+    rw (triangles_counted n.triangles, points_counted n.points)
+    (ap (λ (ruled : Bool). Ok (record { triangles = n.triangles; points = n.points; ruled = ruled })) (told n.ruled))
   where
     points_counted : (n : ℕ) → 12 * n / 12 ≡ n
     points_counted n = omega arith

@@ -7,6 +7,7 @@ ghost use Rattle.spec_records.specs.Entries.{floats_in};
 use crate::entries::f32_at;
 use lists::coordinates::is_coordinate;
 
+// Kept: (d) `count` for none, as `first_bad` says it: an `Option<usize>` would be compared with `cond (ltb first count) (Some first) None`.
 // The index of the first of `count` numbers from byte `start` on that is no coordinate, or `count`.
 pub fn first_bad_in(bytes: &[u8], start: usize, count: usize) -> usize
     requires { start + 4 * count ≤ length bytes.now }

@@ -12,8 +12,8 @@ pub fn number_at<const SIZE: usize>(bytes: &[u8], at: usize) -> u32
     ensures upper_bound { result < 256 ^ SIZE }
 {
     let mut n = 0;
-    for k in (0..SIZE).rev() {
-        n = 256 * n + u32::from(bytes[at + k]);
+    for k in 0..SIZE {
+        n += u32::from(bytes[at + k]) << (8 * k);
     }
     n
 }

@@ -1,8 +1,11 @@
 -- The buckets, costs, splits and strategies of the code as the definitions' own. The contracts compare by these.
 use Rattle.std.specs.Prelude.{List, map, Option, Some, None, ℕ}
-use Rattle.shapes.specs.Values.{as_box}
+use Rattle.std.specs.Float.{binary32}
+use Rattle.spec_shapes.specs.Boxes.{Box}
+use Rattle.shapes.specs.Values.{as_axis, as_box}
 use Rattle.spec_splits.specs.Buckets as Buckets
 use Rattle.spec_splits.specs.Area as Area
+use Rattle.splits.specs.declared.bucketing.Span.{Span}
 use Rattle.splits.specs.declared.buckets.Bucket.{Bucket}
 use Rattle.splits.specs.declared.buckets.Buckets.{Buckets}
 use Rattle.splits.specs.declared.costs.Cheapest.{Cheapest}
@@ -18,6 +21,10 @@ as_buckets s = map as_bucket s.each
 
 abbrev pub as_cheapest : Cheapest → Area.Cheapest
 as_cheapest s = record { seen = s.seen; index = s.index; cost = s.cost; are_numbers = s.are_numbers }
+
+-- the bucket of a box by where its centre lies on an axis between these ends
+abbrev pub bucket_in : Span → Box → ℕ
+bucket_in s = Area.bucket_between binary32 (as_axis s.axis) s.lo s.hi
 
 -- where a rule cuts a slice, if it does
 abbrev pub as_split : Option ℕ → Splits.Split

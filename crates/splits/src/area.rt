@@ -6,34 +6,30 @@ ghost use Rattle.spec_splits.specs.Splits as Splits;
 ghost use Rattle.spec_splits.specs.Area as Area;
 ghost use Rattle.splits.specs.Values as Values;
 
-use crate::bucketing::{Span, bucket_of, centre_span, fill};
+use crate::bucketing::{Span, centre_span, fill};
 use crate::costs::{Cheapest, cheapest_of, costs_of};
 use shapes::box3::Box3;
 use shapes::vec3::Axis;
 
 // Cuts before the first entry whose box lies in a bucket later than k.
-fn first_later(bounds: &[f32], slice: &[u32], axis: Axis, within: Span, k: usize) -> Option<usize>
+fn first_later(bounds: &[f32], slice: &[u32], within: Span, k: usize) -> Option<usize>
     requires { Splits.AllInTable bounds.now slice.now }
     ensures { Values.as_split result
-        ≡ Area.first_later (Area.bucket_between binary32 (Shapes.as_axis axis) within.lo within.hi) k
-        (Splits.boxes_in bounds.now slice.now) 0 }
+        ≡ Area.first_later (Values.bucket_in within) k (Splits.boxes_in bounds.now slice.now) 0 }
 {
-    slice
-        .iter()
-        .position(|t| k < bucket_of(bounds, *t, axis, within))
+    slice.iter().position(|t| k < within.bucket_of(bounds, *t))
 }
 
 // Cuts at the first smallest cost, if that is below the cost of a leaf, which is the count of the slice. Where a cost is a NaN it cuts nowhere.
-fn cut_by(bounds: &[f32], slice: &[u32], axis: Axis, within: Span, best: Cheapest) -> Option<usize>
+fn cut_by(bounds: &[f32], slice: &[u32], within: Span, best: Cheapest) -> Option<usize>
     requires slice_len_bound { length slice.now < 2 ^ 28 }
     requires all_in_table { Splits.AllInTable bounds.now slice.now }
     ensures { Values.as_split result
-        ≡ Area.cut_by binary32 (Area.bucket_between binary32 (Shapes.as_axis axis) within.lo within.hi) (Values.as_cheapest best)
-        (Splits.boxes_in bounds.now slice.now) }
+        ≡ Area.cut_by binary32 (Values.bucket_in within) (Values.as_cheapest best) (Splits.boxes_in bounds.now slice.now) }
 {
     let leaf_cost = std::num::nearest_u32_to_f32(slice.len() as u32);
     if best.are_numbers & (best.cost < leaf_cost) {
-        return first_later(bounds, slice, axis, within, best.index);
+        return first_later(bounds, slice, within, best.index);
     }
     None
 }
@@ -46,7 +42,7 @@ pub fn area_split(bounds: &[f32], slice: &[u32], axis: Axis, parent: Box3) -> Op
         ≡ Area.area_split binary32 (Shapes.as_axis axis) (Shapes.as_box parent) (Splits.boxes_in bounds.now slice.now) }
 {
     let within = centre_span(bounds, slice, axis);
-    let buckets = fill(bounds, slice, axis, within);
+    let buckets = fill(bounds, slice, within);
     let best = cheapest_of(costs_of(buckets, parent));
-    cut_by(bounds, slice, axis, within, best)
+    cut_by(bounds, slice, within, best)
 }

@@ -28,23 +28,27 @@ fn bucket_for(offset: f32) -> usize
 // The lowest and the highest centre on an axis.
 #[derive(Clone, Copy)]
 pub struct Span {
+    pub axis: Axis,
     pub lo: f32,
     pub hi: f32,
 }
 
-// The bucket of triangle t's box.
-pub fn bucket_of(bounds: &[f32], t: u32, axis: Axis, within: Span) -> usize
-    requires { Splits.InTable bounds.now t }
-    ensures { result ≡ Area.bucket_between binary32 (Shapes.as_axis axis) within.lo within.hi (Splits.box_in bounds.now t) }
-{
-    bucket_for(offset_on(within.lo, within.hi, centre_on(bounds, t, axis)))
+impl Span {
+    // The bucket of triangle t's box.
+    pub fn bucket_of(self, bounds: &[f32], t: u32) -> usize
+        requires { Splits.InTable bounds.now t }
+        ensures { result ≡ Costs.bucket_in self (Splits.box_in bounds.now t) }
+    {
+        bucket_for(offset_on(self.lo, self.hi, centre_on(bounds, t, self.axis)))
+    }
 }
 
 // The lowest and the highest centre of the slice's boxes on the axis. The rule needs one axis only.
 pub fn centre_span(bounds: &[f32], slice: &[u32], axis: Axis) -> Span
     requires { Splits.AllInTable bounds.now slice.now }
-    ensures { Area.EndsOf (Shapes.as_axis axis) (Area.centre_bounds binary32 (Splits.boxes_in bounds.now slice.now))
+    ensures ends { Area.EndsOf (Shapes.as_axis axis) (Area.centre_bounds binary32 (Splits.boxes_in bounds.now slice.now))
         result.lo result.hi }
+    ensures axis_is { result.axis ≡ axis }
 {
     let none = Box3::empty();
     let mut lo = none.min.x;
@@ -54,20 +58,19 @@ pub fn centre_span(bounds: &[f32], slice: &[u32], axis: Axis) -> Span
         lo = floats::min2(lo, centre);
         hi = floats::max2(hi, centre);
     }
-    Span { lo, hi }
+    Span { axis, lo, hi }
 }
 
 // The slice's boxes in their buckets.
-pub fn fill(bounds: &[f32], slice: &[u32], axis: Axis, within: Span) -> Buckets
+pub fn fill(bounds: &[f32], slice: &[u32], within: Span) -> Buckets
     requires slice_len_bound { length slice.now < 2 ^ 28 }
     requires all_in_table { Splits.AllInTable bounds.now slice.now }
     ensures { Costs.as_buckets result
-        ≡ Area.filled binary32 (Area.bucket_between binary32 (Shapes.as_axis axis) within.lo within.hi)
-        (Splits.boxes_in bounds.now slice.now) }
+        ≡ Area.filled binary32 (Costs.bucket_in within) (Splits.boxes_in bounds.now slice.now) }
 {
     let mut buckets = Buckets::empty();
     for t in slice {
-        let k = bucket_of(bounds, *t, axis, within);
+        let k = within.bucket_of(bounds, *t);
         buckets.each[k] = buckets.each[k].with_box(box_at(bounds, *t));
     }
     buckets

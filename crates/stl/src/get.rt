@@ -1,9 +1,9 @@
 // Reads an STL: its facets, what is refused of it, and its triangles. Everything is tested in the bytes, before anything is written.
 ghost use Rattle.std.specs.Prelude.{◌≡◌, ◌*◌, ◌^◌, ◌≤◌, ◌<◌, length};
 ghost use Rattle.lists.specs.Values.{as_verdict};
-ghost use Rattle.spec_tables.specs.Tables.{overwrite, concat_map};
-ghost use Rattle.spec_lists.specs.Refusals.{first_bad, triangles_refusal};
-ghost use Rattle.spec_stl.specs.Stl.{stl_count, stl_size, corners_in, stl_triangles};
+ghost use Rattle.spec_tables.specs.Tables.{overwrite};
+ghost use Rattle.spec_lists.specs.Refusals.{coordinate_refusal, triangles_refusal};
+ghost use Rattle.spec_stl.specs.Stl.{stl_count, stl_size, stl_triangles};
 ghost use Rattle.spec_stl.specs.Calls.{size_refusal};
 
 use lists::limits;
@@ -53,17 +53,17 @@ impl<'a> Facets<'a> {
         }
     }
 
-    // The index of the first number of the corners that is no coordinate, or how many numbers they have.
-    fn first_bad(&self) -> usize
-        ensures { result ≡ first_bad (concat_map (corners_in self.now.bytes.now) self.now.count) }
+    // 4: a number of the corners is no coordinate.
+    fn coordinate_refusal(&self) -> Result<(), Refusal>
+        ensures { as_verdict result ≡ coordinate_refusal 4 (stl_triangles self.now.bytes.now) }
     {
         for i in 0..self.count {
             let at = first_bad_in(self.bytes, 84 + 50 * i + 12, 9);
             if at < 9 {
-                return 9 * i + at;
+                return Err(Refusal::BadCoordinate(9 * i + at));
             }
         }
-        9 * self.count
+        Ok(())
     }
 
     // 2 to 4 of the triangles that the bytes hold; a list read from bytes is never ragged.
@@ -75,8 +75,7 @@ impl<'a> Facets<'a> {
             limits::MAX_TRIANGLES < self.count,
             Refusal::TooManyTriangles,
         )?;
-        let at = self.first_bad();
-        refused_if(at < 9 * self.count, Refusal::BadCoordinate(at))
+        self.coordinate_refusal()
     }
 
     // Leaves the triangles at the front of the list.

@@ -7,13 +7,6 @@ ghost use Rattle.tree.specs.Values as Values;
 use shapes::box3::Box3;
 use shapes::vec3::Vec3;
 
-// An entry of a list as a usize.
-pub fn wide(entry: u32) -> usize
-    ensures { result ≡ entry }
-{
-    entry as usize
-}
-
 // Whether the entry is just before `next`.
 fn is_before(entry: u32, next: usize) -> bool
     ensures { result ≡ eqb (entry + 1) next }

@@ -24,8 +24,8 @@ pub struct Probe {
     pub limit: f32,
 }
 
-// The measure of one triangle: its surface point, with its squared distance, the number of the triangle and that of the part that was hit. What a search
-// answers is one, or nothing.
+// The measure of one triangle: its surface point with the squared distance, the triangle's number, and that of the part that was hit. A search
+// answers one, or nothing.
 #[derive(Clone, Copy)]
 pub struct Hit {
     pub point: Vec3,

@@ -30,7 +30,6 @@ fn hit_at(spot: Spot, p: Vec3, t: u32) -> Hit
     }
 }
 
-// Kept: `Measures` picks the step, since a closure or a type parameter makes two functions of the loop, and lays the closest point out in neither.
 // Measures one triangle and keeps its point where the walk keeps it.
 fn measure(triangles: &[f32], t: u32, probe: &Probe, measures: Measures, places: &mut Places)
     requires t_in_bounds { 9 * t + 9 ≤ length triangles.now }
@@ -43,6 +42,7 @@ fn measure(triangles: &[f32], t: u32, probe: &Probe, measures: Measures, places:
     let p = probe.point;
     let triangle = triangle_at(triangles, t as usize);
     let computed = triangle.closest_spot(p);
+    // Kept: `Measures` picks the step; with a leaf loop for the source's walk alone the sure query took 1.03 to 1.22 of the time (PERFORMANCE.md).
     match measures {
         Measures::Held => {
             places.offer(probe.limit, hit_at(triangle.held(p, computed), p, t));

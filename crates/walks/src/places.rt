@@ -102,6 +102,7 @@ impl Places {
     }
 
     // Whether a box at this squared distance is skipped: the distance does not count, or is above the last place.
+    #[tactic(auto, using(crate::proofs::Slots::skipped_by_last), unfolding(crate::specs::Places::slot_at, spec_search::specs::Rules::counts))]
     pub fn is_skipped(&self, limit: f32, squared: f32) -> bool
         requires { Kept.Sound self.now.best self.now.which }
         ensures { result ≡ Few.is_skipped (Kept.most_of self.now.which) (Marked.below limit) squared
@@ -111,6 +112,7 @@ impl Places {
     }
 
     // Keeps the hit where it counts and goes before the last place.
+    #[tactic(auto, using(crate::proofs::Slots::offer_inserts, crate::proofs::Slots::offer_keeps), unfolding(spec_search::specs::Rules::counts))]
     pub fn offer(&mut self, limit: f32, hit: Hit)
         requires { Kept.Sound self.old.best self.old.which }
         ensures { Kept.Holds Held self.new.best self.new.which (Kept.most_of self.old.which)
@@ -123,6 +125,7 @@ impl Places {
     }
 
     // Fills so many places with markers.
+    #[tactic(auto, using(crate::proofs::Slots::marked_places))]
     pub fn start(&mut self, most: usize, squared: f32)
         requires lent { Kept.Lent self.old.best self.old.which }
         requires le_most { (1 ≤ most) × (most ≤ most_few) }
@@ -145,6 +148,7 @@ impl Places {
     }
 
     // The answer at place j, from 0: nothing where the place is still a marker's.
+    #[tactic(auto, unfolding(spec_search::specs::Marked::unmarked))]
     pub fn answer_at(&self, j: usize) -> Option<Hit>
         requires { (j < Kept.most_of self.now.which) × (Kept.most_of self.now.which ≤ most_few) }
         ensures { Values.as_answer result ≡ Kept.answer_of self.now.best self.now.which j }

@@ -1,6 +1,6 @@
-// The walk for the nearest few, of which the sure query asks for one: the nearer child first. A box is skipped where it does not count or is above the
-// last place. The walk knows no rule, and keeps what is strictly below the limit. All places start as markers, hits at the limit squared under a number
-// that no triangle has: whatever counts goes before them. So a box costs no test of the rule, nor of how many places are filled.
+// The walk for the nearest few, of which the sure query asks for one: the nearer child first. A box is skipped where it does not count or is above
+// the last place. The walk knows no rule, and keeps what is strictly below the limit. All places start as markers, hits at the limit squared under a
+// number that no triangle has: whatever counts goes before them. So a box costs no test of the rule, nor of how many places are filled.
 // The drawing is lent by one reference: that is one word, handed on as it is, where a list's own reference is copied at each call.
 ghost use Rattle.std.specs.Prelude.{◌≡◌, true, false, ◌+◌, ◌*◌, ◌≤◌, length};
 ghost use Rattle.std.specs.Float.{binary32, inf};
@@ -115,7 +115,7 @@ pub fn pair_walk(
 }
 
 // The limit squared of the walk: what it keeps is strictly below.
-// Kept: the rule stays a number, as a query holds any for its tests to refuse; `match Rule::from(rule)` would be a type and a From for this line alone.
+// Kept: a rule is its number, as the tests of a query see any; `match Rule::from(rule)` would be a type and its From for this line alone.
 fn walk_limit(rule: u32, limit: f32) -> f32
     ensures { result ≡ Marked.walk_limit (Rules.rule_of rule) limit }
 {

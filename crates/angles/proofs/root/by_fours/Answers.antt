@@ -9,5 +9,7 @@ pub overflow_sub-spare : goal.overflow_sub-spare
 overflow_sub-spare c = omega (arith, spare_of c.args.significand c.requires.0 c.requires.1)
 
 pub returns : goal.returns
-returns c = split_of c.args.significand c.args.power (count_leading_zeros 32 c.args.significand) (spare_of c.args.significand c.requires.0 c.requires.1)
-    c.requires.2 c.requires.3
+returns c =
+    rw c.from.ensures
+    (split_of c.args.significand c.args.power (count_leading_zeros 32 c.args.significand) (spare_of c.args.significand c.requires.0 c.requires.1)
+    c.requires.2 c.requires.3)

@@ -8,8 +8,8 @@ returns-then-has_normal c =
     let it = c.triangle_at-triangle.ensures in
     rw (c.with_triangle.ensures, ← it, ← c.has_normal.ensures, c.if-has_normal.true)
 
-pub returns : goal.returns
+pub returns-else-has_normal : goal.returns-else-has_normal
 unfolding with_next
-returns c =
+returns-else-has_normal c =
     let it = c.triangle_at-triangle.ensures in
     rw (← it, ← c.has_normal.ensures, c.if-has_normal.false)

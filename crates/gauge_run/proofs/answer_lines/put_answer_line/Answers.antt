@@ -1,4 +1,5 @@
 -- `gauge_run::answer_lines::put_answer_line` meets its contract: the first of the words says which line it is.
+use mathlib.Core.Path.{refl}
 use native.Mathlib.Omega.{arith}
 use Rattle.spec_tables.proofs.Tables.{put_same}
 use Rattle.spec_gauge.proofs.Lines.{nothing_words, found_words}
@@ -14,7 +15,6 @@ returns-then-answers-first-eq0 c =
 pub returns : goal.returns
 returns c =
     record {
-      put = put_same (found_words c.args.answers.now c.args.k _ _ c.if-answers-first-eq0.false c.whole.ensures c.whole-2.ensures)
-          c.put_found.ensures.put;
+      put = put_same (found_words c.args.answers.now c.args.k _ _ c.if-answers-first-eq0.false refl refl) c.put_found.ensures.put;
       upper_bound = c.put_found.ensures.upper_bound;
     }

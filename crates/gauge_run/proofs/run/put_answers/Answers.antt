@@ -11,14 +11,15 @@ use Rattle.gauge_run.proofs.run.put_answers.Goals as goal
 
 pub put_answer_lines-requires : goal.put_answer_lines-requires
 put_answer_lines-requires c =
-    let a = c.args in
-    let p = query_passed (sure a.rule) a.triangles.now a.order.now a.links.now a.boxes.now a.nodes a.points.now
-    a.distance (answer_width * max_points) c.requires.max_points_value in
-    (omega (arith, p.1, c.point_count.ensures, c.answers-2-1.given), omega (arith, c.requires.points_in_bounds, c.point_count.ensures))
+    let request = c.args.request.now in
+    let d = c.args.drawing.now in
+    let p = query_passed (sure request.rule) d.triangles.now d.order.now d.links.now d.boxes.now d.nodes request.points.now
+    request.distance (answer_width * max_points) c.requires.max_points_value in
+    (omega (arith, p.1, c.point_count.ensures), omega (arith, c.requires.points_in_bounds, c.point_count.ensures))
 
 pub returns : goal.returns
 returns c =
     let asked = c.sure_query.ensures in
     put_same
-    (sure_lines _ _ _ _ _ _ (is_answered c.args.rule _ _ _ _ _ _ _ asked.verdict c.requires.max_points_value asked.answers))
+    (sure_lines _ _ _ _ _ _ (is_answered c.args.request.now.rule _ _ _ _ _ _ _ asked.verdict c.requires.max_points_value asked.answers))
     (rw c.point_count.ensures at c.put_answer_lines.ensures)

@@ -1,45 +1,23 @@
 -- `gauge_run::run::put_run` meets its contract: what passed the tests is built, and the tree passes the tree check.
-use mathlib.Core.Path.{refl, sym}
+use mathlib.Core.Path.{refl}
 use native.Mathlib.Omega.{arith}
-use lib.Seq.{length-take-le}
 use Rattle.spec_tables.proofs.Tables.{put_same, put_then, put_long}
-use Rattle.lists.specs.Values.{as_settings}
-use Rattle.spec_gauge.specs.Printed.{Request}
 use Rattle.spec_gauge.proofs.Printed.{all_passed}
 use Rattle.spec_gauge.proofs.Runs.{is_built, tree_line_lem, query_passes}
+use Rattle.gauge_run.specs.Values.{as_request}
 use Rattle.gauge_run.proofs.run.put_run.Goals as goal
 
 pub returns-in_default : goal.returns-in_default
 returns-in_default c =
-    let a = c.args in
-    let request : Request =
-    record {
-      settings = as_settings a.settings;
-      triangles = a.triangles.now;
-      points = a.points.now;
-      distance = a.distance;
-      rule = a.rule;
-    } in
+    let request = as_request c.args.request.now in
     absurd (is_built request (all_passed request c.requires.rule_value) c.requires.fits.triangles_few
     (record { order = refl; links = refl; boxes = refl; bounds = refl; centres = refl; scratch = refl })
-    (rw c.in_default.is at c.build.ensures))
-
-pub slice_bounds-put_answers-end : goal.slice_bounds-put_answers-end
-slice_bounds-put_answers-end c =
-    sym (length-take-le _ _ (omega (arith, c.triangle_count-count.ensures, c.requires.fits.triangles_few, c.order-2-1.given)))
+    c.in_default.ensures)
 
 pub put_answers-requires : goal.put_answers-requires
 put_answers-requires c =
-    let a = c.args in
-    let request : Request =
-    record {
-      settings = as_settings a.settings;
-      triangles = a.triangles.now;
-      points = a.points.now;
-      distance = a.distance;
-      rule = a.rule;
-    } in record {
-      max_points_value = query_passes request (all_passed request c.requires.rule_value) (rw c.in-Tree.is at c.build.ensures) _
+    let request = as_request c.args.request.now in record {
+      max_points_value = query_passes request (all_passed request c.requires.rule_value) c.in-Ok.ensures _
           c.triangle_count-count.ensures c.requires.fits.points_few;
       points_in_bounds = omega (
         arith,
@@ -52,18 +30,9 @@ put_answers-requires c =
 
 pub returns : goal.returns
 returns c =
-    let a = c.args in
-    let request : Request =
-    record {
-      settings = as_settings a.settings;
-      triangles = a.triangles.now;
-      points = a.points.now;
-      distance = a.distance;
-      rule = a.rule;
-    } in
+    let request = as_request c.args.request.now in
     put_then
     (put_same
-    (tree_line_lem request (all_passed request c.requires.rule_value) (rw c.in-Tree.is at c.build.ensures) _
-    c.triangle_count-count.ensures)
+    (tree_line_lem request (all_passed request c.requires.rule_value) c.in-Ok.ensures _ c.triangle_count-count.ensures)
     c.put_counts-next.ensures.put)
     c.put_answers.ensures

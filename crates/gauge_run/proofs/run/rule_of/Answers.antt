@@ -8,11 +8,5 @@ use Rattle.gauge_run.proofs.run.rule_of.Goals as goal
 pub u16_at-requires : goal.u16_at-requires
 u16_at-requires c =
     let a = c.args in
-    let long : 36 + 36 * a.count + 12 * a.touched + 8 ≡ length a.input.now = rw c.if-ruled.true at c.requires in
+    let long : 36 + 36 * a.counts.triangles + 12 * a.counts.points + 8 ≡ length a.input.now = rw c.if-counts.true at c.requires in
     omega arith
-
-pub returns-then-ruled : goal.returns-then-ruled
-returns-then-ruled c = rw c.if-ruled.true c.u16_at.ensures.value
-
-pub returns : goal.returns
-returns c = rw c.if-ruled.false

@@ -2,7 +2,6 @@
 use mathlib.Core.Path.{ap, ◌∙◌}
 use mathlib.Core.List.{List}
 use Prim.Native.Nat.{ℕ}
-use native.Mathlib.Omega.{arith}
 use lib.Ieee.{binary32}
 use Rattle.spec_tables.specs.Tables.{overwrite}
 use Rattle.spec_search.specs.Rules.{rule_of}
@@ -10,41 +9,17 @@ use Rattle.spec_search.proofs.Calls.{one_is_sure}
 use Rattle.spec_host.proofs.PointBytes.{answer_bytes_same}
 use Rattle.host_ask.proofs.point_queries.put_answers.Goals as goal
 
-pub put_few-requires : goal.put_few-requires
-put_few-requires c =
-    record {
-      searchable = c.requires.searchable;
-      good_points = c.requires.good_points;
-      points_in_bounds = rw c.in-Sure.is at c.requires.points_in_bounds;
-      good_distance = c.requires.good_distance;
-      le_most = (omega arith, omega arith);
-    }
-
-pub put_few-requires-in-Few : goal.put_few-requires-in-Few
-put_few-requires-in-Few c =
-    rw c.wide.ensures (record {
-      searchable = c.requires.searchable;
-      good_points = c.requires.good_points;
-      points_in_bounds = rw c.in-Few.is at c.requires.points_in_bounds;
-      good_distance = c.requires.good_distance;
-      le_most = rw c.in-Few.is at c.requires.bound;
-    })
-
-pub put_source-requires : goal.put_source-requires
-put_source-requires c =
-    record { searchable = c.requires.searchable; points_in_bounds = rw c.in-Source.is at c.requires.points_in_bounds }
-
 pub returns-in-Sure : goal.returns-in-Sure
 returns-in-Sure c =
     let a = c.args in
     rw c.in-Sure.is
     (c.put_few.ensures
     ∙ ap (λ (new : List ℕ). overwrite 0 new a.answers.now)
-    (answer_bytes_same 1 _ _ a.points.now (one_is_sure binary32 (rule_of _) a.triangles.now a.distance)))
+    (answer_bytes_same 1 _ _ a.points.now (one_is_sure binary32 (rule_of _) a.drawing.now.triangles.now a.distance)))
 
 pub returns-in-Few : goal.returns-in-Few
 returns-in-Few c =
-    rw c.in-Few.is (rw c.wide.ensures at c.put_few-in-Few.ensures)
+    rw c.in-Few.is c.put_few-in-Few.ensures
 
 pub returns-in-Source : goal.returns-in-Source
 returns-in-Source c =

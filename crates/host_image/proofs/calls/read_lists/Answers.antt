@@ -14,7 +14,7 @@ encode_read-requires c =
     let a = c.args in
     let three : 3 ≤ length a.settings.now = omega (arith, c.if-settings-lt3.false) in record {
       in_bounds = three;
-      read_placed = read_placed a.image.now (record { below = λ i. omega (arith, c.shared_slice_known-1.given i) })
+      read_placed = read_placed a.image.now (record { below = λ i. omega (arith, c.type_inv.image i) })
           (record { settings = a.settings.now; triangles = a.triangles.now; order = a.order.now; links = a.links.now; boxes = a.boxes.now }) three _
           c.read_image-read.ensures.answer;
     }

@@ -1,17 +1,13 @@
 -- `image::get::leaf_of` meets its contract: what is stored, or what 0 stands for.
-use native.Mathlib.Omega.{arith}
-use borrow.Author.Tests.{eq-eqb, ne_eqb}
+use Rattle.std.proofs.Common.{arith}
+use Rattle.std.proofs.lemmas.Bool.Decides.{nat_tests}
 use Rattle.spec_image.specs.Image.{leaf_in}
 use Rattle.image.proofs.get.leaf_of.Goals as goal
 
-pub returns-then-stored-gt0 : goal.returns-then-stored-gt0
+pub returns-then-stored-eq0 : goal.returns-then-stored-eq0
 unfolding leaf_in
-returns-then-stored-gt0 c = rw (ne_eqb c.args.stored 0 (λ z. omega arith))
+returns-then-stored-eq0 c = grind (arith, nat_tests)
 
-pub returns-then-wide : goal.returns-then-wide
+pub returns-else-wide : goal.returns-else-wide
 unfolding leaf_in
-returns-then-wide c = rw (eq-eqb c.args.stored 0 (omega arith), c.if-wide.true)
-
-pub returns : goal.returns
-unfolding leaf_in
-returns c = rw (eq-eqb c.args.stored 0 (omega arith), c.if-wide.false)
+returns-else-wide c = grind (arith, nat_tests)

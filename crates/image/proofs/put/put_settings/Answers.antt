@@ -1,6 +1,5 @@
 -- `image::put::put_settings` meets its contract: a header, and four numbers behind it.
 use mathlib.Core.Path.{ap}
-use native.Mathlib.Omega.{arith}
 use Rattle.spec_tables.proofs.Tables.{put_same, put_then}
 use Rattle.spec_records.specs.Little.{little}
 use Rattle.spec_records.specs.Layouts.{shape_by}
@@ -8,19 +7,13 @@ use Rattle.spec_records.proofs.Records.{record_put}
 use Rattle.spec_image.specs.Image.{settings_bytes}
 use Rattle.spec_image.proofs.Sizes.{length_settings}
 use Rattle.lists.specs.Values.{as_settings}
-use Rattle.image.proofs.Wide.{wide_version}
 use Rattle.image.proofs.put.put_settings.Goals as goal
 
-pub overflow_cast-version : goal.overflow_cast-version
-overflow_cast-version c =
-    let a = c.args in
-    omega (arith, c.version.ensures, wide_version a.wide)
-
-pub returns : goal.returns
+pub returns-clause-put : goal.returns-clause-put
 unfolding settings_bytes
-returns c =
+returns-clause-put c =
     let a = c.args in
     let first = put_same (ap (little 2) c.version.ensures) c.put_u16-a.ensures.put in
     let numbers = put_then (put_then (put_then first c.put_u16-b.ensures.put) c.put_u16-c.ensures.put)
     c.put_u16.ensures.put in
-    record { put = record_put 1 8 (length_settings (shape_by a.wide) (as_settings a.settings)) c.put_header-body.ensures.put numbers; value = omega arith }
+    record_put 1 8 (length_settings (shape_by a.wide) (as_settings a.settings)) c.put_header-body.ensures.put numbers

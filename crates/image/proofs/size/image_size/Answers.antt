@@ -1,15 +1,9 @@
 -- `image::size::image_size` meets its contract: the sizes of the four records, by the version.
-use mathlib.Core.Path.{sym, ◌∙◌}
 use native.Mathlib.Omega.{arith}
-use Rattle.spec_records.proofs.Layouts.{version_by}
+use Rattle.image.proofs.Wide.{wide_float, version_picked}
 use Rattle.image.proofs.size.image_size.Goals as goal
-
-pub returns-then-is_wide : goal.returns-then-is_wide
-returns-then-is_wide c =
-    let t = c.args.triangles in
-    rw (version_by t, sym c.is_wide.ensures ∙ c.if-is_wide.true) (omega arith)
 
 pub returns : goal.returns
 returns c =
-    let t = c.args.triangles in
-    rw (version_by t, sym c.is_wide.ensures ∙ c.if-is_wide.false) (omega arith)
+    let float = wide_float c.is_wide-wide.result in
+    rw (← version_picked c.args.triangles c.is_wide-wide.ensures, float) (omega (arith, rw float at c.nodes_size.ensures))

@@ -1,6 +1,6 @@
 -- `image::size::is_short` meets its contract: more nodes than a thirtieth of the room do not fit, and fewer can be multiplied without overflow.
 use native.Mathlib.Omega.{arith}
-use mathlib.Core.Path.{sym}
+use Prim.Native.Nat.{◌/◌}
 use borrow.Author.Tests.{lt-ltb}
 use Rattle.spec_records.specs.Layouts.{version_for, image_size}
 use Rattle.spec_image.proofs.Versions.{size_least}
@@ -10,7 +10,4 @@ pub returns-then-nodes-given : goal.returns-then-nodes-given
 returns-then-nodes-given c =
     let a = c.args in
     let least = size_least a.triangles a.nodes in
-    sym (lt-ltb a.given (image_size (version_for a.triangles) a.triangles a.nodes) (omega arith))
-
-pub returns : goal.returns
-returns c = rw c.image_size.ensures
+    rw (lt-ltb (a.given / 30) a.nodes c.if-nodes-given.true, lt-ltb a.given (image_size (version_for a.triangles) a.triangles a.nodes) (omega arith))

@@ -1,30 +1,20 @@
 -- `image::write::write_image` meets its contract: the tests, then the image.
-use mathlib.Core.Path.{ap, ◌∙◌}
-use Rattle.spec_records.specs.Layouts.{version_for}
-use Rattle.image.specs.Values.{image_from}
-use Rattle.image.proofs.Wide.{version_picked}
+use Rattle.lists.proofs.Rows.{handed}
+use Rattle.image.proofs.Wide.{version_counted}
 use Rattle.image.proofs.Wrote.{wrote_nothing, can_put, wrote_image}
 use Rattle.image.proofs.write.write_image.Goals as goal
 
+pub returns-in_err-write_refusal : goal.returns-in_err-write_refusal
+returns-in_err-write_refusal c =
+    wrote_nothing _ _ _ _ (handed _ _ c.from_residual.ensures.1) c.in_err-write_refusal.ensures
+
 pub put_image-requires : goal.put_image-requires
 put_image-requires c =
-    let a = c.args in
-    let version = version_picked _ c.is_wide-wide.ensures ∙ ap version_for c.triangle_count.ensures in
-    let fits =
-    can_put (image_from a.strategy a.leaf_minimum a.maximum_depth a.triangles.now a.order.now a.links.now a.boxes.now
-    a.nodes) a.out.now c.write_refusal-verdict.ensures c.in-Passed.is in
+    let version = version_counted _ c.is_wide-wide.ensures c.triangle_count.ensures in
+    let fits = can_put _ _ c.in_ok-write_refusal.ensures in
     rw version (record { complete = fits.0; nodes_in_bounds = fits.1 })
 
-pub returns-in-Refused : goal.returns-in-Refused
-returns-in-Refused c =
-    let a = c.args in
-    wrote_nothing (image_from a.strategy a.leaf_minimum a.maximum_depth a.triangles.now a.order.now a.links.now a.boxes.now
-    a.nodes) a.out.now c.write_refusal-verdict.ensures c.in-Refused.is
-
-pub returns-in-Passed : goal.returns-in-Passed
-returns-in-Passed c =
-    let a = c.args in
-    let version = version_picked _ c.is_wide-wide.ensures ∙ ap version_for c.triangle_count.ensures in
-    wrote_image (image_from a.strategy a.leaf_minimum a.maximum_depth a.triangles.now a.order.now a.links.now a.boxes.now
-    a.nodes) a.out.now c.write_refusal-verdict.ensures c.in-Passed.is
-    (rw version at c.put_image.ensures.put) (rw version at c.put_image.ensures.value)
+pub returns : goal.returns
+returns c =
+    let version = version_counted _ c.is_wide-wide.ensures c.triangle_count.ensures in
+    wrote_image _ _ c.in_ok-write_refusal.ensures (rw version at c.put_image.ensures.put) (rw version at c.put_image.ensures.value)

@@ -1,39 +1,52 @@
 -- `image::write::write_refusal` meets its contract: two tests and then, for triangles that passed, three more.
-use mathlib.Core.Path.{ap, ◌∙◌}
-use Rattle.spec_records.specs.Layouts.{version_for}
-use Rattle.spec_lists.proofs.Verdicts.{ends, or_test, row_stops, row_goes_on, row_passed}
+use mathlib.Core.Path.{sym}
+use Rattle.lists.proofs.Rows.{handed_on, refused_first, passed_first, last}
 use Rattle.spec_lists.proofs.Passed.{triangles_passed}
 use Rattle.spec_image.specs.Writing.{write_refusal}
-use Rattle.image.proofs.Wide.{version_picked}
+use Rattle.image.proofs.Wide.{version_counted}
 use Rattle.image.proofs.write.write_refusal.Goals as goal
 
-pub returns-then-refuses : goal.returns-then-refuses
+pub returns-in_err-triangles_refusal : goal.returns-in_err-triangles_refusal
 unfolding write_refusal
-returns-then-refuses c =
-    row_stops _ _ _ _
-    (or_test _ _ _ _ _ (ends _ _ c.triangles_refusal.ensures) c.settings_refusal.ensures c.or-early.ensures)
-    c.refuses.ensures c.if-refuses.true
+returns-in_err-triangles_refusal c =
+    handed_on _ _ _ c.from_residual.ensures.1 (refused_first _ _ _ _ c.in_err-triangles_refusal.ensures)
+
+pub returns-in_err-settings_refusal : goal.returns-in_err-settings_refusal
+unfolding write_refusal
+returns-in_err-settings_refusal c =
+    handed_on _ _ _ c.from_residual-in_err-settings_refusal.ensures.1
+    (passed_first _ _ _ c.in_ok-triangles_refusal.ensures (refused_first _ _ _ _ c.in_err-settings_refusal.ensures))
+
+pub returns-in_err-leaf_refusal : goal.returns-in_err-leaf_refusal
+unfolding write_refusal
+returns-in_err-leaf_refusal c =
+    let version = version_counted _ c.is_wide.ensures c.triangle_count-count.ensures in
+    handed_on _ _ _ c.from_residual-in_err-leaf_refusal.ensures.1
+    (passed_first _ _ _ c.in_ok-triangles_refusal.ensures (passed_first _ _ _ c.in_ok-settings_refusal.ensures
+    (refused_first _ _ _ _ (rw version at c.in_err-leaf_refusal.ensures))))
 
 pub image_room_refusal-requires : goal.image_room_refusal-requires
 image_room_refusal-requires c =
-    let good = triangles_passed _ (row_passed _ _ _
-    (or_test _ _ _ _ _ (ends _ _ c.triangles_refusal.ensures) c.settings_refusal.ensures c.or-early.ensures)
-    c.refuses.ensures c.if-refuses.false).0 in
-    (c.requires, rw c.triangle_count-count.ensures good.few)
+    (c.requires, rw c.triangle_count-count.ensures (triangles_passed _ (sym c.in_ok-triangles_refusal.ensures)).few)
+
+pub returns-in_err-image_room_refusal : goal.returns-in_err-image_room_refusal
+unfolding write_refusal
+returns-in_err-image_room_refusal c =
+    let count = c.triangle_count-count.ensures in
+    let version = version_counted _ c.is_wide.ensures count in
+    handed_on _ _ _ c.from_residual-in_err-image_room_refusal.ensures.1
+    (passed_first _ _ _ c.in_ok-triangles_refusal.ensures (passed_first _ _ _ c.in_ok-settings_refusal.ensures
+    (passed_first _ _ _ (rw version at c.in_ok-leaf_refusal.ensures)
+    (refused_first _ _ _ _ (rw count at c.in_err-image_room_refusal.ensures)))))
 
 pub tree_refusal-requires : goal.tree_refusal-requires
-tree_refusal-requires c =
-    (triangles_passed _ (row_passed _ _ _
-    (or_test _ _ _ _ _ (ends _ _ c.triangles_refusal.ensures) c.settings_refusal.ensures c.or-early.ensures)
-    c.refuses.ensures c.if-refuses.false).0).few
+tree_refusal-requires c = (triangles_passed _ (sym c.in_ok-triangles_refusal.ensures)).few
 
 pub returns : goal.returns
 unfolding write_refusal
 returns c =
     let count = c.triangle_count-count.ensures in
-    let version = version_picked _ c.is_wide.ensures ∙ ap version_for count in
-    row_goes_on _ _ _ _ _
-    (or_test _ _ _ _ _ (ends _ _ c.triangles_refusal.ensures) c.settings_refusal.ensures c.or-early.ensures)
-    c.refuses.ensures c.if-refuses.false
-    (or_test _ _ _ _ _ (or_test _ _ _ _ _ (ends _ _ (rw version at c.leaf_refusal.ensures))
-    (rw count at c.image_room_refusal.ensures) c.or-too_much.ensures) c.tree_refusal.ensures c.or.ensures)
+    let version = version_counted _ c.is_wide.ensures count in
+    passed_first _ _ _ c.in_ok-triangles_refusal.ensures (passed_first _ _ _ c.in_ok-settings_refusal.ensures
+    (passed_first _ _ _ (rw version at c.in_ok-leaf_refusal.ensures)
+    (passed_first _ _ _ (rw count at c.in_ok-image_room_refusal.ensures) (last _ _ c.tree_refusal.ensures))))

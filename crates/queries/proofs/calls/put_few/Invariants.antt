@@ -1,5 +1,5 @@
--- `queries::calls::put_few` meets its contract. The invariant: the answers to the first k points stand at the front of the list, and the lists of places are
--- as long as they were made.
+-- `queries::calls::put_few` meets its contract. The invariant: the answers to the first k points stand at the front of the list, and the lists of
+-- places are as long as they were made.
 use lib.Ieee.{binary32}
 use Rattle.spec_search.specs.Rules.{rule_of}
 use Rattle.spec_search.specs.Calls.{few_answer}

@@ -1,4 +1,5 @@
--- `queries::calls::query_refusal` meets its contract: the triangles' tests, what the query chooses, the room, and then, for triangles that passed, three more.
+-- `queries::calls::query_refusal` meets its contract: the triangles' tests, what the query chooses, the room, and then, for triangles that passed,
+-- three more.
 use mathlib.Core.Path.{sym}
 use native.Mathlib.Omega.{arith}
 use Rattle.lists.proofs.Rows.{handed_on, refused_first, passed_first, last}

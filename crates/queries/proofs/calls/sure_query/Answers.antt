@@ -6,11 +6,7 @@ use Rattle.spec_search.specs.Calls.{sure_answer}
 use Rattle.spec_search.proofs.Calls.{after_one}
 use Rattle.queries.proofs.calls.sure_query.Goals as goal
 
-pub returns : goal.returns
-returns c =
+pub returns-clause-answers : goal.returns-clause-answers
+returns-clause-answers c =
     let a = c.args in
-    let d = a.drawing.now in record {
-      verdict = c.ask.ensures.verdict;
-      answers = c.ask.ensures.answers ∙ after_one binary32 (sure_answer binary32 (rule_of a.rule) d.triangles.now a.distance)
-          a.points.now _ a.answers.now;
-    }
+    c.ask.ensures.answers ∙ after_one binary32 (sure_answer binary32 (rule_of a.rule) a.drawing.now.triangles.now a.distance) a.points.now _ a.answers.now

@@ -21,12 +21,14 @@ returns-in_err-room c =
 pub returns : goal.returns
 returns c =
     let a = c.args in
+    let s = a.bytes.now in
     elim c.if-size-room.branch [
       | then-size-room w ↦
-          let fits : a.at + 6 + size_at a.bytes.now a.at ≤ length a.bytes.now = omega (arith, c.in_ok-checked_sub.ensures, c.in_ok-room.ensures, c.u32_at-size.ensures) in
-          rw (kind_decides a.kind a.bytes.now a.at fits, ← c.u32_at-size.ensures, ← w.u16_at.ensures.value, ← w.then_some-is) c.then_some.ensures
+          let fits : a.at + 6 + size_at s a.at ≤ length s =
+          omega (arith, c.in_ok-checked_sub.ensures, c.in_ok-room.ensures, c.u32_at-size.ensures) in
+          rw (kind_decides a.kind s a.at fits, ← c.u32_at-size.ensures, ← w.u16_at.ensures.value, ← w.then_some-is) c.then_some.ensures
       | else-size-room w ↦
-          let past : length a.bytes.now < a.at + 6 + size_at a.bytes.now a.at = omega (arith, c.in_ok-checked_sub.ensures, c.in_ok-room.ensures, c.u32_at-size.ensures) in
-          rw (record_past a.kind a.bytes.now a.at past)
-          (rw (w.then_some-is, lt-leb _ _ w.if-size-room.false) at c.then_some.ensures)
+          let past : length s < a.at + 6 + size_at s a.at =
+          omega (arith, c.in_ok-checked_sub.ensures, c.in_ok-room.ensures, c.u32_at-size.ensures) in
+          rw (record_past a.kind s a.at past) (rw (w.then_some-is, lt-leb _ _ w.if-size-room.false) at c.then_some.ensures)
     ]

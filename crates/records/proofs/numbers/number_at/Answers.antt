@@ -1,34 +1,31 @@
--- `records::numbers::number_at` meets its contract: a turn reads the byte in front of those that were read.
+-- `records::numbers::number_at` meets its contract: a turn reads the byte behind those that were read.
+use mathlib.Core.Path.{◌≡◌}
 use native.Mathlib.Omega.{arith}
-use Prim.Native.Nat.{◌-◌, ◌+◌}
-use Rattle.spec_records.specs.Little.{Bytes}
-use Rattle.records.proofs.Little.{read_start, read_more, read_small, read_end}
+use Prim.Native.Nat.{◌+◌, ◌*◌, ◌%◌, ◌^◌}
+use Rattle.spec_records.specs.Little.{little_at}
+use Rattle.spec_records.proofs.Little.{number_below}
+use Rattle.records.proofs.Little.{are_bytes, read_start, read_more, read_small}
 use Rattle.records.proofs.numbers.number_at.Goals as goal
 
 pub loop-k-init : goal.loop-k-init
-loop-k-init g c = read_start g.row.SIZE c.args.bytes.now _
-
-pub overflow_mul-n : goal.overflow_mul-n
-overflow_mul-n g c =
-    let bytes : Bytes c.args.bytes.now = record { below = λ i. omega (arith, c.type_inv.bytes i) } in
-    omega (arith, c.loop-k.invariant, read_small (g.row.SIZE - c.loop-k.k) c.args.bytes.now (c.args.at + c.loop-k.k) bytes (omega arith) (omega arith))
+loop-k-init g c = read_start c.args.bytes.now c.args.at
 
 pub overflow_add-n : goal.overflow_add-n
 overflow_add-n g c =
-    let bytes : Bytes c.args.bytes.now = record { below = λ i. omega (arith, c.type_inv.bytes i) } in
-    omega (
-      arith,
-      c.from.ensures,
-      c.loop-k.invariant,
-      bytes.below (c.args.at + (c.loop-k.k - 1)),
-      read_small (g.row.SIZE - c.loop-k.k) c.args.bytes.now (c.args.at + c.loop-k.k) bytes (omega arith) (omega arith),
-    )
+    let s = c.args.bytes.now in
+    let bytes = are_bytes s c.type_inv.bytes in
+    let turn : c.loop-k.n + c.from.result * 2 ^ (8 * c.loop-k.k) % 4294967296 ≡ little_at (c.loop-k.k + 1) s c.args.at =
+    rw (c.loop-k.invariant, c.from.ensures) (read_more c.loop-k.k c.args.at s bytes (omega arith) (omega arith)) in
+    omega (arith, turn, read_small c.loop-k.k c.args.at s bytes (omega arith) (omega arith))
 
 pub loop-k-preserved : goal.loop-k-preserved
 loop-k-preserved g c =
-    omega (arith, c.from.ensures, c.loop-k.invariant, read_more g.row.SIZE c.args.at c.loop-k.k c.args.bytes.now (omega arith) (omega arith) (omega arith))
+    let s = c.args.bytes.now in
+    rw (c.loop-k.invariant, c.from.ensures)
+    (read_more c.loop-k.k c.args.at s (are_bytes s c.type_inv.bytes) (omega arith) (omega arith))
 
 pub returns-clause-upper_bound : goal.returns-clause-upper_bound
 returns-clause-upper_bound g c =
-    let bytes : Bytes c.args.bytes.now = record { below = λ i. omega (arith, c.type_inv.bytes i) } in
-    read_end g.row.SIZE c.args.at c.loop-k.k c.loop-k.n c.args.bytes.now bytes c.requires.at_in_bounds c.loop-k-test.false c.loop-k.invariant
+    let s = c.args.bytes.now in
+    let all : c.loop-k.k ≡ g.row.SIZE = omega arith in
+    rw (c.loop-k.invariant, all) (number_below g.row.SIZE s c.args.at (are_bytes s c.type_inv.bytes) c.requires.at_in_bounds)

@@ -27,5 +27,6 @@ returns c =
       c.cheapest_of-best.ensures,
       c.costs_of.ensures,
       c.fill-buckets.ensures,
-      bucket_on_axis binary32 (as_axis args.axis) _ within.result.lo within.result.hi within.ensures,
+      within.ensures.axis_is,
+      bucket_on_axis binary32 (as_axis args.axis) _ within.result.lo within.result.hi within.ensures.ends,
     )

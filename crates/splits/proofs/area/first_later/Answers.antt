@@ -5,12 +5,10 @@ use Rattle.std.proofs.lemmas.Iterator.{YieldsList-from_slice}
 use Rattle.std.proofs.lemmas.Iterator.Search.{position_from_yields_List}
 use Rattle.std.proofs.lemmas.Iterator.Adapters.{serves_from_places}
 use Prim.Native.Nat.compare
-use lib.Ieee.{binary32}
 use Rattle.spec_shapes.specs.Boxes.{Box}
-use Rattle.shapes.specs.Values.{as_axis}
 use Rattle.spec_splits.specs.Splits.{Split, cut_at, nowhere, box_in}
-use Rattle.spec_splits.specs.Area.{bucket_between, first_later}
-use Rattle.splits.specs.Values.{as_split}
+use Rattle.spec_splits.specs.Area.{first_later}
+use Rattle.splits.specs.Values.{as_split, bucket_in}
 use Rattle.splits.proofs.Reading.{in_table_read}
 use Rattle.splits.proofs.area.first_later.Goals as goal
 
@@ -57,7 +55,7 @@ position-requires-clause-callable c =
 pub returns : goal.returns
 returns c =
     let args = c.args in
-    let bucket = bucket_between binary32 (as_axis args.axis) args.within.lo args.within.hi in
+    let bucket = bucket_in args.within in
     ap as_split (position_from_yields_List (λ t. ltb args.k (bucket (box_in args.bounds.now t))) _ _ c.position.result c.position.ensures.ran
     (YieldsList-from_slice args.slice.now cc) (λ x b q k. search (rules, tests)))
     ∙ split_is bucket args.k (box_in args.bounds.now) args.slice.now

@@ -29,8 +29,8 @@ loop-t-preserved c =
           (omega arith) (c.max2-hi.ensures ∙ ap (larger loop.hi) c.centre_on-centre.ensures) loop.invariant.1,
     )
 
-pub returns : goal.returns
-returns c =
+pub returns-clause-ends : goal.returns-clause-ends
+returns-clause-ends c =
     let args = c.args in
     let loop = c.loop-t in
     let boxes = boxes_in args.bounds.now args.slice.now in

@@ -8,4 +8,6 @@ use Rattle.tree.proofs.scan.nodes_refusal.Given as goal
 
 abbrev pub invariant-loop-node : goal.invariant-loop-node
 invariant-loop-node l =
-    (l.node ≤ l.nodes) × (Scanned l.n l.links l.node l.entry × (l.unlike ≡ first_failing (is_boxed (box_at l.drawing.triangles.now) l.drawing.order.now l.links l.drawing.boxes.now) l.node))
+    (l.node ≤ l.nodes)
+    × (Scanned l.n l.links l.node l.entry
+    × (l.unlike ≡ first_failing (is_boxed (box_at l.drawing.triangles.now) l.drawing.order.now l.links l.drawing.boxes.now) l.node))
