@@ -60,8 +60,8 @@ fn replay_small_mesh(block: &[u8], at: usize, triangles: usize, points: usize, t
     let mut out = [7.0f32; 17];
     let used = 9 * triangles;
     let numbers = 3 * points;
-    let verdict = winding(&corners[0..used], &asked[0..numbers], &mut out);
-    if verdict.refuses() || out[points] != 7.0 {
+    let told = winding(&corners[0..used], &asked[0..numbers], &mut out);
+    if told.is_err() || out[points] != 7.0 {
         count(tally, false, at, out[points], 0);
         return;
     }

@@ -1,13 +1,12 @@
 // Trees of up to 4,097 triangles that a rule of numbers makes, printed as counts and digests.
-use build::calls::Built;
+use build::calls::{Built, build};
+use lists::settings::Settings;
 use test_words::Word;
 
 #[derive(Clone, Copy)]
 struct Case {
     triangles: usize,
-    strategy: usize,
-    leaf_minimum: usize,
-    maximum_depth: usize,
+    settings: Settings,
     range: u64,
 }
 
@@ -46,12 +45,12 @@ fn put(n: u64) {
     io::write_all(1, b" ");
 }
 
-fn put_tree(nodes: usize, depth: usize, order: &[u32], links: &[u32], boxes: &[f32]) {
-    put(nodes as u64);
-    put(depth as u64);
+fn put_tree(built: Built, order: &[u32], links: &[u32], boxes: &[f32]) {
+    put(built.nodes as u64);
+    put(built.depth as u64);
     put(digest(order));
-    let kinds = 3 * (nodes % 8194);
-    let numbers = 6 * (nodes % 8194);
+    let kinds = 3 * (built.nodes % 8194);
+    let numbers = 6 * (built.nodes % 8194);
     if kinds <= links.len() {
         put(digest(&links[0..kinds]));
     }
@@ -63,9 +62,9 @@ fn put_tree(nodes: usize, depth: usize, order: &[u32], links: &[u32], boxes: &[f
 
 fn put_case(case: Case) {
     put(case.triangles as u64);
-    put(case.strategy as u64);
-    put(case.leaf_minimum as u64);
-    put(case.maximum_depth as u64);
+    put(case.settings.strategy as u64);
+    put(case.settings.leaf_minimum as u64);
+    put(case.settings.maximum_depth as u64);
     put(case.range);
 }
 
@@ -79,11 +78,9 @@ fn build_into(
     let mut bounds = [7.0f32; 24582];
     let mut centres = [7.0f32; 12291];
     let mut scratch = [7u32; 4097];
-    let built = build::calls::build(
+    let told = build(
         triangles,
-        case.strategy,
-        case.leaf_minimum,
-        case.maximum_depth,
+        case.settings,
         order,
         links,
         boxes,
@@ -91,12 +88,12 @@ fn build_into(
         &mut centres,
         &mut scratch,
     );
-    match built {
-        Built::Refused { number, place } => {
-            put(number as u64);
-            put(place as u64);
+    match told {
+        Ok(built) => put_tree(built, order, links, boxes),
+        Err(refusal) => {
+            put(refusal.number() as u64);
+            put(refusal.place() as u64);
         }
-        Built::Tree { nodes, depth } => put_tree(nodes, depth, order, links, boxes),
     }
 }
 
@@ -120,9 +117,11 @@ fn run_both(triangles: usize, leaf_minimum: usize, maximum_depth: usize, range: 
     for strategy in [1, 2] {
         run(Case {
             triangles,
-            strategy,
-            leaf_minimum,
-            maximum_depth,
+            settings: Settings {
+                strategy,
+                leaf_minimum,
+                maximum_depth,
+            },
             range,
         });
     }

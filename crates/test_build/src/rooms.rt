@@ -2,20 +2,21 @@
 ghost use Rattle.std.specs.Prelude.{◌≤◌, length};
 
 use build::calls::{Built, build};
-use test_words::put_number;
+use lists::refusal::Refusal;
+use lists::settings::Settings;
+use test_words::{put_number, put_refusal};
 
-fn put_built(built: Built) {
-    match built {
-        Built::Tree { nodes, depth } => {
+fn put_built(told: Result<Built, Refusal>) {
+    match told {
+        Ok(built) => {
             io::write_all(1, b" nodes");
-            put_number(nodes);
+            put_number(built.nodes);
             io::write_all(1, b" depth");
-            put_number(depth);
+            put_number(built.depth);
         }
-        Built::Refused { number, place } => {
-            io::write_all(1, b" refused");
-            put_number(number);
-            put_number(place);
+        Err(refusal) => {
+            io::write_all(1, b" ");
+            put_refusal(refusal);
         }
     }
 }
@@ -45,12 +46,17 @@ fn built_in(
     bounds: &mut [f32],
     centres: &mut [f32],
     scratch: &mut [u32],
-) -> Built {
+) -> Result<Built, Refusal> {
     let triangles = [
         0.0, 0.0, 0.0, 1.0, 0.0, 0.0, 0.0, 1.0, 0.0, 10.0, 0.0, 0.0, 11.0, 0.0, 0.0, 10.0, 1.0, 0.0,
     ];
+    let settings = Settings {
+        strategy: 1,
+        leaf_minimum: 1,
+        maximum_depth: 40,
+    };
     build(
-        &triangles, 1, 1, 40, order, links, boxes, bounds, centres, scratch,
+        &triangles, settings, order, links, boxes, bounds, centres, scratch,
     )
 }
 

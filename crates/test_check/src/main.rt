@@ -4,74 +4,72 @@
 
 ghost use Rattle.std.specs.Prelude.{◌<◌, ◌≤◌};
 
-use lists::verdict::Verdict;
+use lists::drawing::Drawing;
+use test_words::put_number;
 use tree::calls::check;
 
-fn put_verdict(verdict: Verdict) {
-    match verdict {
-        Verdict::Passed => {
-            io::write_all(1, b": passed\n");
-        }
-        Verdict::Refused { number, place } => {
-            io::write_all(1, b": ");
-            io::print_decimal(1, number as u64);
-            io::write_all(1, b" ");
-            io::print_decimal(1, place as u64);
-            io::write_all(1, b"\n");
-        }
-    }
-}
-
-// What the check says of lists over T0 and T1 of the printed run.
-fn put_lists(order: &[u32], links: &[u32], boxes: &[f32], nodes: usize) {
-    let triangles = [
-        0.0, 0.0, 0.0, 1.0, 0.0, 0.0, 0.0, 1.0, 0.0, 10.0, 0.0, 0.0, 11.0, 0.0, 0.0, 10.0, 1.0, 0.0,
-    ];
-    put_verdict(check(&triangles, order, links, boxes, nodes));
-}
+// T0 and T1 of the printed run.
+const TRIANGLES: [f32; 18] = [
+    0.0, 0.0, 0.0, 1.0, 0.0, 0.0, 0.0, 1.0, 0.0, 10.0, 0.0, 0.0, 11.0, 0.0, 0.0, 10.0, 1.0, 0.0,
+];
 
 // Their tree: each in a leaf, and the branch over both.
-fn tree_order() -> [u32; 2] {
-    [0, 1]
+const ORDER: [u32; 2] = [0, 1];
+
+const LINKS: [u32; 9] = [1, 0, 1, 1, 1, 2, 2, 0, 1];
+
+const BOXES: [f32; 18] = [
+    0.0, 0.0, 0.0, 1.0, 1.0, 0.0, 10.0, 0.0, 0.0, 11.0, 1.0, 0.0, 0.0, 0.0, 0.0, 11.0, 1.0, 0.0,
+];
+
+// What the check says of a drawing.
+fn put_checked(drawing: &Drawing) {
+    io::write_all(1, b":");
+    match check(drawing) {
+        Ok(()) => {
+            io::write_all(1, b" passed");
+        }
+        Err(refusal) => {
+            put_number(refusal.number());
+            put_number(refusal.place());
+        }
+    }
+    io::write_all(1, b"\n");
 }
 
-fn tree_links() -> [u32; 9] {
-    [1, 0, 1, 1, 1, 2, 2, 0, 1]
-}
-
-fn tree_boxes() -> [f32; 18] {
-    [
-        0.0, 0.0, 0.0, 1.0, 1.0, 0.0, 10.0, 0.0, 0.0, 11.0, 1.0, 0.0, 0.0, 0.0, 0.0, 11.0, 1.0, 0.0,
-    ]
+// And of lists over T0 and T1.
+fn put_lists(order: &[u32], links: &[u32], boxes: &[f32], nodes: usize) {
+    put_checked(&Drawing {
+        triangles: &TRIANGLES,
+        order,
+        links,
+        boxes,
+        nodes,
+    });
 }
 
 fn put_order(name: &[u8], order: &[u32]) {
     io::write_all(1, name);
-    let links = tree_links();
-    let boxes = tree_boxes();
-    put_lists(order, &links, &boxes, 3);
+    put_lists(order, &LINKS, &BOXES, 3);
 }
 
 // So many nodes, with so many entries of links and so many numbers of boxes.
 fn put_counts(nodes: usize, entries: usize, sides: usize)
     requires { (entries ≤ 9) × (sides ≤ 18) }
 {
-    let order = tree_order();
-    let links = tree_links();
-    let boxes = tree_boxes();
+    let links = LINKS;
+    let boxes = BOXES;
     io::print_decimal(1, nodes as u64);
-    put_lists(&order, &links[0..entries], &boxes[0..sides], nodes);
+    put_lists(&ORDER, &links[0..entries], &boxes[0..sides], nodes);
 }
 
 fn put_link(i: usize, value: u32)
     requires { i < 9 }
 {
-    let order = tree_order();
-    let mut links = tree_links();
-    let boxes = tree_boxes();
+    let mut links = LINKS;
     links[i] = value;
     io::print_decimal(1, i as u64);
-    put_lists(&order, &links, &boxes, 3);
+    put_lists(&ORDER, &links, &BOXES, 3);
 }
 
 fn put_each_link(value: u32) {
@@ -83,12 +81,10 @@ fn put_each_link(value: u32) {
 fn put_box(i: usize, value: f32)
     requires { i < 18 }
 {
-    let order = tree_order();
-    let links = tree_links();
-    let mut boxes = tree_boxes();
+    let mut boxes = BOXES;
     boxes[i] = value;
     io::print_decimal(1, i as u64);
-    put_lists(&order, &links, &boxes, 3);
+    put_lists(&ORDER, &LINKS, &boxes, 3);
 }
 
 fn put_each_box() {
@@ -99,20 +95,18 @@ fn put_each_box() {
 
 // A box is wrong; and a leaf's kind; and the node count; and the order.
 fn put_several() {
-    let order = tree_order();
-    let repeated = [1u32, 1];
-    let mut links = tree_links();
-    let mut boxes = tree_boxes();
+    let mut links = LINKS;
+    let mut boxes = BOXES;
     boxes[6] = 9.0;
     io::write_all(1, b"box");
-    put_lists(&order, &links, &boxes, 3);
+    put_lists(&ORDER, &links, &boxes, 3);
     links[3] = 2;
     io::write_all(1, b"box, kind");
-    put_lists(&order, &links, &boxes, 3);
+    put_lists(&ORDER, &links, &boxes, 3);
     io::write_all(1, b"box, kind, count");
-    put_lists(&order, &links, &boxes, 4);
+    put_lists(&ORDER, &links, &boxes, 4);
     io::write_all(1, b"box, kind, count, order");
-    put_lists(&repeated, &links, &boxes, 4);
+    put_lists(&[1, 1], &links, &boxes, 4);
 }
 
 // 0, 1 and so on.
@@ -166,13 +160,13 @@ fn put_comb(links: &[u32], n: usize)
     let boxes = [0.0f32; 774];
     let coordinates = 9 * n;
     let nodes = 2 * n - 1;
-    put_verdict(check(
-        &triangles[0..coordinates],
-        &order[0..n],
+    put_checked(&Drawing {
+        triangles: &triangles[0..coordinates],
+        order: &order[0..n],
         links,
-        &boxes,
+        boxes: &boxes,
         nodes,
-    ));
+    });
 }
 
 fn main() {

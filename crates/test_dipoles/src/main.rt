@@ -9,20 +9,11 @@ mod refusals;
 
 use crate::refusals::put_refusals;
 use dipoles::calls::{fast_winding, node_sums};
-use lists::verdict::Verdict;
+use lists::drawing::Drawing;
+use lists::refusal::Refusal;
 use test_words::cursor::Cursor;
 use test_words::tally::Tally;
 use test_words::{more, put_count, read_case};
-
-// The lists of a case.
-#[derive(Clone, Copy)]
-struct Drawing<'a> {
-    triangles: &'a [f32],
-    order: &'a [u32],
-    links: &'a [u32],
-    boxes: &'a [f32],
-    nodes: usize,
-}
 
 // The first six words of a case.
 #[derive(Clone, Copy)]
@@ -65,14 +56,13 @@ fn is_near(ours: f32, theirs: f32, most: f32) -> bool {
     floats::absolute(ours - theirs) <= most
 }
 
-// The call passed, and the entry behind those that it writes is the one that was there.
-fn passed(tally: &mut Tally, what: &[u8], verdict: Verdict, behind: f32) {
+// Nothing may be refused, and the entry behind those that the call writes is the 7 that was lent.
+fn answered(tally: &mut Tally, what: &[u8], told: Result<(), Refusal>, behind: f32) {
     let kept = floats::bits_of(behind);
-    if verdict.refuses() {
-        tally.differs(what, 0, 1, 0);
-    } else if kept != 0x40e0_0000 {
+    if told.is_ok() && kept != 0x40e0_0000 {
         tally.differs(what, 0, kept, 0x40e0_0000);
     }
+    tally.answered(what, told);
 }
 
 // Compares the winding numbers about up to 8 points at one scale, within `most`, with the next words of the case.
@@ -86,19 +76,9 @@ fn wound(
     tally: &mut Tally,
 ) {
     let mut out = [7.0f32; 9];
-    let verdict = fast_winding(
-        drawing.triangles,
-        drawing.order,
-        drawing.links,
-        drawing.boxes,
-        drawing.nodes,
-        sums,
-        points,
-        accuracy,
-        &mut out,
-    );
+    let told = fast_winding(drawing, sums, points, accuracy, &mut out);
     let count = (points.len() / 3).min(8);
-    passed(tally, b"winding ", verdict, out[count]);
+    answered(tally, b"winding ", told, out[count]);
     tally.compare(b"winding ", &out[0..count], case, |ours, theirs| {
         is_near(floats::from_bits(ours), floats::from_bits(theirs), most)
     });
@@ -115,16 +95,9 @@ fn summed(
     requires { drawing.now.nodes ≤ 79 }
 {
     let mut all = [7.0f32; 1265];
-    let verdict = node_sums(
-        drawing.triangles,
-        drawing.order,
-        drawing.links,
-        drawing.boxes,
-        drawing.nodes,
-        &mut all,
-    );
+    let told = node_sums(drawing, &mut all);
     let used = 16 * drawing.nodes;
-    passed(tally, b"sums ", verdict, all[used]);
+    answered(tally, b"sums ", told, all[used]);
     let sums = &all[0..used];
     tally.compare(b"sums ", sums, case, is_same);
     let count = drawing.triangles.len() / 9;
@@ -143,19 +116,10 @@ fn compare(head: Head, case: &mut Cursor, tally: &mut Tally)
     let triangles = case.fill(9 * head.triangles as usize, &mut room);
     let mut room = [0.0f32; 24];
     let points = case.fill(3 * head.points as usize, &mut room);
-    let mut room = [0u32; 40];
-    let order = case.fill(head.triangles as usize, &mut room);
-    let mut room = [0u32; 237];
-    let links = case.fill(3 * nodes, &mut room);
-    let mut room = [0.0f32; 474];
-    let boxes = case.fill(6 * nodes, &mut room);
-    let drawing = Drawing {
-        triangles,
-        order,
-        links,
-        boxes,
-        nodes,
-    };
+    let mut order = [0u32; 40];
+    let mut links = [0u32; 237];
+    let mut boxes = [0.0f32; 474];
+    let drawing = case.drawing(triangles, nodes, &mut order, &mut links, &mut boxes);
     summed(&drawing, points, &head.scales, case, tally);
 }
 

@@ -3,7 +3,9 @@
 ghost use Rattle.std.specs.Prelude.{◌≤◌};
 
 use dipoles::calls::{fast_winding, node_sums};
-use lists::verdict::Verdict;
+use lists::drawing::Drawing;
+use lists::refusal::Refusal;
+use test_words::put_number;
 
 // What a call is given, but for the lists that each function below lends.
 #[derive(Clone, Copy)]
@@ -27,29 +29,36 @@ fn right() -> Asked {
 }
 
 // T0 and T1 of the printed run.
-fn both() -> [f32; 18] {
-    [
-        0.0, 0.0, 0.0, 1.0, 0.0, 0.0, 0.0, 1.0, 0.0, 10.0, 0.0, 0.0, 11.0, 0.0, 0.0, 10.0, 1.0, 0.0,
-    ]
-}
+const TRIANGLES: [f32; 18] = [
+    0.0, 0.0, 0.0, 1.0, 0.0, 0.0, 0.0, 1.0, 0.0, 10.0, 0.0, 0.0, 11.0, 0.0, 0.0, 10.0, 1.0, 0.0,
+];
 
 // Their boxes, and the box about both.
-fn all_boxes() -> [f32; 18] {
-    [
-        0.0, 0.0, 0.0, 1.0, 1.0, 0.0, 10.0, 0.0, 0.0, 11.0, 1.0, 0.0, 0.0, 0.0, 0.0, 11.0, 1.0, 0.0,
-    ]
+const BOXES: [f32; 18] = [
+    0.0, 0.0, 0.0, 1.0, 1.0, 0.0, 10.0, 0.0, 0.0, 11.0, 1.0, 0.0, 0.0, 0.0, 0.0, 11.0, 1.0, 0.0,
+];
+
+// Their drawing, with these links.
+fn drawing_of<'a>(triangles: &'a [f32], links: &'a [u32]) -> Drawing<'a> {
+    Drawing {
+        triangles,
+        order: &[0, 1],
+        links,
+        boxes: &BOXES,
+        nodes: 3,
+    }
 }
 
-fn put_verdict(v: Verdict) {
-    match v {
-        Verdict::Passed => {
+fn put_told(told: Result<(), Refusal>) {
+    match told {
+        Ok(()) => {
             io::write_all(1, b" passed");
         }
-        Verdict::Refused { number, place } => {
-            io::write_all(1, b" refused ");
-            io::print_decimal(1, number as u64);
-            io::write_all(1, b" at ");
-            io::print_decimal(1, place as u64);
+        Err(refusal) => {
+            io::write_all(1, b" refused");
+            put_number(refusal.number());
+            io::write_all(1, b" at");
+            put_number(refusal.place());
         }
     }
 }
@@ -72,19 +81,12 @@ fn put_sums(asked: Asked, numbers: usize, room: usize)
     requires numbers_bound { numbers ≤ 18 }
     requires room_bound { room ≤ 49 }
 {
-    let triangles = both();
+    let triangles = TRIANGLES;
     let links = asked.links;
+    let drawing = drawing_of(&triangles[0..numbers], &links);
     let mut all = [7.0f32; 49];
     let sums = &mut all[0..room];
-    let verdict = node_sums(
-        &triangles[0..numbers],
-        &[0, 1],
-        &links,
-        &all_boxes(),
-        3,
-        sums,
-    );
-    put_verdict(verdict);
+    put_told(node_sums(&drawing, sums));
     put_kept(sums);
 }
 
@@ -94,24 +96,20 @@ fn put_winding(asked: Asked, numbers: usize, given: usize, room: usize)
     requires given_bound { given ≤ 48 }
     requires room_bound { room ≤ 2 }
 {
-    let triangles = both();
     let links = asked.links;
+    let drawing = drawing_of(&TRIANGLES, &links);
     let point = [asked.x, asked.y, asked.z];
     let sums = [0.5f32; 48];
     let mut all = [7.0f32; 2];
     let out = &mut all[0..room];
-    let verdict = fast_winding(
-        &triangles,
-        &[0, 1],
-        &links,
-        &all_boxes(),
-        3,
+    let told = fast_winding(
+        &drawing,
         &sums[0..given],
         &point[0..numbers],
         asked.accuracy,
         out,
     );
-    put_verdict(verdict);
+    put_told(told);
     put_kept(out);
 }
 

@@ -5,22 +5,11 @@
 ghost use Rattle.std.specs.Prelude.{◌≤◌};
 ghost use Rattle.spec_tree.specs.Leaves as Leaves;
 
-use leaves::calls::{LeafFound, LeavesCounted, leaf_entry, leaf_from, leaves};
-use leaves::reader::EntryFound;
-use shapes::box3::Box3;
+use leaves::calls::{LeafNode, leaf_entry, leaf_from, leaves};
+use lists::drawing::Drawing;
 use shapes::vec3::Vec3;
 use test_words::cursor::Cursor;
-use test_words::{more, pattern_at, put_number, put_word, read_next};
-
-// The lists of a case.
-#[derive(Clone, Copy)]
-struct Drawing<'a> {
-    triangles: &'a [f32],
-    order: &'a [u32],
-    links: &'a [u32],
-    boxes: &'a [f32],
-    nodes: usize,
-}
+use test_words::{more, pattern_at, put_number, put_refusal, put_word, read_next};
 
 fn put_point(p: Vec3) {
     put_word(p.x);
@@ -29,57 +18,31 @@ fn put_point(p: Vec3) {
 }
 
 fn put_entry(drawing: &Drawing, k: usize, i: usize) {
-    let entry = leaf_entry(
-        drawing.triangles,
-        drawing.order,
-        drawing.links,
-        drawing.boxes,
-        drawing.nodes,
-        k,
-        i,
-    );
-    match entry {
-        EntryFound::Triangle(t) => put_number(t as usize),
-        EntryFound::Nothing => {
+    match leaf_entry(drawing, k, i) {
+        Ok(Some(triangle)) => put_number(triangle as usize),
+        Ok(None) => {
             io::write_all(1, b" nothing");
         }
-        EntryFound::Refused { .. } => {
+        Err(_) => {
             io::write_all(1, b" refused");
         }
     }
 }
 
-// Prints where a leaf begins and ends and its box.
-fn put_range(first: usize, last: usize, over: Box3) {
-    put_number(first);
-    put_number(last);
-    put_point(over.min);
-    put_point(over.max);
-}
-
-// Prints the leaf with its triangles, and that there is nothing behind them. Answers the node from which the next one is sought.
-fn put_leaf(drawing: &Drawing, k: usize, found: LeafFound) -> usize {
-    match found {
-        LeafFound::Leaf {
-            node,
-            first,
-            last,
-            over,
-        } => {
-            io::write_all(1, b"leaf");
-            put_number(k);
-            put_range(first, last, over);
-            let count = last.saturating_sub(first);
-            for i in 0..count {
-                put_entry(drawing, k, i);
-            }
-            put_entry(drawing, k, count);
-            io::write_all(1, b"\n");
-            more(node, 1)
-        }
-        LeafFound::Nothing => drawing.nodes,
-        LeafFound::Refused { .. } => drawing.nodes,
+// Prints the k-th leaf with its box and its triangles, and that there is nothing behind them.
+fn put_leaf(drawing: &Drawing, k: usize, leaf: LeafNode) {
+    io::write_all(1, b"leaf");
+    put_number(k);
+    put_number(leaf.first);
+    put_number(leaf.last);
+    put_point(leaf.over.min);
+    put_point(leaf.over.max);
+    let count = leaf.last.saturating_sub(leaf.first);
+    for i in 0..count {
+        put_entry(drawing, k, i);
     }
+    put_entry(drawing, k, count);
+    io::write_all(1, b"\n");
 }
 
 // Prints each leaf, sought behind the one before it.
@@ -88,31 +51,24 @@ fn put_leaves(drawing: &Drawing, count: usize)
 {
     let mut from = 0;
     for k in 0..count {
-        let found = leaf_from(drawing.links, drawing.boxes, drawing.nodes, from, 0);
-        from = put_leaf(drawing, k, found);
+        if let Some(leaf) = leaf_from(drawing.links, drawing.boxes, drawing.nodes, from, 0) {
+            put_leaf(drawing, k, leaf);
+            from = more(leaf.node, 1);
+        }
     }
 }
 
 fn put_tree(drawing: &Drawing) {
-    let counted = leaves(
-        drawing.triangles,
-        drawing.order,
-        drawing.links,
-        drawing.boxes,
-        drawing.nodes,
-    );
-    match counted {
-        LeavesCounted::Refused { number, place } => {
-            io::write_all(1, b"refused");
-            put_number(number);
-            put_number(place);
-            io::write_all(1, b"\n");
-        }
-        LeavesCounted::Leaves(count) => {
+    match leaves(drawing) {
+        Ok(count) => {
             io::write_all(1, b"leaves");
             put_number(count);
             io::write_all(1, b"\n");
             put_leaves(drawing, count);
+        }
+        Err(refusal) => {
+            put_refusal(refusal);
+            io::write_all(1, b"\n");
         }
     }
 }
@@ -124,19 +80,11 @@ fn replay(bytes: &[u8], count: usize, nodes: usize)
     let mut case = Cursor { bytes, at: 0 };
     let mut room = [0.0f32; 216];
     let triangles = case.fill(9 * count, &mut room);
-    let mut room = [0u32; 24];
-    let order = case.fill(count, &mut room);
-    let mut room = [0u32; 141];
-    let links = case.fill(3 * nodes, &mut room);
-    let mut room = [0.0f32; 282];
-    let boxes = case.fill(6 * nodes, &mut room);
-    put_tree(&Drawing {
-        triangles,
-        order,
-        links,
-        boxes,
-        nodes,
-    });
+    let mut order = [0u32; 24];
+    let mut links = [0u32; 141];
+    let mut boxes = [0.0f32; 282];
+    let drawing = case.drawing(triangles, nodes, &mut order, &mut links, &mut boxes);
+    put_tree(&drawing);
 }
 
 // Replays the next case, if there is one that fits: its counts of triangles and nodes, then its lists.

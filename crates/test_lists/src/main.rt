@@ -4,27 +4,24 @@
 
 ghost use Rattle.std.specs.Prelude.{◌≤◌, ◌<◌};
 
+use lists::refusal::{Refusal, room_refusal};
 use lists::settings::{Settings, settings_refusal};
 use lists::tests::{distance_refusal, points_refusal, scale_refusal, triangles_refusal};
-use lists::verdict::{Verdict, room_refusal};
+use test_words::put_refusal;
 
 fn put_number(n: usize) {
     io::print_decimal(1, n as u64);
     io::write_all(1, b" ");
 }
 
-fn put_verdict(v: Verdict) {
-    match v {
-        Verdict::Passed => {
-            io::write_all(1, b"passed\n");
+fn put_told(told: Result<(), Refusal>) {
+    match told {
+        Ok(()) => {
+            io::write_all(1, b"passed");
         }
-        Verdict::Refused { number, place } => {
-            io::write_all(1, b"refused ");
-            put_number(number);
-            io::print_decimal(1, place as u64);
-            io::write_all(1, b"\n");
-        }
+        Err(refusal) => put_refusal(refusal),
     }
+    io::write_all(1, b"\n");
 }
 
 // A triangle list of the first `length` zeros.
@@ -32,7 +29,7 @@ fn put_length(zeros: &[f32], length: usize) {
     if length <= zeros.len() {
         io::write_all(1, b"length ");
         put_number(length);
-        put_verdict(triangles_refusal(&zeros[0..length]));
+        put_told(triangles_refusal(&zeros[0..length]));
     }
 }
 
@@ -46,7 +43,7 @@ fn put_triangles_with(pattern: u32, place: usize)
     io::print_hex(1, pattern as u64, 8);
     io::write_all(1, b" at ");
     put_number(place);
-    put_verdict(triangles_refusal(&numbers));
+    put_told(triangles_refusal(&numbers));
 }
 
 // A point list of `length` numbers, all zeros but for a NaN at this place.
@@ -60,18 +57,18 @@ fn put_points(length: usize, place: usize)
     put_number(length);
     io::write_all(1, b"with a NaN at ");
     put_number(place);
-    put_verdict(points_refusal(&numbers[0..length]));
+    put_told(points_refusal(&numbers[0..length]));
 }
 
 // What a test says of the float with each of these patterns.
-fn put_floats<F: Fn(f32) -> Verdict>(name: &[u8], patterns: &[u32], verdict_of: F)
-    requires { F.IsAlwaysCallable verdict_of }
+fn put_floats<F: Fn(f32) -> Result<(), Refusal>>(name: &[u8], patterns: &[u32], refusal_of: F)
+    requires { F.IsAlwaysCallable refusal_of }
 {
     for pattern in patterns {
         io::write_all(1, name);
         io::print_hex(1, *pattern as u64, 8);
         io::write_all(1, b" ");
-        put_verdict(verdict_of(floats::from_bits(*pattern)));
+        put_told(refusal_of(floats::from_bits(*pattern)));
     }
 }
 
@@ -80,7 +77,7 @@ fn put_settings(strategy: usize, leaf_minimum: usize, maximum_depth: usize) {
     put_number(strategy);
     put_number(leaf_minimum);
     put_number(maximum_depth);
-    put_verdict(settings_refusal(Settings {
+    put_told(settings_refusal(Settings {
         strategy,
         leaf_minimum,
         maximum_depth,
@@ -92,7 +89,7 @@ fn put_room(given: usize, need: usize) {
     put_number(given);
     io::write_all(1, b"of ");
     put_number(need);
-    put_verdict(room_refusal(given, need));
+    put_told(room_refusal(given, need));
 }
 
 // None, a part of one, one, 4,096 and 4,097 triangles, 65,536, a part of one more and 65,537.

@@ -90,8 +90,8 @@ impl<'a> Answers<'a> {
         let held = t.held_spot(p);
         self.point(held.point);
         self.word(held.point.squared_distance(p));
-        self.word(closest.part.number());
-        self.word(held.part.number());
+        self.word(u32::from(closest.part));
+        self.word(u32::from(held.part));
     }
 }
 

@@ -3,22 +3,18 @@
 // lent, the bits that fill the list, and the STL. tests/stl/generate.rs made the cases and, by a reading of its own, `stdout`.
 #![tactic(auto)]
 
-use stl::calls::{Counted, read_stl, write_stl};
+use lists::refusal::Refusal;
+use stl::calls::{read_stl, write_stl};
 use test_words::cursor::Cursor;
-use test_words::read_case;
+use test_words::{put_number, put_refusal, read_case};
 
-fn put_answer(what: &[u8], answer: Counted) {
+fn put_answer(what: &[u8], answer: Result<usize, Refusal>) {
     io::write_all(1, what);
     match answer {
-        Counted::Refused { number, place } => {
-            io::write_all(1, b" refused ");
-            io::print_decimal(1, number as u64);
+        Ok(count) => put_number(count),
+        Err(refusal) => {
             io::write_all(1, b" ");
-            io::print_decimal(1, place as u64);
-        }
-        Counted::Count(count) => {
-            io::write_all(1, b" ");
-            io::print_decimal(1, count as u64);
+            put_refusal(refusal);
         }
     }
     io::write_all(1, b"\n");

@@ -5,22 +5,15 @@
 
 ghost use Rattle.std.specs.Prelude.{◌≤◌};
 
-use build::calls::Built;
-use lists::verdict::Verdict;
+use build::calls::{Built, build};
+use lists::drawing::Drawing;
+use lists::refusal::Refusal;
+use lists::settings::Settings;
+use queries::calls::{few_query, source_query, sure_query};
 use test_words::cursor::Cursor;
 use test_words::tally::Tally;
 use test_words::{more, put_count, read_next};
 use walks::words::ANSWER_WIDTH;
-
-// The lists of a case.
-#[derive(Clone, Copy)]
-struct Drawing<'a> {
-    triangles: &'a [f32],
-    order: &'a [u32],
-    links: &'a [u32],
-    boxes: &'a [f32],
-    nodes: usize,
-}
 
 // The first ten words of a case: how many answers a point has as its nearest few, and how many words these are, come last. Both are 0
 // where the few are not asked for.
@@ -63,19 +56,13 @@ fn body_size(head: Head) -> usize {
     4 * words
 }
 
-fn passed(tally: &mut Tally, what: &[u8], verdict: Verdict) {
-    if verdict.refuses() {
-        tally.differs(what, 0, 1, 0);
-    }
-}
-
-fn compare_counts(head: Head, built: Built, tally: &mut Tally) {
-    match built {
-        Built::Refused { .. } => tally.differs(b"build ", 0, 1, 0),
-        Built::Tree { nodes, depth } => {
-            if nodes != head.nodes as usize {
+fn compare_counts(head: Head, told: Result<Built, Refusal>, tally: &mut Tally) {
+    match told {
+        Err(_) => tally.differs(b"build ", 0, 1, 0),
+        Ok(built) => {
+            if built.nodes != head.nodes as usize {
                 tally.differs(b"nodes ", 0, 1, 0);
-            } else if depth != head.depth as usize {
+            } else if built.depth != head.depth as usize {
                 tally.differs(b"depth ", 0, 1, 0);
             }
         }
@@ -94,11 +81,14 @@ fn compare_tree(triangles: &[f32], head: Head, theirs: &mut Cursor, tally: &mut 
     let mut scratch = [7u32; 24];
     let count = head.triangles as usize;
     let nodes = head.nodes as usize;
-    let built = build::calls::build(
+    let settings = Settings {
+        strategy: head.strategy as usize,
+        leaf_minimum: head.leaf_minimum as usize,
+        maximum_depth: head.maximum_depth as usize,
+    };
+    let told = build(
         triangles,
-        head.strategy as usize,
-        head.leaf_minimum as usize,
-        head.maximum_depth as usize,
+        settings,
         &mut order[0..count],
         &mut links,
         &mut boxes,
@@ -106,7 +96,7 @@ fn compare_tree(triangles: &[f32], head: Head, theirs: &mut Cursor, tally: &mut 
         &mut centres,
         &mut scratch,
     );
-    compare_counts(head, built, tally);
+    compare_counts(head, told, tally);
     tally.same(b"order ", &order[0..count], theirs);
     tally.same(b"links ", &links[0..3 * nodes], theirs);
     tally.same(b"boxes ", &boxes[0..6 * nodes], theirs);
@@ -123,32 +113,13 @@ fn compare_answers(
     let size = ANSWER_WIDTH * (points.len() / 3).min(20);
     let mut all = [7u32; 20 * ANSWER_WIDTH];
     let source = &mut all[0..size];
-    let verdict = queries::calls::source_query(
-        drawing.triangles,
-        drawing.order,
-        drawing.links,
-        drawing.boxes,
-        drawing.nodes,
-        points,
-        distance,
-        source,
-    );
-    passed(tally, b"source ", verdict);
+    let told = source_query(drawing, points, distance, source);
+    tally.answered(b"source ", told);
     tally.same(b"source ", source, case);
     let mut all = [7u32; 20 * ANSWER_WIDTH];
     let sure = &mut all[0..size];
-    let verdict = queries::calls::sure_query(
-        drawing.triangles,
-        drawing.order,
-        drawing.links,
-        drawing.boxes,
-        drawing.nodes,
-        points,
-        distance,
-        1,
-        sure,
-    );
-    passed(tally, b"sure ", verdict);
+    let told = sure_query(drawing, points, distance, 1, sure);
+    tally.answered(b"sure ", told);
     tally.same(b"sure ", sure, case);
 }
 
@@ -165,19 +136,8 @@ fn compare_few(
 {
     let mut all = [7u32; 80 * ANSWER_WIDTH];
     let few = &mut all[0..head.few as usize];
-    let verdict = queries::calls::few_query(
-        drawing.triangles,
-        drawing.order,
-        drawing.links,
-        drawing.boxes,
-        drawing.nodes,
-        points,
-        head.distance,
-        rule,
-        head.most,
-        few,
-    );
-    passed(tally, b"few ", verdict);
+    let told = few_query(drawing, points, head.distance, rule, head.most, few);
+    tally.answered(b"few ", told);
     tally.same(b"few ", few, case);
 }
 
@@ -193,19 +153,10 @@ fn compare(head: Head, case: &mut Cursor, tally: &mut Tally)
     let points = case.fill(3 * head.points as usize, &mut room);
     let mut theirs = *case;
     compare_tree(triangles, head, &mut theirs, tally);
-    let mut room = [0u32; 24];
-    let order = case.fill(count, &mut room);
-    let mut room = [0u32; 141];
-    let links = case.fill(3 * nodes, &mut room);
-    let mut room = [0.0f32; 282];
-    let boxes = case.fill(6 * nodes, &mut room);
-    let drawing = Drawing {
-        triangles,
-        order,
-        links,
-        boxes,
-        nodes,
-    };
+    let mut order = [0u32; 24];
+    let mut links = [0u32; 141];
+    let mut boxes = [0.0f32; 282];
+    let drawing = case.drawing(triangles, nodes, &mut order, &mut links, &mut boxes);
     compare_answers(&drawing, points, head.distance, case, tally);
     if head.few > 0 {
         compare_few(&drawing, points, head, 1, case, tally);

@@ -1,5 +1,8 @@
 // The words of a stored case, read one behind the other.
+ghost use Rattle.std.specs.Prelude.{◌≡◌, ◌≤◌};
+
 use crate::{Word, fill, more, pattern_at};
+use lists::drawing::Drawing;
 
 // Where the next word of a case stands.
 #[derive(Clone, Copy)]
@@ -23,5 +26,29 @@ impl<'a> Cursor<'a> {
         fill(self.bytes, self.at, out);
         self.at = more(self.at, count.saturating_mul(4));
         out
+    }
+
+    // The drawing of these triangles and so many nodes, whose order, links and boxes are the next words.
+    pub fn drawing<'b>(
+        &mut self,
+        triangles: &'b [f32],
+        nodes: usize,
+        order: &'b mut [u32],
+        links: &'b mut [u32],
+        boxes: &'b mut [f32],
+    ) -> Drawing<'b>
+        requires { nodes ≤ 1000 }
+        ensures { result.nodes ≡ nodes }
+    {
+        let order = self.fill(triangles.len() / 9, order);
+        let links = self.fill(3 * nodes, links);
+        let boxes = self.fill(6 * nodes, boxes);
+        Drawing {
+            triangles,
+            order,
+            links,
+            boxes,
+            nodes,
+        }
     }
 }

@@ -10,6 +10,8 @@ ghost use Rattle.test_words.specs.Words as Words;
 pub mod cursor;
 pub mod tally;
 
+use lists::refusal::Refusal;
+
 // What a word can stand for.
 pub trait Word: Copy {
     ghost of_word: { ℕ → Self };
@@ -111,4 +113,11 @@ pub fn put_word<T: Word>(word: T) {
 pub fn put_count(n: usize, what: &[u8]) {
     io::print_decimal(1, n as u64);
     io::write_all(1, what);
+}
+
+// Prints the number and the place of a refusal.
+pub fn put_refusal(refusal: Refusal) {
+    io::write_all(1, b"refused");
+    put_number(refusal.number());
+    put_number(refusal.place());
 }

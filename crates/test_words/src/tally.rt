@@ -1,6 +1,7 @@
 // What a replay has compared.
 use crate::cursor::Cursor;
 use crate::{Word, more};
+use lists::refusal::Refusal;
 
 // How many cases were replayed and how many words differed. `kind` is what is printed before the number of a case.
 #[derive(Clone, Copy)]
@@ -45,6 +46,13 @@ impl Tally {
             put_difference(word, ours, theirs);
         }
         self.differ = more(self.differ, 1);
+    }
+
+    // Nothing may be refused.
+    pub fn answered(&mut self, what: &[u8], told: Result<(), Refusal>) {
+        if told.is_err() {
+            self.differs(what, 0, 1, 0);
+        }
     }
 
     // Compares our words with the next words of the case.
