@@ -7,20 +7,11 @@
 
 use host_build::calls::build_lists;
 use host_image::calls::{image_max, image_triangles, read_lists, write_lists};
+use lists::drawing::Drawing;
 use lists::settings::Settings;
 use records::numbers::u16_at;
 use test_words::cursor::Cursor;
 use test_words::{read_case, read_next};
-
-// The lists of a drawing that was built.
-#[derive(Clone, Copy)]
-struct Drawing<'a> {
-    triangles: &'a [f32],
-    order: &'a [u32],
-    links: &'a [u32],
-    boxes: &'a [f32],
-    nodes: usize,
-}
 
 fn put_status(status: u64) {
     let mut line = [b'\n'; 17];
