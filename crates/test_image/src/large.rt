@@ -2,8 +2,10 @@
 // back, and then with another version in their bytes.
 ghost use Rattle.std.specs.Prelude.{◌≤◌};
 
-use image::read::ImageRead;
-use image::write::ImageWritten;
+use crate::put_refusal;
+use image::read::{ImageRead, read_image};
+use image::write::write_image;
+use lists::drawing::Drawing;
 use lists::settings::Settings;
 use test_words::put_number;
 
@@ -84,15 +86,15 @@ fn are_nodes(count: usize, links: [u32; 9], boxes: [f32; 18]) -> bool {
     links == links_of(count) && boxes == boxes_of(count)
 }
 
-fn put_read(settings: Settings, triangles: usize, nodes: usize, same: bool) {
+fn put_read(read: ImageRead, same: bool) {
     io::write_all(1, b"triangles");
-    put_number(triangles);
+    put_number(read.triangles);
     io::write_all(1, b" nodes");
-    put_number(nodes);
+    put_number(read.nodes);
     io::write_all(1, b" settings");
-    put_number(settings.strategy);
-    put_number(settings.leaf_minimum);
-    put_number(settings.maximum_depth);
+    put_number(read.settings.strategy);
+    put_number(read.settings.leaf_minimum);
+    put_number(read.settings.maximum_depth);
     if same {
         io::write_all(1, b" the same lists\n");
     } else {
@@ -106,15 +108,13 @@ fn try_read(bytes: &[u8], triangles: &mut [f32], order: &mut [u32]) {
     fill_order(order, 1);
     let mut links = [7; 9];
     let mut boxes = [7.0; 18];
-    match image::read::read_image(bytes, triangles, order, &mut links, &mut boxes) {
-        ImageRead::Refused { number, place } => crate::put_refusal(number, place),
-        ImageRead::Read {
-            settings,
-            triangles: count,
-            nodes,
-        } => {
-            let same = are_triangles(triangles) & is_order(order) & are_nodes(count, links, boxes);
-            put_read(settings, count, nodes, same);
+    match read_image(bytes, triangles, order, &mut links, &mut boxes) {
+        Err(refusal) => put_refusal(refusal),
+        Ok(read) => {
+            let same = are_triangles(triangles)
+                & is_order(order)
+                & are_nodes(read.triangles, links, boxes);
+            put_read(read, same);
         }
     }
 }
@@ -143,7 +143,7 @@ fn put_written(bytes: &[u8]) {
 fn try_fewer(bytes: &[u8], triangles: &mut [f32], order: &mut [u32]) {
     if order.len() > 0 {
         let fewer = order.len() - 1;
-        try_read(bytes, triangles, &mut order[0..fewer]);
+        try_read(bytes, triangles, &mut order[..fewer]);
     }
 }
 
@@ -160,24 +160,23 @@ fn try_written(bytes: &mut [u8], triangles: &mut [f32], order: &mut [u32]) {
 fn try_lists(case: Case, triangles: &mut [f32], order: &mut [u32], out: &mut [u8]) {
     fill_triangles(triangles, 0);
     fill_order(order, 0);
-    let links = links_of(case.triangles);
-    let boxes = boxes_of(case.triangles);
-    let written = image::write::write_image(
-        2,
-        case.leaf_minimum,
-        40,
+    let settings = Settings {
+        strategy: 2,
+        leaf_minimum: case.leaf_minimum,
+        maximum_depth: 40,
+    };
+    let drawing = Drawing {
         triangles,
         order,
-        &links,
-        &boxes,
-        3,
-        out,
-    );
-    match written {
-        ImageWritten::Refused { number, place } => crate::put_refusal(number, place),
-        ImageWritten::Bytes(end) => {
+        links: &links_of(case.triangles),
+        boxes: &boxes_of(case.triangles),
+        nodes: 3,
+    };
+    match write_image(settings, &drawing, out) {
+        Err(refusal) => put_refusal(refusal),
+        Ok(end) => {
             if end <= out.len() {
-                try_written(&mut out[0..end], triangles, order);
+                try_written(&mut out[..end], triangles, order);
             }
         }
     }
@@ -189,9 +188,9 @@ fn try_case(case: Case, triangles: &mut [f32], order: &mut [u32], out: &mut [u8]
     if count <= order.len() && count <= triangles.len() / 9 && room <= out.len() {
         try_lists(
             case,
-            &mut triangles[0..9 * count],
-            &mut order[0..count],
-            &mut out[0..room],
+            &mut triangles[..9 * count],
+            &mut order[..count],
+            &mut out[..room],
         );
     }
 }

@@ -5,37 +5,41 @@
 
 ghost use Rattle.std.specs.Prelude.{◌≡◌, ◌*◌, ◌≤◌, length};
 
-use image::read::ImageRead;
-use image::write::ImageWritten;
+use image::put::put_image;
+use image::read::read_image;
+use image::write::write_image;
+use lists::drawing::Drawing;
+use lists::refusal::Refusal;
 use lists::settings::Settings;
-use records::layout::{GaugeLayout, ImageLayout};
+use printing::lines::{put_counts, put_refused};
+use records::layout::{gauge_layout, image_layout};
 
 mod large;
 
 fn show(line: [u8; 96], end: usize) {
     if end <= 96 {
-        io::write_all(1, &line[0..end]);
+        io::write_all(1, &line[..end]);
     }
 }
 
 fn image_line(bytes: &[u8], line: &mut [u8; 96]) -> usize {
-    match records::layout::image_layout(bytes) {
-        ImageLayout::Wrong(at) => printing::lines::put_refused(line, 0, 10, at),
-        ImageLayout::Right { triangles, nodes } => printing::lines::put_counts(
-            line, 0, triangles, nodes, 0,
-        ),
+    match image_layout(bytes) {
+        Err(wrong) => put_refused(line, 0, 10, wrong.at),
+        Ok(counts) => put_counts(line, 0, counts.triangles, counts.nodes, 0),
     }
 }
 
 // The third count is 1 where there is a measuring rule.
 fn gauge_line(bytes: &[u8], line: &mut [u8; 96]) -> usize {
-    match records::layout::gauge_layout(bytes) {
-        GaugeLayout::Wrong(at) => printing::lines::put_refused(line, 0, 10, at),
-        GaugeLayout::Right {
-            triangles,
-            points,
-            ruled,
-        } => printing::lines::put_counts(line, 0, triangles, points, ruled as usize),
+    match gauge_layout(bytes) {
+        Err(wrong) => put_refused(line, 0, 10, wrong.at),
+        Ok(counts) => put_counts(
+            line,
+            0,
+            counts.triangles,
+            counts.points,
+            counts.ruled as usize,
+        ),
     }
 }
 
@@ -47,9 +51,9 @@ fn put_layouts(bytes: &[u8]) {
     show(line, last);
 }
 
-fn put_refusal(number: usize, place: usize) {
+fn put_refusal(refusal: Refusal) {
     let mut line = [0; 96];
-    let end = printing::lines::put_refused(&mut line, 0, number, place);
+    let end = put_refused(&mut line, 0, refusal.number(), refusal.place());
     show(line, end);
 }
 
@@ -62,55 +66,27 @@ fn put_same(same: bool) {
 }
 
 // Writes with the tests. The writer is lent fewer bytes than the largest image that is read has.
-fn write_tested(
-    bytes: &[u8],
-    settings: Settings,
-    triangles: &[f32],
-    order: &[u32],
-    links: &[u32],
-    boxes: &[f32],
-    nodes: usize,
-) {
+fn write_tested(bytes: &[u8], settings: Settings, drawing: &Drawing) {
     let mut out = [0; 300];
-    let written = image::write::write_image(
-        settings.strategy,
-        settings.leaf_minimum,
-        settings.maximum_depth,
-        triangles,
-        order,
-        links,
-        boxes,
-        nodes,
-        &mut out,
-    );
-    match written {
-        ImageWritten::Refused { number, place } => put_refusal(number, place),
-        ImageWritten::Bytes(end) => {
+    match write_image(settings, drawing, &mut out) {
+        Err(refusal) => put_refusal(refusal),
+        Ok(end) => {
             if end <= 300 {
-                put_same(check::same(&out[0..end], bytes));
+                put_same(check::same(&out[..end], bytes));
             }
         }
     }
 }
 
-fn write_again(
-    bytes: &[u8],
-    settings: Settings,
-    triangles: &[f32],
-    order: &[u32],
-    links: &[u32],
-    boxes: &[f32],
-    nodes: usize,
-)
-    requires triangles_len { (length triangles.now ≡ 9 * length order.now) × (length order.now ≤ 4) }
-    requires nodes_in_bounds { (3 * nodes ≤ length links.now) × (6 * nodes ≤ length boxes.now) × (nodes ≤ 7) }
+fn write_again(bytes: &[u8], settings: Settings, drawing: &Drawing)
+    requires triangles_len { (length drawing.now.triangles.now ≡ 9 * length drawing.now.order.now) × (length drawing.now.order.now ≤ 4) }
+    requires nodes_in_bounds { (3 * drawing.now.nodes ≤ length drawing.now.links.now) × (6 * drawing.now.nodes ≤ length drawing.now.boxes.now)
+        × (drawing.now.nodes ≤ 7) }
 {
     let mut out = [0; 400];
-    let end = image::put::put_image(
-        false, settings, triangles, order, links, boxes, nodes, &mut out,
-    );
-    put_same(check::same(&out[0..end], bytes));
-    write_tested(bytes, settings, triangles, order, links, boxes, nodes);
+    let end = put_image(false, settings, drawing, &mut out);
+    put_same(check::same(&out[..end], bytes));
+    write_tested(bytes, settings, drawing);
 }
 
 // Reads the image, with room for four triangles and seven nodes, and writes it again.
@@ -119,23 +95,18 @@ fn put_contents(bytes: &[u8]) {
     let mut order = [0; 4];
     let mut links = [0; 21];
     let mut boxes = [0.0; 42];
-    match image::read::read_image(bytes, &mut triangles, &mut order, &mut links, &mut boxes) {
-        ImageRead::Refused { number, place } => put_refusal(number, place),
-        ImageRead::Read {
-            settings,
-            triangles: count,
-            nodes,
-        } => {
-            if count <= 4 && nodes <= 7 {
-                write_again(
-                    bytes,
-                    settings,
-                    &triangles[..9 * count],
-                    &order[..count],
-                    &links,
-                    &boxes,
-                    nodes,
-                );
+    match read_image(bytes, &mut triangles, &mut order, &mut links, &mut boxes) {
+        Err(refusal) => put_refusal(refusal),
+        Ok(read) => {
+            if read.triangles <= 4 && read.nodes <= 7 {
+                let drawing = Drawing {
+                    triangles: &triangles[..9 * read.triangles],
+                    order: &order[..read.triangles],
+                    links: &links,
+                    boxes: &boxes,
+                    nodes: read.nodes,
+                };
+                write_again(bytes, read.settings, &drawing);
             }
         }
     }
