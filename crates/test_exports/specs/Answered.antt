@@ -1,6 +1,7 @@
 -- What the timed calls answer in one number.
-use Rattle.std.specs.Prelude.{◌≡◌, cond, List, ℕ, leb, eqb, length, Float}
+use Rattle.std.specs.Prelude.{◌≡◌, cond, List, ℕ, leb, eqb, length, Float, Result, Ok, Err}
 use Rattle.std.specs.Float.{Format, nan}
+use Rattle.lists.specs.declared.refusal.Refusal.{Refusal}
 use Rattle.spec_shapes.specs.Points.{Point}
 use Rattle.spec_lists.specs.Reading.{box_at, triangle_at, triangle_count, point_at}
 use Rattle.spec_lists.specs.Refusals.{Verdict, passes, refused, refuses, triangles_refusal, distance_refusal, Settings}
@@ -31,6 +32,11 @@ nodes_answered (not_made number place) = 0
 abbrev pub depth_answered : Built → ℕ
 depth_answered (made nodes depth) = depth
 depth_answered (not_made number place) = 0
+
+-- how many there are, none for a refusal
+abbrev pub or_none : Result ℕ Refusal → ℕ
+or_none (Ok n) = n
+or_none (Err refusal) = 0
 
 -- a build, of whose answer the call returns one number
 pub record BuildAnswered (answered : Built → ℕ) (f : Format) (triangles : List Float) (s : Settings) (old : Lists) (r : ℕ) (new : Lists) : Type 0 where

@@ -16,56 +16,47 @@ ghost use Rattle.spec_search.specs.Calls as Calls;
 ghost use Rattle.spec_dipoles.specs.Calls as Dipoles;
 ghost use Rattle.test_exports.specs.Answered as Answered;
 
-use build::calls::Built;
+use build::calls::{Built, build};
+use lists::drawing::Drawing;
 use lists::reading::{point_at, triangle_at};
-use lists::tests::{distance_refusal, triangles_refusal};
-use lists::verdict::Verdict;
+use lists::refusal::Refusal;
+use lists::settings::Settings;
+use lists::tests::distance_refusal;
 use queries::rules::most_refusal;
 use shapes::vec3::Vec3;
-use tree::calls::{DepthFound, tree_refusal};
-use tree::nodes::wide;
+use tree::calls::check;
 use walks::answer::Probe;
-use walks::places::{BEST, WHICH};
+use walks::places::{BEST, Places, WHICH};
 use walks::sure::search;
 
+// Kept: (a) the flat settings and lists of the exports, here and below: the C interface.
+
 // 1 where the verdict is a pass, else 0.
-fn one_passed(verdict: Verdict) -> u32
+fn one_passed(verdict: Result<(), Refusal>) -> u32
     ensures { result ≡ Answered.one_passed (Lists.as_verdict verdict) }
 {
-    match verdict {
-        Verdict::Passed => 1,
-        Verdict::Refused { .. } => 0,
-    }
+    verdict.is_ok() as u32
 }
 
 // The depth that is read off the lists, 0 where they are refused.
-fn depth_read(found: DepthFound) -> usize
+fn depth_read(found: Result<usize, Refusal>) -> usize
     ensures { result ≡ Answered.depth_read (Found.as_depth_found found) }
 {
-    match found {
-        DepthFound::Depth(levels) => levels,
-        DepthFound::Refused { .. } => 0,
-    }
+    found.unwrap_or(0)
 }
 
 // The nodes of a build, 0 for a refusal.
-fn nodes_answered(built: Built) -> usize
+fn nodes_answered(built: Result<Built, Refusal>) -> usize
     ensures { result ≡ Answered.nodes_answered (Builds.as_built built) }
 {
-    match built {
-        Built::Tree { nodes, depth: _ } => nodes,
-        Built::Refused { .. } => 0,
-    }
+    built.map_or(0, |tree| tree.nodes)
 }
 
 // The depth of a build, 0 for a refusal.
-fn depth_answered(built: Built) -> usize
+fn depth_answered(built: Result<Built, Refusal>) -> usize
     ensures { result ≡ Answered.depth_answered (Builds.as_built built) }
 {
-    match built {
-        Built::Tree { nodes: _, depth } => depth,
-        Built::Refused { .. } => 0,
-    }
+    built.map_or(0, |tree| tree.depth)
 }
 
 // Builds a tree and answers how many nodes it has, 0 for a refusal.
@@ -102,17 +93,13 @@ pub extern "C" fn timing_build(
       scratch = scratch.new;
     }) }
 {
-    let built = build::calls::build(
-        triangles,
+    let settings = Settings {
         strategy,
         leaf_minimum,
         maximum_depth,
-        order,
-        links,
-        boxes,
-        bounds,
-        centres,
-        scratch,
+    };
+    let built = build(
+        triangles, settings, order, links, boxes, bounds, centres, scratch,
     );
     nodes_answered(built)
 }
@@ -151,17 +138,13 @@ pub extern "C" fn timing_depth(
       scratch = scratch.new;
     }) }
 {
-    let built = build::calls::build(
-        triangles,
+    let settings = Settings {
         strategy,
         leaf_minimum,
         maximum_depth,
-        order,
-        links,
-        boxes,
-        bounds,
-        centres,
-        scratch,
+    };
+    let built = build(
+        triangles, settings, order, links, boxes, bounds, centres, scratch,
     );
     depth_answered(built)
 }
@@ -186,9 +169,14 @@ pub extern "C" fn timing_sure(
         (Calls.query_refusal (Answers.sure rule) triangles.now order.now links.now boxes.now nodes
         points.now distance (length answers.old)) answers.old }
 {
-    let verdict = queries::calls::sure_query(
-        triangles, order, links, boxes, nodes, points, distance, rule, answers,
-    );
+    let drawing = Drawing {
+        triangles,
+        order,
+        links,
+        boxes,
+        nodes,
+    };
+    let verdict = queries::calls::sure_query(&drawing, points, distance, rule, answers);
     one_passed(verdict)
 }
 
@@ -213,9 +201,14 @@ pub extern "C" fn timing_few(
         (Calls.query_refusal (Answers.few rule most) triangles.now order.now links.now boxes.now nodes
         points.now distance (length answers.old)) answers.old }
 {
-    let verdict = queries::calls::few_query(
-        triangles, order, links, boxes, nodes, points, distance, rule, most, answers,
-    );
+    let drawing = Drawing {
+        triangles,
+        order,
+        links,
+        boxes,
+        nodes,
+    };
+    let verdict = queries::calls::few_query(&drawing, points, distance, rule, most, answers);
     one_passed(verdict)
 }
 
@@ -238,9 +231,14 @@ pub extern "C" fn timing_source(
         boxes.now nodes distance) points.now (Calls.query_refusal Answers.source triangles.now order.now
         links.now boxes.now nodes points.now distance (length answers.old)) answers.old }
 {
-    let verdict = queries::calls::source_query(
-        triangles, order, links, boxes, nodes, points, distance, answers,
-    );
+    let drawing = Drawing {
+        triangles,
+        order,
+        links,
+        boxes,
+        nodes,
+    };
+    let verdict = queries::calls::source_query(&drawing, points, distance, answers);
     one_passed(verdict)
 }
 
@@ -256,7 +254,14 @@ pub extern "C" fn timing_check(
     ensures { result
         ≡ Answered.one_passed (Trees.check_refusal triangles.now order.now links.now boxes.now nodes) }
 {
-    let verdict = tree::calls::check(triangles, order, links, boxes, nodes);
+    let drawing = Drawing {
+        triangles,
+        order,
+        links,
+        boxes,
+        nodes,
+    };
+    let verdict = check(&drawing);
     one_passed(verdict)
 }
 
@@ -272,52 +277,58 @@ pub extern "C" fn timing_depth_read(
     ensures { result
         ≡ Answered.depth_read (Depth.depth_answer triangles.now order.now links.now boxes.now nodes) }
 {
-    let found = tree::calls::depth(triangles, order, links, boxes, nodes);
-    depth_read(found)
-}
-
-// How many triangles the search for the nearest few measures for one point, 0 where the distance is refused, or that many.
-fn measured_at(
-    triangles: &[f32],
-    order: &[u32],
-    links: &[u32],
-    boxes: &[f32],
-    nodes: usize,
-    p: Vec3,
-    distance: f32,
-    rule: u32,
-    most: u32,
-) -> usize
-    requires { Calls.Searchable triangles.now order.now links.now boxes.now nodes }
-    ensures { result ≡ Answered.measured_at binary32 triangles.now order.now links.now boxes.now nodes
-        distance rule most (Shapes.as_point p) }
-{
-    let bad_distance = distance_refusal(distance);
-    if bad_distance.refuses() {
-        return 0;
-    }
-    let bad_most = most_refusal(most);
-    if bad_most.refuses() {
-        return 0;
-    }
-    let probe = Probe {
-        point: p,
-        limit: distance * distance,
-    };
-    let mut best = [0.0; BEST];
-    let mut which = [0u32; WHICH];
-    search(
+    let drawing = Drawing {
         triangles,
         order,
         links,
         boxes,
         nodes,
-        probe,
-        rule,
-        wide(most),
-        &mut best,
-        &mut which,
-    )
+    };
+    let found = tree::calls::depth(&drawing);
+    depth_read(found)
+}
+
+// How many triangles the search for the nearest few measures for one point. A distance is refused, or so many.
+fn measured_at(
+    drawing: &Drawing,
+    p: Vec3,
+    distance: f32,
+    rule: u32,
+    most: u32,
+) -> Result<usize, Refusal>
+    requires { Calls.Searchable drawing.now.triangles.now drawing.now.order.now drawing.now.links.now drawing.now.boxes.now drawing.now.nodes }
+    ensures { Answered.or_none result ≡ Answered.measured_at binary32 drawing.now.triangles.now drawing.now.order.now drawing.now.links.now
+        drawing.now.boxes.now drawing.now.nodes distance rule most (Shapes.as_point p) }
+{
+    distance_refusal(distance)?;
+    most_refusal(most)?;
+    let probe = Probe {
+        point: p,
+        limit: distance * distance,
+    };
+    let mut places = Places {
+        best: [0.0; BEST],
+        which: [0; WHICH],
+    };
+    Ok(search(drawing, probe, rule, most as usize, &mut places))
+}
+
+// How many it measures for the first point, none where there is no point. Lists that are no drawing are refused.
+fn measured_first(
+    drawing: &Drawing,
+    points: &[f32],
+    distance: f32,
+    rule: u32,
+    most: u32,
+) -> Result<usize, Refusal>
+    ensures { Answered.or_none result ≡ Answered.measured_first binary32 drawing.now.triangles.now drawing.now.order.now drawing.now.links.now
+        drawing.now.boxes.now drawing.now.nodes points.now distance rule most }
+{
+    check(drawing)?;
+    if points.len() < 3 {
+        return Ok(0);
+    }
+    measured_at(drawing, point_at(points, 0), distance, rule, most)
 }
 
 // How many triangles the search for the nearest few measures for the first point, 0 where the lists are refused or there is no point.
@@ -336,21 +347,14 @@ pub extern "C" fn timing_measured(
     ensures { result ≡ Answered.measured_first binary32 triangles.now order.now links.now boxes.now nodes
         points.now distance rule most }
 {
-    let bad_triangles = triangles_refusal(triangles);
-    if bad_triangles.refuses() {
-        return 0;
-    }
-    let bad_tree = tree_refusal(triangles, order, links, boxes, nodes);
-    if bad_tree.refuses() {
-        return 0;
-    }
-    if points.len() >= 3 {
-        let p = point_at(points, 0);
-        return measured_at(
-            triangles, order, links, boxes, nodes, p, distance, rule, most,
-        );
-    }
-    0
+    let drawing = Drawing {
+        triangles,
+        order,
+        links,
+        boxes,
+        nodes,
+    };
+    measured_first(&drawing, points, distance, rule, most).unwrap_or(0)
 }
 
 // Writes the winding numbers. 1 where they were written, else 0.
@@ -368,10 +372,7 @@ pub extern "C" fn timing_winding(triangles: &[f32], points: &[f32], windings: &m
 pub extern "C" fn timing_solid(triangle: &[f32], point: &[f32]) -> f32
     ensures { result ≡ Answered.angle_of_one binary32 triangle.now point.now }
 {
-    if triangle.len() != 9 {
-        return 0.0 / 0.0;
-    }
-    if point.len() != 3 {
+    if triangle.len() != 9 || point.len() != 3 {
         return 0.0 / 0.0;
     }
     let t = triangle_at(triangle, 0);
@@ -394,7 +395,14 @@ pub extern "C" fn timing_node_sums(
     ensures sums { sums.new
         ≡ Dipoles.after_sums binary32 triangles.now order.now links.now boxes.now nodes sums.old }
 {
-    let verdict = dipoles::calls::node_sums(triangles, order, links, boxes, nodes, sums);
+    let drawing = Drawing {
+        triangles,
+        order,
+        links,
+        boxes,
+        nodes,
+    };
+    let verdict = dipoles::calls::node_sums(&drawing, sums);
     one_passed(verdict)
 }
 
@@ -417,8 +425,13 @@ pub extern "C" fn timing_fast(
         ≡ Dipoles.after_fast binary32 triangles.now order.now links.now boxes.now nodes sums.now accuracy
         points.now windings.old }
 {
-    let verdict = dipoles::calls::fast_winding(
-        triangles, order, links, boxes, nodes, sums, points, accuracy, windings,
-    );
+    let drawing = Drawing {
+        triangles,
+        order,
+        links,
+        boxes,
+        nodes,
+    };
+    let verdict = dipoles::calls::fast_winding(&drawing, sums, points, accuracy, windings);
     one_passed(verdict)
 }

@@ -4,15 +4,17 @@ use lib.Ieee.{of_bits, div}
 use borrow.Author.Tests.{eq-eqb, ne_eqb}
 use Rattle.test_exports.specs.Answered.{angle_of_one}
 use Rattle.test_exports.proofs.Branches.{when, unless}
+use Rattle.test_exports.proofs.timing_solid.Goals.{then-triangle-ne9-via-then-triangle-ne9, then-triangle-ne9-via-else-triangle-ne9+then-point-ne3}
 use Rattle.test_exports.proofs.timing_solid.Goals as goal
 
 pub returns-then-triangle-ne9 : goal.returns-then-triangle-ne9
 unfolding angle_of_one of_bits div
-returns-then-triangle-ne9 c = unless _ _ _ (ne_eqb _ _ c.if-triangle-ne9.true)
-
-pub returns-then-point-ne3 : goal.returns-then-point-ne3
-unfolding angle_of_one of_bits div
-returns-then-point-ne3 c = unless _ _ _ (ne_eqb _ _ c.if-point-ne3.true) ∙ when _ _ _ (eq-eqb _ _ c.if-triangle-ne9.false)
+returns-then-triangle-ne9 c =
+    elim c.then-triangle-ne9.branch [
+      | then-triangle-ne9-via-then-triangle-ne9 w ↦ unless _ _ _ (ne_eqb _ _ w.if-triangle-ne9.true)
+      | then-triangle-ne9-via-else-triangle-ne9+then-point-ne3 w ↦
+          unless _ _ _ (ne_eqb _ _ w.if-point-ne3.true) ∙ when _ _ _ (eq-eqb _ _ w.if-triangle-ne9.false)
+    ]
 
 pub returns : goal.returns
 unfolding angle_of_one
