@@ -8,7 +8,6 @@ ghost use Rattle.shapes.specs.Values as Shapes;
 ghost use Rattle.build.specs.Values as Builds;
 ghost use Rattle.spec_tree.specs.Depth as Depth;
 ghost use Rattle.spec_tree.specs.Refusals as Trees;
-ghost use Rattle.tree.specs.Values as Found;
 ghost use Rattle.spec_angles.specs.Windings as Windings;
 ghost use Rattle.spec_search.specs.Answers as Answers;
 ghost use Rattle.spec_search.specs.Rules as Rules;
@@ -16,55 +15,49 @@ ghost use Rattle.spec_search.specs.Calls as Calls;
 ghost use Rattle.spec_dipoles.specs.Calls as Dipoles;
 ghost use Rattle.test_exports.specs.Answered as Answered;
 
-use build::calls::Built;
+use angles::winding::winding;
+use build::calls::{Built, build};
+use dipoles::calls::{fast_winding, node_sums};
+use lists::drawing::Drawing;
 use lists::reading::{point_at, triangle_at};
+use lists::refusal::Refusal;
+use lists::settings::Settings;
 use lists::tests::{distance_refusal, triangles_refusal};
-use lists::verdict::Verdict;
+use queries::calls::{few_query, source_query, sure_query};
 use queries::rules::most_refusal;
 use shapes::vec3::Vec3;
-use tree::calls::{DepthFound, tree_refusal};
-use tree::nodes::wide;
+use tree::calls::{check, depth, tree_refusal};
 use walks::answer::Probe;
-use walks::places::{BEST, WHICH};
+use walks::places::{BEST, Places, WHICH};
 use walks::sure::search;
 
-// 1 where the verdict is a pass, else 0.
-fn one_passed(verdict: Verdict) -> u32
-    ensures { result ≡ Answered.one_passed (Lists.as_verdict verdict) }
+// 1 where nothing is refused, else 0.
+fn one_passed(told: Result<(), Refusal>) -> u32
+    ensures { result ≡ Answered.one_passed (Lists.as_verdict told) }
 {
-    match verdict {
-        Verdict::Passed => 1,
-        Verdict::Refused { .. } => 0,
-    }
-}
-
-// The depth that is read off the lists, 0 where they are refused.
-fn depth_read(found: DepthFound) -> usize
-    ensures { result ≡ Answered.depth_read (Found.as_depth_found found) }
-{
-    match found {
-        DepthFound::Depth(levels) => levels,
-        DepthFound::Refused { .. } => 0,
+    match told {
+        Ok(()) => 1,
+        Err(_) => 0,
     }
 }
 
 // The nodes of a build, 0 for a refusal.
-fn nodes_answered(built: Built) -> usize
-    ensures { result ≡ Answered.nodes_answered (Builds.as_built built) }
+fn nodes_answered(told: Result<Built, Refusal>) -> usize
+    ensures { result ≡ Answered.nodes_answered (Builds.as_built told) }
 {
-    match built {
-        Built::Tree { nodes, depth: _ } => nodes,
-        Built::Refused { .. } => 0,
+    match told {
+        Ok(built) => built.nodes,
+        Err(_) => 0,
     }
 }
 
 // The depth of a build, 0 for a refusal.
-fn depth_answered(built: Built) -> usize
-    ensures { result ≡ Answered.depth_answered (Builds.as_built built) }
+fn depth_answered(told: Result<Built, Refusal>) -> usize
+    ensures { result ≡ Answered.depth_answered (Builds.as_built told) }
 {
-    match built {
-        Built::Tree { nodes: _, depth } => depth,
-        Built::Refused { .. } => 0,
+    match told {
+        Ok(built) => built.depth,
+        Err(_) => 0,
     }
 }
 
@@ -102,17 +95,13 @@ pub extern "C" fn timing_build(
       scratch = scratch.new;
     }) }
 {
-    let built = build::calls::build(
-        triangles,
+    let settings = Settings {
         strategy,
         leaf_minimum,
         maximum_depth,
-        order,
-        links,
-        boxes,
-        bounds,
-        centres,
-        scratch,
+    };
+    let built = build(
+        triangles, settings, order, links, boxes, bounds, centres, scratch,
     );
     nodes_answered(built)
 }
@@ -151,17 +140,13 @@ pub extern "C" fn timing_depth(
       scratch = scratch.new;
     }) }
 {
-    let built = build::calls::build(
-        triangles,
+    let settings = Settings {
         strategy,
         leaf_minimum,
         maximum_depth,
-        order,
-        links,
-        boxes,
-        bounds,
-        centres,
-        scratch,
+    };
+    let built = build(
+        triangles, settings, order, links, boxes, bounds, centres, scratch,
     );
     depth_answered(built)
 }
@@ -186,10 +171,14 @@ pub extern "C" fn timing_sure(
         (Calls.query_refusal (Answers.sure rule) triangles.now order.now links.now boxes.now nodes
         points.now distance (length answers.old)) answers.old }
 {
-    let verdict = queries::calls::sure_query(
-        triangles, order, links, boxes, nodes, points, distance, rule, answers,
-    );
-    one_passed(verdict)
+    let drawing = Drawing {
+        triangles,
+        order,
+        links,
+        boxes,
+        nodes,
+    };
+    one_passed(sure_query(&drawing, points, distance, rule, answers))
 }
 
 // Writes the answers of the query for the nearest few. 1 where the query was answered, else 0.
@@ -213,10 +202,14 @@ pub extern "C" fn timing_few(
         (Calls.query_refusal (Answers.few rule most) triangles.now order.now links.now boxes.now nodes
         points.now distance (length answers.old)) answers.old }
 {
-    let verdict = queries::calls::few_query(
-        triangles, order, links, boxes, nodes, points, distance, rule, most, answers,
-    );
-    one_passed(verdict)
+    let drawing = Drawing {
+        triangles,
+        order,
+        links,
+        boxes,
+        nodes,
+    };
+    one_passed(few_query(&drawing, points, distance, rule, most, answers))
 }
 
 // Writes the source query's answers. 1 where the query was answered, else 0.
@@ -238,10 +231,14 @@ pub extern "C" fn timing_source(
         boxes.now nodes distance) points.now (Calls.query_refusal Answers.source triangles.now order.now
         links.now boxes.now nodes points.now distance (length answers.old)) answers.old }
 {
-    let verdict = queries::calls::source_query(
-        triangles, order, links, boxes, nodes, points, distance, answers,
-    );
-    one_passed(verdict)
+    let drawing = Drawing {
+        triangles,
+        order,
+        links,
+        boxes,
+        nodes,
+    };
+    one_passed(source_query(&drawing, points, distance, answers))
 }
 
 // 1 where the check passes, else 0.
@@ -256,8 +253,14 @@ pub extern "C" fn timing_check(
     ensures { result
         ≡ Answered.one_passed (Trees.check_refusal triangles.now order.now links.now boxes.now nodes) }
 {
-    let verdict = tree::calls::check(triangles, order, links, boxes, nodes);
-    one_passed(verdict)
+    let drawing = Drawing {
+        triangles,
+        order,
+        links,
+        boxes,
+        nodes,
+    };
+    one_passed(check(&drawing))
 }
 
 // The depth that is read off the lists, 0 where they are refused.
@@ -272,52 +275,63 @@ pub extern "C" fn timing_depth_read(
     ensures { result
         ≡ Answered.depth_read (Depth.depth_answer triangles.now order.now links.now boxes.now nodes) }
 {
-    let found = tree::calls::depth(triangles, order, links, boxes, nodes);
-    depth_read(found)
-}
-
-// How many triangles the search for the nearest few measures for one point, 0 where the distance is refused, or that many.
-fn measured_at(
-    triangles: &[f32],
-    order: &[u32],
-    links: &[u32],
-    boxes: &[f32],
-    nodes: usize,
-    p: Vec3,
-    distance: f32,
-    rule: u32,
-    most: u32,
-) -> usize
-    requires { Calls.Searchable triangles.now order.now links.now boxes.now nodes }
-    ensures { result ≡ Answered.measured_at binary32 triangles.now order.now links.now boxes.now nodes
-        distance rule most (Shapes.as_point p) }
-{
-    let bad_distance = distance_refusal(distance);
-    if bad_distance.refuses() {
-        return 0;
-    }
-    let bad_most = most_refusal(most);
-    if bad_most.refuses() {
-        return 0;
-    }
-    let probe = Probe {
-        point: p,
-        limit: distance * distance,
-    };
-    let mut best = [0.0; BEST];
-    let mut which = [0u32; WHICH];
-    search(
+    let drawing = Drawing {
         triangles,
         order,
         links,
         boxes,
         nodes,
-        probe,
-        rule,
-        wide(most),
-        &mut best,
-        &mut which,
-    )
+    };
+    depth(&drawing).unwrap_or(0)
+}
+
+// How many triangles the search for the nearest few measures for one point, unless the distance is refused, or that many.
+fn measured_at(
+    drawing: &Drawing,
+    p: Vec3,
+    distance: f32,
+    rule: u32,
+    most: u32,
+) -> Result<usize, Refusal>
+    requires { Calls.Searchable drawing.now.triangles.now drawing.now.order.now drawing.now.links.now drawing.now.boxes.now
+        drawing.now.nodes }
+    ensures { Answered.measured result
+        ≡ Answered.measured_at binary32 drawing.now.triangles.now drawing.now.order.now drawing.now.links.now drawing.now.boxes.now
+        drawing.now.nodes distance rule most (Shapes.as_point p) }
+{
+    distance_refusal(distance)?;
+    most_refusal(most)?;
+    let probe = Probe {
+        point: p,
+        limit: distance * distance,
+    };
+    let mut places = Places {
+        best: [0.0; BEST],
+        which: [0; WHICH],
+    };
+    Ok(search(drawing, probe, rule, most as usize, &mut places))
+}
+
+// And for the first point, 0 where there is none, unless the lists are refused.
+fn measured_first(
+    drawing: &Drawing,
+    points: &[f32],
+    distance: f32,
+    rule: u32,
+    most: u32,
+) -> Result<usize, Refusal>
+    ensures { Answered.measured result
+        ≡ Answered.measured_first binary32 drawing.now.triangles.now drawing.now.order.now drawing.now.links.now drawing.now.boxes.now
+        drawing.now.nodes points.now distance rule most }
+{
+    triangles_refusal(drawing.triangles)?;
+    tree_refusal(drawing)?;
+    if points.len() >= 3 {
+        let p = point_at(points, 0);
+        measured_at(drawing, p, distance, rule, most)
+    } else {
+        Ok(0)
+    }
 }
 
 // How many triangles the search for the nearest few measures for the first point, 0 where the lists are refused or there is no point.
@@ -336,21 +350,15 @@ pub extern "C" fn timing_measured(
     ensures { result ≡ Answered.measured_first binary32 triangles.now order.now links.now boxes.now nodes
         points.now distance rule most }
 {
-    let bad_triangles = triangles_refusal(triangles);
-    if bad_triangles.refuses() {
-        return 0;
-    }
-    let bad_tree = tree_refusal(triangles, order, links, boxes, nodes);
-    if bad_tree.refuses() {
-        return 0;
-    }
-    if points.len() >= 3 {
-        let p = point_at(points, 0);
-        return measured_at(
-            triangles, order, links, boxes, nodes, p, distance, rule, most,
-        );
-    }
-    0
+    let drawing = Drawing {
+        triangles,
+        order,
+        links,
+        boxes,
+        nodes,
+    };
+    let measured = measured_first(&drawing, points, distance, rule, most);
+    measured.unwrap_or(0)
 }
 
 // Writes the winding numbers. 1 where they were written, else 0.
@@ -359,24 +367,22 @@ pub extern "C" fn timing_winding(triangles: &[f32], points: &[f32], windings: &m
     ensures passed { result ≡ Answered.one_passed (Windings.winding_refusal triangles.now points.now (length windings.old)) }
     ensures windings { windings.new ≡ Windings.after_winding binary32 triangles.now points.now windings.old }
 {
-    let verdict = angles::winding::winding(triangles, points, windings);
-    one_passed(verdict)
+    one_passed(winding(triangles, points, windings))
 }
 
 // The solid angle of one triangle from one point, a NaN where there are more or fewer.
+#[tactic(auto, unfolding(crate::specs::Answered::angle_of_one))]
 #[unsafe(no_mangle)]
 pub extern "C" fn timing_solid(triangle: &[f32], point: &[f32]) -> f32
     ensures { result ≡ Answered.angle_of_one binary32 triangle.now point.now }
 {
-    if triangle.len() != 9 {
-        return 0.0 / 0.0;
+    if triangle.len() == 9 && point.len() == 3 {
+        let t = triangle_at(triangle, 0);
+        let p = point_at(point, 0);
+        angles::solid_angle::solid_angle(t, p)
+    } else {
+        f32::NAN
     }
-    if point.len() != 3 {
-        return 0.0 / 0.0;
-    }
-    let t = triangle_at(triangle, 0);
-    let p = point_at(point, 0);
-    angles::solid_angle::solid_angle(t, p)
 }
 
 // Writes the dipoles of all nodes. 1 where they were written, else 0.
@@ -394,8 +400,14 @@ pub extern "C" fn timing_node_sums(
     ensures sums { sums.new
         ≡ Dipoles.after_sums binary32 triangles.now order.now links.now boxes.now nodes sums.old }
 {
-    let verdict = dipoles::calls::node_sums(triangles, order, links, boxes, nodes, sums);
-    one_passed(verdict)
+    let drawing = Drawing {
+        triangles,
+        order,
+        links,
+        boxes,
+        nodes,
+    };
+    one_passed(node_sums(&drawing, sums))
 }
 
 // Writes the winding numbers by dipoles. 1 where they were written, else 0.
@@ -417,8 +429,12 @@ pub extern "C" fn timing_fast(
         ≡ Dipoles.after_fast binary32 triangles.now order.now links.now boxes.now nodes sums.now accuracy
         points.now windings.old }
 {
-    let verdict = dipoles::calls::fast_winding(
-        triangles, order, links, boxes, nodes, sums, points, accuracy, windings,
-    );
-    one_passed(verdict)
+    let drawing = Drawing {
+        triangles,
+        order,
+        links,
+        boxes,
+        nodes,
+    };
+    one_passed(fast_winding(&drawing, sums, points, accuracy, windings))
 }
