@@ -8,7 +8,6 @@ ghost use Rattle.shapes.specs.Values as Shapes;
 ghost use Rattle.build.specs.Values as Builds;
 ghost use Rattle.spec_tree.specs.Depth as Depth;
 ghost use Rattle.spec_tree.specs.Refusals as Trees;
-ghost use Rattle.tree.specs.Values as Found;
 ghost use Rattle.spec_angles.specs.Windings as Windings;
 ghost use Rattle.spec_search.specs.Answers as Answers;
 ghost use Rattle.spec_search.specs.Rules as Rules;
@@ -16,47 +15,50 @@ ghost use Rattle.spec_search.specs.Calls as Calls;
 ghost use Rattle.spec_dipoles.specs.Calls as Dipoles;
 ghost use Rattle.test_exports.specs.Answered as Answered;
 
+use angles::winding::winding;
 use build::calls::{Built, build};
+use dipoles::calls::{fast_winding, node_sums};
 use lists::drawing::Drawing;
 use lists::reading::{point_at, triangle_at};
 use lists::refusal::Refusal;
 use lists::settings::Settings;
-use lists::tests::distance_refusal;
+use lists::tests::{distance_refusal, triangles_refusal};
+use queries::calls::{few_query, source_query, sure_query};
 use queries::rules::most_refusal;
 use shapes::vec3::Vec3;
-use tree::calls::check;
+use tree::calls::{check, depth, tree_refusal};
 use walks::answer::Probe;
 use walks::places::{BEST, Places, WHICH};
 use walks::sure::search;
 
-// Kept: (a) the flat settings and lists of the exports, here and below: the C interface.
-
-// 1 where the verdict is a pass, else 0.
-fn one_passed(verdict: Result<(), Refusal>) -> u32
-    ensures { result ≡ Answered.one_passed (Lists.as_verdict verdict) }
+// 1 where nothing is refused, else 0.
+fn one_passed(told: Result<(), Refusal>) -> u32
+    ensures { result ≡ Answered.one_passed (Lists.as_verdict told) }
 {
-    verdict.is_ok() as u32
-}
-
-// The depth that is read off the lists, 0 where they are refused.
-fn depth_read(found: Result<usize, Refusal>) -> usize
-    ensures { result ≡ Answered.depth_read (Found.as_depth_found found) }
-{
-    found.unwrap_or(0)
+    match told {
+        Ok(()) => 1,
+        Err(_) => 0,
+    }
 }
 
 // The nodes of a build, 0 for a refusal.
-fn nodes_answered(built: Result<Built, Refusal>) -> usize
-    ensures { result ≡ Answered.nodes_answered (Builds.as_built built) }
+fn nodes_answered(told: Result<Built, Refusal>) -> usize
+    ensures { result ≡ Answered.nodes_answered (Builds.as_built told) }
 {
-    built.map_or(0, |tree| tree.nodes)
+    match told {
+        Ok(built) => built.nodes,
+        Err(_) => 0,
+    }
 }
 
 // The depth of a build, 0 for a refusal.
-fn depth_answered(built: Result<Built, Refusal>) -> usize
-    ensures { result ≡ Answered.depth_answered (Builds.as_built built) }
+fn depth_answered(told: Result<Built, Refusal>) -> usize
+    ensures { result ≡ Answered.depth_answered (Builds.as_built told) }
 {
-    built.map_or(0, |tree| tree.depth)
+    match told {
+        Ok(built) => built.depth,
+        Err(_) => 0,
+    }
 }
 
 // Builds a tree and answers how many nodes it has, 0 for a refusal.
@@ -176,8 +178,7 @@ pub extern "C" fn timing_sure(
         boxes,
         nodes,
     };
-    let verdict = queries::calls::sure_query(&drawing, points, distance, rule, answers);
-    one_passed(verdict)
+    one_passed(sure_query(&drawing, points, distance, rule, answers))
 }
 
 // Writes the answers of the query for the nearest few. 1 where the query was answered, else 0.
@@ -208,8 +209,7 @@ pub extern "C" fn timing_few(
         boxes,
         nodes,
     };
-    let verdict = queries::calls::few_query(&drawing, points, distance, rule, most, answers);
-    one_passed(verdict)
+    one_passed(few_query(&drawing, points, distance, rule, most, answers))
 }
 
 // Writes the source query's answers. 1 where the query was answered, else 0.
@@ -238,8 +238,7 @@ pub extern "C" fn timing_source(
         boxes,
         nodes,
     };
-    let verdict = queries::calls::source_query(&drawing, points, distance, answers);
-    one_passed(verdict)
+    one_passed(source_query(&drawing, points, distance, answers))
 }
 
 // 1 where the check passes, else 0.
@@ -261,8 +260,7 @@ pub extern "C" fn timing_check(
         boxes,
         nodes,
     };
-    let verdict = check(&drawing);
-    one_passed(verdict)
+    one_passed(check(&drawing))
 }
 
 // The depth that is read off the lists, 0 where they are refused.
@@ -284,11 +282,10 @@ pub extern "C" fn timing_depth_read(
         boxes,
         nodes,
     };
-    let found = tree::calls::depth(&drawing);
-    depth_read(found)
+    depth(&drawing).unwrap_or(0)
 }
 
-// How many triangles the search for the nearest few measures for one point. A distance is refused, or so many.
+// How many triangles the search for the nearest few measures for one point, unless the distance is refused, or that many.
 fn measured_at(
     drawing: &Drawing,
     p: Vec3,
@@ -296,9 +293,11 @@ fn measured_at(
     rule: u32,
     most: u32,
 ) -> Result<usize, Refusal>
-    requires { Calls.Searchable drawing.now.triangles.now drawing.now.order.now drawing.now.links.now drawing.now.boxes.now drawing.now.nodes }
-    ensures { Answered.or_none result ≡ Answered.measured_at binary32 drawing.now.triangles.now drawing.now.order.now drawing.now.links.now
-        drawing.now.boxes.now drawing.now.nodes distance rule most (Shapes.as_point p) }
+    requires { Calls.Searchable drawing.now.triangles.now drawing.now.order.now drawing.now.links.now drawing.now.boxes.now
+        drawing.now.nodes }
+    ensures { Answered.measured result
+        ≡ Answered.measured_at binary32 drawing.now.triangles.now drawing.now.order.now drawing.now.links.now drawing.now.boxes.now
+        drawing.now.nodes distance rule most (Shapes.as_point p) }
 {
     distance_refusal(distance)?;
     most_refusal(most)?;
@@ -313,7 +312,7 @@ fn measured_at(
     Ok(search(drawing, probe, rule, most as usize, &mut places))
 }
 
-// How many it measures for the first point, none where there is no point. Lists that are no drawing are refused.
+// And for the first point, 0 where there is none, unless the lists are refused.
 fn measured_first(
     drawing: &Drawing,
     points: &[f32],
@@ -321,14 +320,18 @@ fn measured_first(
     rule: u32,
     most: u32,
 ) -> Result<usize, Refusal>
-    ensures { Answered.or_none result ≡ Answered.measured_first binary32 drawing.now.triangles.now drawing.now.order.now drawing.now.links.now
-        drawing.now.boxes.now drawing.now.nodes points.now distance rule most }
+    ensures { Answered.measured result
+        ≡ Answered.measured_first binary32 drawing.now.triangles.now drawing.now.order.now drawing.now.links.now drawing.now.boxes.now
+        drawing.now.nodes points.now distance rule most }
 {
-    check(drawing)?;
-    if points.len() < 3 {
-        return Ok(0);
+    triangles_refusal(drawing.triangles)?;
+    tree_refusal(drawing)?;
+    if points.len() >= 3 {
+        let p = point_at(points, 0);
+        measured_at(drawing, p, distance, rule, most)
+    } else {
+        Ok(0)
     }
-    measured_at(drawing, point_at(points, 0), distance, rule, most)
 }
 
 // How many triangles the search for the nearest few measures for the first point, 0 where the lists are refused or there is no point.
@@ -354,7 +357,8 @@ pub extern "C" fn timing_measured(
         boxes,
         nodes,
     };
-    measured_first(&drawing, points, distance, rule, most).unwrap_or(0)
+    let measured = measured_first(&drawing, points, distance, rule, most);
+    measured.unwrap_or(0)
 }
 
 // Writes the winding numbers. 1 where they were written, else 0.
@@ -363,21 +367,22 @@ pub extern "C" fn timing_winding(triangles: &[f32], points: &[f32], windings: &m
     ensures passed { result ≡ Answered.one_passed (Windings.winding_refusal triangles.now points.now (length windings.old)) }
     ensures windings { windings.new ≡ Windings.after_winding binary32 triangles.now points.now windings.old }
 {
-    let verdict = angles::winding::winding(triangles, points, windings);
-    one_passed(verdict)
+    one_passed(winding(triangles, points, windings))
 }
 
 // The solid angle of one triangle from one point, a NaN where there are more or fewer.
+#[tactic(auto, unfolding(crate::specs::Answered::angle_of_one))]
 #[unsafe(no_mangle)]
 pub extern "C" fn timing_solid(triangle: &[f32], point: &[f32]) -> f32
     ensures { result ≡ Answered.angle_of_one binary32 triangle.now point.now }
 {
-    if triangle.len() != 9 || point.len() != 3 {
-        return 0.0 / 0.0;
+    if triangle.len() == 9 && point.len() == 3 {
+        let t = triangle_at(triangle, 0);
+        let p = point_at(point, 0);
+        angles::solid_angle::solid_angle(t, p)
+    } else {
+        f32::NAN
     }
-    let t = triangle_at(triangle, 0);
-    let p = point_at(point, 0);
-    angles::solid_angle::solid_angle(t, p)
 }
 
 // Writes the dipoles of all nodes. 1 where they were written, else 0.
@@ -402,8 +407,7 @@ pub extern "C" fn timing_node_sums(
         boxes,
         nodes,
     };
-    let verdict = dipoles::calls::node_sums(&drawing, sums);
-    one_passed(verdict)
+    one_passed(node_sums(&drawing, sums))
 }
 
 // Writes the winding numbers by dipoles. 1 where they were written, else 0.
@@ -432,6 +436,5 @@ pub extern "C" fn timing_fast(
         boxes,
         nodes,
     };
-    let verdict = dipoles::calls::fast_winding(&drawing, sums, points, accuracy, windings);
-    one_passed(verdict)
+    one_passed(fast_winding(&drawing, sums, points, accuracy, windings))
 }
