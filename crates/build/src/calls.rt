@@ -121,7 +121,7 @@ fn build_passed(
 }
 
 // Builds the tree and answers its node count and its depth, or the first of the tests 1 to 6 that refuses.
-// The order, links and boxes of the tree stand at the front of the lists. The working lists bounds, centres and scratch hold zeros where they were used.
+// The order, links and boxes of the tree stand at the front of the lists. Bounds, centres and scratch hold zeros where they were used.
 // A refusal changes nothing.
 pub fn build(
     triangles: &[f32],

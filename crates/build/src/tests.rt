@@ -9,6 +9,8 @@ use lists::refusal::{Refusal, room_refusal};
 use lists::settings::{Settings, settings_refusal};
 use lists::tests::{triangle_count, triangles_refusal};
 
+// Kept: (d) the six lists flat, as in calls.rt: a struct of them, `Lent { order, links, .. }`, would be made for this one call.
+
 // 6: a list is shorter than it needs to be for `count` triangles.
 fn lists_refusal(
     count: usize,

@@ -20,6 +20,7 @@ pub fn bits_of(x: f32) -> u32
 }
 
 // Whether the two are the same bit for bit. +0 and -0 are not, and a NaN is the same as a NaN.
+// Kept: (a) `a == b` is no such equality; `Same.same` compares the patterns.
 pub fn same(a: f32, b: f32) -> bool
     ensures { result ≡ Same.same a b }
 {

@@ -5,7 +5,7 @@ ghost use Rattle.spec_numbers.specs.Hold as Hold;
 ghost use Rattle.spec_numbers.specs.Values as Values;
 
 // The smaller of the two, the first where they are equal.
-// Kept: `f32::min` and `f32::max` leave open which of +0 and -0 they answer, and pass over a NaN; `Hold.smaller` and `Hold.larger` fix both.
+// Kept: (a) `f32::min` and `f32::max` leave open which of +0 and -0 they answer, and pass over a NaN; `Hold.smaller` and `Hold.larger` fix both.
 pub fn min2(a: f32, b: f32) -> f32
     ensures { result ≡ Hold.smaller a b }
 {
@@ -54,9 +54,10 @@ pub fn plus_zero(x: f32) -> f32
     x + 0.0
 }
 
-// The magnitude of x: +0 for -0.
+// The magnitude of x. The sum turns -0 into +0.
+// Kept: (b) by `x.abs()` a winding number takes 1.02 of its time, in each of two drawings.
 pub fn absolute(x: f32) -> f32
     ensures { result ≡ Values.abs x }
 {
-    x.abs()
+    if x < 0.0 { -x } else { x + 0.0 }
 }

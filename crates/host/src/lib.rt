@@ -1,4 +1,5 @@
 // What a C host links (include/gauge.h). Each function is the proved one behind it, under its C name. A call that refuses changes nothing that is lent.
+// Kept: (a) the lists of a drawing as parameters one by one, here and in the crates behind: this is the C interface.
 #![tactic(auto)]
 
 ghost use Rattle.std.specs.Prelude.{◌≡◌};
@@ -46,13 +47,13 @@ pub extern "C" fn gauge_read(
     boxes: &mut [f32],
 ) -> u64
     ensures { ReadPut image.now (record {
-      settings = settings.entry.now;
+      settings = settings.old;
       triangles = triangles.old;
       order = order.old;
       links = links.old;
       boxes = boxes.old;
     }) result (record {
-      settings = settings.exit.now;
+      settings = settings.new;
       triangles = triangles.new;
       order = order.new;
       links = links.new;
@@ -94,14 +95,14 @@ pub extern "C" fn gauge_build(
 ) -> u64
     ensures { BuildPut triangles.now (record { strategy = strategy; leaf_minimum = leaf_minimum; maximum_depth = maximum_depth })
         (record {
-          order = order.entry.now;
+          order = order.old;
           links = links.old;
           boxes = boxes.old;
           bounds = bounds.old;
           centres = centres.old;
           scratch = scratch.old;
         }) result (record {
-          order = order.exit.now;
+          order = order.new;
           links = links.new;
           boxes = boxes.new;
           bounds = bounds.new;

@@ -1,5 +1,5 @@
 // Writes the records of an image, one behind the other. What writes answers the index behind what it wrote. A wide image is one of version 2.
-// Kept: (d) the bytes and the index beside them, as in `records`. As one, `next.put_u16(kind)`, the contracts say of its two parts what they say now.
+// Kept: (d) the bytes and the index beside them, which `records` takes. As one, `next.put_u16(kind)`, the contracts say of its parts what they say now.
 ghost use Rattle.std.specs.Prelude.{◌≡◌, ◌+◌, ◌*◌, ◌≤◌, length};
 ghost use Rattle.std.specs.Float.{binary32};
 ghost use Rattle.spec_tables.specs.Tables.{concat_map, Put};

@@ -22,6 +22,7 @@ pub struct LeafNode {
 
 // The k-th of the leaves from this node on, counted from 0. From node 0 on that is the tree's k-th leaf.
 // The leaf behind a leaf is the first from the next node on, so a caller who goes through all of them passes each node once.
+// Kept: (a) links, boxes and their count one by one, here and in `leaf_count`: in a `&Drawing` a caller would owe triangles and an order too.
 pub fn leaf_from(
     links: &[u32],
     boxes: &[f32],

@@ -6,6 +6,7 @@ ghost use Rattle.lists.specs.Values as Values;
 use crate::limits;
 use crate::refusal::{Refusal, refused_if};
 
+// Kept: (a) the strategy by its number, as a host sets it and an image keeps it: any number has to come as far as `settings_refusal`.
 #[derive(Clone, Copy)]
 pub struct Settings {
     pub strategy: usize,

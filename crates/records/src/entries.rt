@@ -51,6 +51,7 @@ pub fn put_entries(
 }
 
 // Writes the four bytes of each number from byte `at` on. A NaN is written as 7FC00000.
+// Kept: (d) floats apart, here and in `read_f32s`: as one, `put_numbers::<4, E: Pattern>(..)`, a trait would say of each entry what `bits_of` says.
 pub fn put_f32s(entries: &[f32], from: usize, count: usize, out: &mut [u8], at: usize) -> usize
     requires { (from + count ≤ length entries.now) × (at + 4 * count ≤ length out.old) }
     ensures put { Put at (float_bytes binary32 entries.now from count) out.old out.new result }

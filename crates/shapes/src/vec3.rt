@@ -27,7 +27,7 @@ impl Vec3 {
     }
 
     // f of both coordinates, on each axis.
-    // Kept: callers write `|p, q| floats::min2(p, q)`: for `self.zip(b, floats::min2)` the check finds no contract of a function that is re-exported.
+    // Kept: (c) callers write `|p, q| floats::min2(p, q)`: for `self.zip(b, floats::min2)` the check finds no contract of a function that is re-exported.
     fn zip<F: Fn(f32, f32) -> f32>(self, b: Vec3, f: F) -> Vec3
         requires { F.IsAlwaysCallable f }
         ensures x { F.post f self.x b.x result.x }

@@ -55,6 +55,8 @@ pub fn centre_on(bounds: &[f32], t: u32, axis: Axis) -> f32
     (bounds[at] + bounds[at + 3]) / 2.0
 }
 
+// Kept: (d) `boxes: &Boxes { bounds, slice, ghost in_table }`: contracts read `boxes.now.bounds.now`, and each half of a slice is proved anew.
+
 // The smallest box around the boxes of the slice's triangles, joined from the left.
 pub fn union_of(bounds: &[f32], slice: &[u32]) -> Box3
     requires slice_nonzero { 0 < length slice.now }

@@ -41,6 +41,7 @@ fn range_box(triangles: &[f32], order: &[u32], first: usize, last: usize) -> Box
 }
 
 // Whether the points are the same bit for bit.
+// Kept: (a) here and below a derived `==` would be IEEE's; `Accepted.same_point` and `Accepted.same_box` compare bits.
 fn same_point(a: Vec3, b: Vec3) -> bool
     ensures { result ≡ Accepted.same_point (Shapes.as_point a) (Shapes.as_point b) }
 {

@@ -47,6 +47,7 @@ fn branch_goes_on(links: &[u32], node: usize) -> bool
 }
 
 // Whether the listing and the cover go on with this node, by its kind.
+// Kept: (a) kinds by their numbers, here and in `depth`: a list that is checked has any number there, and `Ways.goes_on` tells 1, 2 and the others apart.
 pub fn goes_on(n: usize, links: &[u32], node: usize, entry: usize) -> bool
     requires there { 3 * node + 3 ≤ length links.now }
     requires before { Needs.Before links.now node }

@@ -3,6 +3,8 @@ use mathlib.Core.Path.{◌≡◌, refl, sym, ap, subst, ◌∙◌}
 use mathlib.Core.Bool.{Bool, true, false, not, cond, ◌&&◌, ◌||◌, false≢true}
 use mathlib.Core.List.{List, [], ◌∷◌, ◌++◌, append_assoc, append-nil}
 use Prim.Native.Nat.{ℕ, zero, suc, ◌+◌, ◌-◌, ◌≤◌, ◌<◌}
+use native.Mathlib.Nat.{add-zero, add-suc, add_assoc, zero-add}
+use native.Mathlib.Numerals.{add-one}
 use native.Mathlib.Omega.{arith}
 use lib.ListN.{length, take}
 use lib.Seq.{take_at}
@@ -92,23 +94,14 @@ module _ {H : Type 0} (key : H → Float) (number : H → ℕ) where
   sorted_front (k ∷ ks) js r = (r.0, (none_before_front k ks js r.1.0, sorted_front ks js r.1.1))
 
 -- ---- slots
-plus_none : (m : ℕ) → m + 0 ≡ m
-plus_none m = omega arith
-
-plus_suc : (m n : ℕ) → m + suc n ≡ suc (m + n)
-plus_suc m n = omega arith
-
-plus_assoc : (a m n : ℕ) → a + (m + n) ≡ a + m + n
-plus_assoc a m n = omega arith
-
 module _ (best : List Float) (which : List ℕ) where
   -- the higher ones, and then the lower ones
   slots_split : (a m n : ℕ) → slots_from best which a (m + n) ≡ slots_from best which (a + m) n ++ slots_from best which a m
   unfolding slots_from
-  slots_split a m zero = ap (slots_from best which a) (plus_none m)
+  slots_split a m zero = ap (slots_from best which a) (add-zero m)
   slots_split a m (suc n) =
-      ap (slots_from best which a) (plus_suc m n)
-      ∙ ap (λ (i : ℕ). slot_at best which i ∷ slots_from best which a (m + n)) (plus_assoc a m n)
+      ap (slots_from best which a) (add-suc m n)
+      ∙ ap (λ (i : ℕ). slot_at best which i ∷ slots_from best which a (m + n)) (sym (add_assoc a m n))
       ∙ ap (λ (l : List Hit). slot_at best which (a + m + n) ∷ l) (slots_split a m n)
 
   slots_none : (a : ℕ) → slots_from best which a 0 ≡ []
@@ -117,18 +110,12 @@ module _ (best : List Float) (which : List ℕ) where
 
   slots_one : (a : ℕ) → slots_from best which a 1 ≡ slot_at best which a ∷ []
   unfolding slots_from
-  slots_one a = ap (λ (i : ℕ). slot_at best which i ∷ []) (plus_none a)
+  slots_one a = ap (λ (i : ℕ). slot_at best which i ∷ []) (add-zero a)
 
   -- the highest first
   slots_highest : (n : ℕ) → slots_from best which 0 (n + 1) ≡ slot_at best which n ∷ slots_from best which 0 n
   unfolding slots_from
-  slots_highest n = ap (slots_from best which 0) (one_more n) ∙ ap (λ (i : ℕ). slot_at best which i ∷ slots_from best which 0 n) (from_none n)
-    where
-      one_more : (n : ℕ) → n + 1 ≡ suc n
-      one_more n = omega arith
-
-      from_none : (n : ℕ) → 0 + n ≡ n
-      from_none n = omega arith
+  slots_highest n = ap (slots_from best which 0) (add-one n) ∙ ap (λ (i : ℕ). slot_at best which i ∷ slots_from best which 0 n) (zero-add n)
 
   -- the lowest last
   slots_lowest : (a n m : ℕ) → n ≡ 1 + m → slots_from best which a n ≡ slots_from best which (a + 1) m ++ (slot_at best which a ∷ [])
@@ -139,13 +126,10 @@ module _ (best : List Float) (which : List ℕ) where
   slots_apart : (j n : ℕ) → j < n → slots_from best which 0 n ≡ slots_from best which (j + 1) (n - (j + 1)) ++ slots_from best which 0 (j + 1)
   slots_apart j n l =
       ap (slots_from best which 0) (parts j n l) ∙ slots_split 0 (j + 1) (n - (j + 1))
-      ∙ ap (λ (i : ℕ). slots_from best which i (n - (j + 1)) ++ slots_from best which 0 (j + 1)) (from_none (j + 1))
+      ∙ ap (λ (i : ℕ). slots_from best which i (n - (j + 1)) ++ slots_from best which 0 (j + 1)) (zero-add (j + 1))
     where
       parts : (j n : ℕ) → j < n → n ≡ j + 1 + (n - (j + 1))
       parts j n l = omega arith
-
-      from_none : (n : ℕ) → 0 + n ≡ n
-      from_none n = omega arith
 
   length_slots : (a n : ℕ) → length (slots_from best which a n) ≡ n
   unfolding slots_from

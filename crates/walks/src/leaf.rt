@@ -42,7 +42,7 @@ fn measure(triangles: &[f32], t: u32, probe: &Probe, measures: Measures, places:
     let p = probe.point;
     let triangle = triangle_at(triangles, t as usize);
     let computed = triangle.closest_spot(p);
-    // Kept: `Measures` picks the step; with a leaf loop for the source's walk alone the sure query took 1.03 to 1.22 of the time (PERFORMANCE.md).
+    // Kept: (b) `Measures` picks the step; with a leaf loop for the source's walk alone the sure query took 1.03 to 1.22 of the time (PERFORMANCE.md).
     match measures {
         Measures::Held => {
             places.offer(probe.limit, hit_at(triangle.held(p, computed), p, t));

@@ -115,7 +115,7 @@ pub fn pair_walk(
 }
 
 // The limit squared of the walk: what it keeps is strictly below.
-// Kept: a rule is its number, as the tests of a query see any; `match Rule::from(rule)` would be a type and its From for this line alone.
+// Kept: (d) a rule is its number, as the tests of a query see any; `match Rule::from(rule)` would be a type and its From for this line alone.
 fn walk_limit(rule: u32, limit: f32) -> f32
     ensures { result ≡ Marked.walk_limit (Rules.rule_of rule) limit }
 {

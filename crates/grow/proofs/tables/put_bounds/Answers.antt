@@ -1,7 +1,6 @@
 -- `grow::tables::put_bounds` meets its contract: a turn writes one box behind those that stand there.
 use mathlib.Core.Path.{refl, ◌∙◌, ap}
 use Prim.Native.Nat.{◌*◌}
-use native.Mathlib.Omega.{arith}
 use Rattle.spec_tables.specs.Tables.{overwrite}
 use Rattle.spec_tables.proofs.Runs.{run_start, run_front, run_end}
 use Rattle.spec_lists.specs.Reading.{box_at}
@@ -11,9 +10,6 @@ use Rattle.grow.proofs.tables.put_bounds.Goals as goal
 
 pub loop-t-init : goal.loop-t-init
 loop-t-init c = run_start _ 6 0 _ _
-
-pub put_box-requires : goal.put_box-requires
-put_box-requires c = omega (arith, c.loop-t.invariant.long)
 
 pub loop-t-preserved : goal.loop-t-preserved
 loop-t-preserved c =

@@ -1,5 +1,4 @@
 -- `grow::tables::put_keys` meets its contract: a turn stores one centre behind those that stand there.
-use native.Mathlib.Omega.{arith}
 use lib.Ieee.{binary32}
 use Rattle.shapes.specs.Values.{as_axis}
 use Rattle.spec_tables.proofs.Runs.{run_start, run_end}
@@ -10,12 +9,6 @@ use Rattle.grow.proofs.tables.put_keys.Goals as goal
 
 pub loop-t-init : goal.loop-t-init
 loop-t-init c = run_start _ 1 0 _ _
-
-pub offset_bounds-keys-t : goal.offset_bounds-keys-t
-offset_bounds-keys-t c = omega (arith, c.loop-t.invariant.long)
-
-pub bounds-keys-t : goal.bounds-keys-t
-bounds-keys-t c = omega (arith, c.loop-t.invariant.long)
 
 pub loop-t-preserved : goal.loop-t-preserved
 loop-t-preserved c =

@@ -2,7 +2,6 @@
 use mathlib.Core.Path.{refl, ap, ◌∙◌}
 use mathlib.Core.List.{List}
 use Prim.Native.Nat.{ℕ}
-use native.Mathlib.Omega.{arith}
 use Rattle.spec_tables.specs.Tables.{overwrite}
 use Rattle.spec_tables.proofs.Runs.{run_start, run_end}
 use Rattle.spec_build.proofs.Numbering.{range_concat_map}
@@ -11,9 +10,6 @@ use Rattle.grow.proofs.tables.put_order.Goals as goal
 
 pub loop-number-init : goal.loop-number-init
 loop-number-init c = run_start _ 1 0 _ _
-
-pub bounds-order-number : goal.bounds-order-number
-bounds-order-number c = omega (arith, c.loop-number.invariant.long)
 
 pub loop-number-preserved : goal.loop-number-preserved
 loop-number-preserved c = run_store_front (λ (k : ℕ). k) _ _ _ _ _ c.requires.1 c.loop-number-test.true c.loop-number.invariant refl

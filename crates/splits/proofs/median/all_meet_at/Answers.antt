@@ -7,12 +7,6 @@ use Rattle.spec_splits.specs.Median.{all_meet_at}
 use Rattle.spec_splits.proofs.Table.{at_map}
 use Rattle.splits.proofs.median.all_meet_at.Goals as goal
 
-pub plane_between-requires : goal.plane_between-requires
-plane_between-requires c =
-    let args = c.args in
-    let pre = c.requires in
-    record { in_table = pre.all_in_table args.cut pre.cut_in_bounds; in_table_2 = pre.all_in_table (args.cut - 1) (omega arith) }
-
 pub returns : goal.returns
 unfolding all_meet_at
 returns c =

@@ -1,29 +1,9 @@
 -- `splits::median::are_both_large` meets its contract: what `is_large` ensures of each half.
-use Rattle.std.proofs.Common.{sym, ◌∙◌, arith, length-drop, length-take}
+use Rattle.std.proofs.Common.{sym, ◌∙◌}
 use Rattle.spec_splits.specs.Splits.{box_in}
 use Rattle.spec_splits.specs.Median.{are_both_large}
-use Rattle.spec_splits.proofs.Table.{map_take, map_drop, to_the_end, in_table_before, in_table_after}
+use Rattle.spec_splits.proofs.Table.{map_take, map_drop, to_the_end}
 use Rattle.splits.proofs.median.are_both_large.Goals as goal
-
-pub slice_bounds-is_large-end : goal.slice_bounds-is_large-end
-slice_bounds-is_large-end c = simp length-take (omega arith)
-
-pub is_large-requires : goal.is_large-requires
-is_large-requires c =
-    let args = c.args in
-    let pre = c.requires in
-    let inside = pre.cut_in_bounds in
-    record {
-      slice_nonzero = simp length-take (omega arith);
-      all_in_table = in_table_before args.bounds.now args.slice.now pre.all_in_table args.cut (omega arith);
-    }
-
-pub is_large-requires-then-is_large : goal.is_large-requires-then-is_large
-is_large-requires-then-is_large c =
-    let args = c.args in
-    let pre = c.requires in
-    rw (to_the_end args.cut args.slice.now)
-    (record { slice_nonzero = simp length-drop (omega arith); all_in_table = in_table_after args.bounds.now args.slice.now pre.all_in_table args.cut })
 
 pub returns-then-is_large : goal.returns-then-is_large
 unfolding are_both_large

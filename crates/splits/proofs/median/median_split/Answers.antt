@@ -1,15 +1,8 @@
 -- `splits::median::median_split` meets its contract: at each return the tests before have failed and this one has passed.
-use Rattle.std.proofs.Common.{arith}
 use lib.ListN.{length-map}
 use Rattle.spec_splits.specs.Median.{median_split}
 use Rattle.splits.proofs.median.median_split.Goals as goal
 use Rattle.splits.proofs.median.median_split.Goals.{then-all_meet_at-via-then-all_meet_at, then-all_meet_at-via-else-all_meet_at+then-are_both_large}
-
-pub all_meet_at-requires : goal.all_meet_at-requires
-all_meet_at-requires c = record { cut_nonzero = omega arith; cut_in_bounds = omega arith; all_in_table = c.requires.boxed.in_table }
-
-pub are_both_large-requires : goal.are_both_large-requires
-are_both_large-requires c = record { cut_nonzero = omega arith; cut_in_bounds = omega arith; all_in_table = c.requires.boxed.in_table }
 
 pub returns-then-all_meet_at : goal.returns-then-all_meet_at
 unfolding median_split

@@ -1,8 +1,7 @@
 -- `splits::table::union_of` meets its contract. The invariant: the boxes that remain, joined to the box so far, give the union of the whole slice.
-use Rattle.std.proofs.Common.{◌<◌, ◌+◌, length, drop, ap, ◌∙◌, arith, length-drop}
+use Rattle.std.proofs.Common.{drop, ap, ◌∙◌}
 use mathlib.Core.List.{foldl}
 use lib.Ieee.{binary32}
-use lib.Seq.{get_or-drop}
 use Rattle.spec_shapes.specs.Boxes.{Box, union}
 use Rattle.shapes.specs.Values.{as_box}
 use Rattle.spec_splits.specs.Splits.{box_in, boxes_in}
@@ -16,13 +15,6 @@ loop-t-init c =
     rw (to_the_end 1 args.slice.now)
     (ap (λ (b : Box). foldl union b (boxes_in args.bounds.now (drop 1 args.slice.now))) c.box_at-joined.ensures
     ∙ union_from_first binary32 (box_in args.bounds.now) args.slice.now c.requires.slice_nonzero)
-
-pub box_at-requires : goal.box_at-requires
-box_at-requires c =
-    let slice = c.args.slice.now in
-    let more : c.loop-t.t-index < length (drop 1 slice) = simp (to_the_end 1 slice) at c.loop-t-test.true in
-    rw (to_the_end 1 slice, get_or-drop 1 slice c.loop-t.t-index 0)
-    (c.requires.all_in_table (1 + c.loop-t.t-index) (omega (arith, length-drop 1 slice)))
 
 pub loop-t-preserved : goal.loop-t-preserved
 loop-t-preserved c =

@@ -1,4 +1,4 @@
--- `grow::tries::Cutter::try_axes` meets its contract. The invariant: the tries on the axes that remain, of the order that the last one left, are those on all.
+-- `grow::tries::Cutter::try_axes` meets its contract. The invariant: the tries on the axes that remain are, from here, those on all.
 use mathlib.Core.Path.{◌≡◌, refl, sym, ap, ◌∙◌}
 use mathlib.Core.List.{List, ◌∷◌}
 use Prim.Native.Nat.{ℕ, ◌+◌, ◌<◌, ◌≤◌}
