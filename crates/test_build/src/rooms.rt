@@ -1,5 +1,5 @@
 // What the build answers for two triangles with rooms that just suffice, and with one room an entry short; and what the working lists hold afterwards.
-ghost use Rattle.std.specs.Prelude.{◌≤◌, length};
+ghost use Rattle.std.specs.Prelude.{◌≤◌};
 
 use build::calls::{Built, build};
 use lists::refusal::Refusal;
@@ -38,69 +38,36 @@ fn put_numbers(list: &[u32]) {
     }
 }
 
-// Builds T0 and T1 of the printed run.
-fn built_in(
-    order: &mut [u32],
-    links: &mut [u32],
-    boxes: &mut [f32],
-    bounds: &mut [f32],
-    centres: &mut [f32],
-    scratch: &mut [u32],
-) -> Result<Built, Refusal> {
-    let triangles = [
-        0.0, 0.0, 0.0, 1.0, 0.0, 0.0, 0.0, 1.0, 0.0, 10.0, 0.0, 0.0, 11.0, 0.0, 0.0, 10.0, 1.0, 0.0,
-    ];
-    let settings = Settings {
-        strategy: 1,
-        leaf_minimum: 1,
-        maximum_depth: 40,
-    };
-    build(
-        &triangles, settings, order, links, boxes, bounds, centres, scratch,
-    )
+// T0 and T1 of the printed run.
+const TRIANGLES: [f32; 18] = [
+    0.0, 0.0, 0.0, 1.0, 0.0, 0.0, 0.0, 1.0, 0.0, 10.0, 0.0, 0.0, 11.0, 0.0, 0.0, 10.0, 1.0, 0.0,
+];
+
+// How many entries of each list are lent.
+#[derive(Clone, Copy)]
+struct Rooms {
+    order: usize,
+    links: usize,
+    boxes: usize,
+    bounds: usize,
+    centres: usize,
+    scratch: usize,
 }
 
-// Builds in the fronts of the working lists, of these lengths, and prints the answer and the whole working lists.
-fn put_built_in(
-    order: &mut [u32],
-    links: &mut [u32],
-    boxes: &mut [f32],
-    bounds: &mut [f32],
-    corners: usize,
-    centres: &mut [f32],
-    keys: usize,
-    scratch: &mut [u32],
-    spare: usize,
-)
-    requires { (corners ≤ length bounds.old) × (keys ≤ length centres.old) × (spare ≤ length scratch.old) }
-{
-    put_built(built_in(
-        order,
-        links,
-        boxes,
-        &mut bounds[0..corners],
-        &mut centres[0..keys],
-        &mut scratch[0..spare],
-    ));
-    io::write_all(1, b", bounds");
-    put_floats(bounds);
-    io::write_all(1, b" centres");
-    put_floats(centres);
-    io::write_all(1, b" scratch");
-    put_numbers(scratch);
-    io::write_all(1, b"\n");
-}
+// Rooms that just suffice.
+const ENOUGH: Rooms = Rooms {
+    order: 2,
+    links: 9,
+    boxes: 18,
+    bounds: 12,
+    centres: 6,
+    scratch: 2,
+};
 
-// Builds with rooms of these lengths. The working lists are one entry longer than they need to be.
-fn put_rooms(
-    entries: usize,
-    numbers: usize,
-    coordinates: usize,
-    corners: usize,
-    keys: usize,
-    spare: usize,
-)
-    requires { (entries ≤ 2) × (numbers ≤ 9) × (coordinates ≤ 18) × (corners ≤ 13) × (keys ≤ 7) × (spare ≤ 3) }
+// Builds in rooms of these lengths, and prints the answer and the whole working lists, which are one entry longer than they need to be.
+fn put_rooms(name: &[u8], rooms: Rooms)
+    requires tree { (rooms.order ≤ 2) × (rooms.links ≤ 9) × (rooms.boxes ≤ 18) }
+    requires working { (rooms.bounds ≤ 13) × (rooms.centres ≤ 7) × (rooms.scratch ≤ 3) }
 {
     let mut order = [7u32; 2];
     let mut links = [7u32; 9];
@@ -108,34 +75,71 @@ fn put_rooms(
     let mut bounds = [7.0f32; 13];
     let mut centres = [7.0f32; 7];
     let mut scratch = [7u32; 3];
-    put_built_in(
-        &mut order[0..entries],
-        &mut links[0..numbers],
-        &mut boxes[0..coordinates],
-        &mut bounds,
-        corners,
-        &mut centres,
-        keys,
-        &mut scratch,
-        spare,
+    let settings = Settings {
+        strategy: 1,
+        leaf_minimum: 1,
+        maximum_depth: 40,
+    };
+    let told = build(
+        &TRIANGLES,
+        settings,
+        &mut order[0..rooms.order],
+        &mut links[0..rooms.links],
+        &mut boxes[0..rooms.boxes],
+        &mut bounds[0..rooms.bounds],
+        &mut centres[0..rooms.centres],
+        &mut scratch[0..rooms.scratch],
     );
+    io::write_all(1, name);
+    put_built(told);
+    io::write_all(1, b", bounds");
+    put_floats(&bounds);
+    io::write_all(1, b" centres");
+    put_floats(&centres);
+    io::write_all(1, b" scratch");
+    put_numbers(&scratch);
+    io::write_all(1, b"\n");
 }
 
 pub(crate) fn put_all() {
-    io::write_all(1, b"room for all:");
-    put_rooms(2, 9, 18, 12, 6, 2);
-    io::write_all(1, b"room for more:");
-    put_rooms(2, 9, 18, 13, 7, 3);
-    io::write_all(1, b"order one short:");
-    put_rooms(1, 9, 18, 12, 6, 2);
-    io::write_all(1, b"links one short:");
-    put_rooms(2, 8, 18, 12, 6, 2);
-    io::write_all(1, b"boxes one short:");
-    put_rooms(2, 9, 17, 12, 6, 2);
-    io::write_all(1, b"bounds one short:");
-    put_rooms(2, 9, 18, 11, 6, 2);
-    io::write_all(1, b"centres one short:");
-    put_rooms(2, 9, 18, 12, 5, 2);
-    io::write_all(1, b"scratch one short:");
-    put_rooms(2, 9, 18, 12, 6, 1);
+    put_rooms(b"room for all:", ENOUGH);
+    put_rooms(
+        b"room for more:",
+        Rooms {
+            bounds: 13,
+            centres: 7,
+            scratch: 3,
+            ..ENOUGH
+        },
+    );
+    put_rooms(b"order one short:", Rooms { order: 1, ..ENOUGH });
+    put_rooms(b"links one short:", Rooms { links: 8, ..ENOUGH });
+    put_rooms(
+        b"boxes one short:",
+        Rooms {
+            boxes: 17,
+            ..ENOUGH
+        },
+    );
+    put_rooms(
+        b"bounds one short:",
+        Rooms {
+            bounds: 11,
+            ..ENOUGH
+        },
+    );
+    put_rooms(
+        b"centres one short:",
+        Rooms {
+            centres: 5,
+            ..ENOUGH
+        },
+    );
+    put_rooms(
+        b"scratch one short:",
+        Rooms {
+            scratch: 1,
+            ..ENOUGH
+        },
+    );
 }
