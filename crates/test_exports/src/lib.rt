@@ -1,4 +1,5 @@
 // Exports for tests/timing, tests/compare and tests/peers; no part of the engine.
+// Kept: (a) the flat settings and lists of the exports, and `timing_build` beside `timing_depth`: the C interface, which those three call.
 #![tactic(auto)]
 
 ghost use Rattle.std.specs.Prelude.{◌≡◌, length};
