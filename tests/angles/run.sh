@@ -13,8 +13,6 @@ cat > "$copy/crates/angles_run/src/lib.rt" <<'RT'
 // Roots, angles and winding numbers for a Rust program to call.
 #![tactic(auto)]
 
-use lists::verdict::Verdict;
-
 #[unsafe(no_mangle)]
 pub extern "C" fn angles_root(x: f32) -> f32 {
     angles::root::root_or_nan(x)
@@ -40,8 +38,8 @@ pub extern "C" fn angles_solid(triangle: &[f32], point: &[f32]) -> f32 {
 #[unsafe(no_mangle)]
 pub extern "C" fn angles_winding(triangles: &[f32], points: &[f32], out: &mut [f32]) -> usize {
     match angles::winding::winding(triangles, points, out) {
-        Verdict::Passed => 0,
-        Verdict::Refused { number, .. } => number,
+        Ok(()) => 0,
+        Err(refusal) => refusal.number(),
     }
 }
 RT

@@ -5,28 +5,22 @@ ghost use Rattle.std.specs.Prelude.{◌≤◌};
 use dipoles::calls::{fast_winding, node_sums};
 use lists::drawing::Drawing;
 use lists::refusal::Refusal;
-use test_words::put_number;
+use test_words::{put_number, put_word};
 
 // What a call is given, but for the lists that each function below lends.
 #[derive(Clone, Copy)]
 struct Asked {
     links: [u32; 9],
-    x: f32,
-    y: f32,
-    z: f32,
+    point: [f32; 3],
     accuracy: f32,
 }
 
 // A tree, a point and a scale that pass.
-fn right() -> Asked {
-    Asked {
-        links: [1, 0, 1, 1, 1, 2, 2, 0, 1],
-        x: 0.25,
-        y: 0.25,
-        z: 1.0,
-        accuracy: 2.0,
-    }
-}
+const RIGHT: Asked = Asked {
+    links: [1, 0, 1, 1, 1, 2, 2, 0, 1],
+    point: [0.25, 0.25, 1.0],
+    accuracy: 2.0,
+};
 
 // T0 and T1 of the printed run.
 const TRIANGLES: [f32; 18] = [
@@ -98,7 +92,7 @@ fn put_winding(asked: Asked, numbers: usize, given: usize, room: usize)
 {
     let links = asked.links;
     let drawing = drawing_of(&TRIANGLES, &links);
-    let point = [asked.x, asked.y, asked.z];
+    let point = asked.point;
     let sums = [0.5f32; 48];
     let mut all = [7.0f32; 2];
     let out = &mut all[0..room];
@@ -114,24 +108,24 @@ fn put_winding(asked: Asked, numbers: usize, given: usize, room: usize)
 }
 
 fn put_scale(pattern: u32) {
-    let mut asked = right();
-    asked.accuracy = floats::from_bits(pattern);
-    io::write_all(1, b"scale ");
-    io::print_hex(1, pattern as u64, 8);
+    let asked = Asked {
+        accuracy: floats::from_bits(pattern),
+        ..RIGHT
+    };
+    io::write_all(1, b"scale");
+    put_word(pattern);
     put_winding(asked, 3, 48, 2);
 }
 
-fn put_point(x: u32, y: u32, z: u32) {
-    let mut asked = right();
-    asked.x = floats::from_bits(x);
-    asked.y = floats::from_bits(y);
-    asked.z = floats::from_bits(z);
-    io::write_all(1, b"point ");
-    io::print_hex(1, x as u64, 8);
-    io::write_all(1, b" ");
-    io::print_hex(1, y as u64, 8);
-    io::write_all(1, b" ");
-    io::print_hex(1, z as u64, 8);
+fn put_point(patterns: [u32; 3]) {
+    io::write_all(1, b"point");
+    for pattern in patterns {
+        put_word(pattern);
+    }
+    let asked = Asked {
+        point: patterns.map(|pattern| floats::from_bits(pattern)),
+        ..RIGHT
+    };
     put_winding(asked, 3, 48, 2);
 }
 
@@ -146,7 +140,7 @@ fn put_rooms(points: usize, given: usize, room: usize)
     io::print_decimal(1, given as u64);
     io::write_all(1, b" of nodes, room ");
     io::print_decimal(1, room as u64);
-    put_winding(right(), points, given, room);
+    put_winding(RIGHT, points, given, room);
 }
 
 fn put_sums_of(numbers: usize, room: usize)
@@ -157,12 +151,12 @@ fn put_sums_of(numbers: usize, room: usize)
     io::print_decimal(1, numbers as u64);
     io::write_all(1, b" numbers, room ");
     io::print_decimal(1, room as u64);
-    put_sums(right(), numbers, room);
+    put_sums(RIGHT, numbers, room);
 }
 
 // The root's right child is its left one.
 fn put_wrong_tree() {
-    let mut asked = right();
+    let mut asked = RIGHT;
     asked.links[8] = 0;
     io::write_all(1, b"sums of a wrong tree");
     put_sums(asked, 18, 49);
@@ -172,9 +166,9 @@ fn put_wrong_tree() {
 
 // Where several are wrong the first test counts.
 fn put_several() {
-    let mut asked = right();
+    let mut asked = RIGHT;
     asked.accuracy = -1.0;
-    asked.y = 2000000.0;
+    asked.point[1] = 2000000.0;
     io::write_all(1, b"point and scale");
     put_winding(asked, 3, 48, 2);
     asked.links[8] = 0;
@@ -215,10 +209,10 @@ pub fn put_refusals() {
     put_rooms(2, 48, 2);
     put_rooms(0, 48, 0);
     put_wrong_tree();
-    put_point(0x7fc0_0000, 0, 0);
-    put_point(0, 0x4980_0001, 0x7fc0_0000);
-    put_point(0, 0x4980_0000, 0xc980_0000);
-    put_point(0, 0, 0xff80_0000);
+    put_point([0x7fc0_0000, 0, 0]);
+    put_point([0, 0x4980_0001, 0x7fc0_0000]);
+    put_point([0, 0x4980_0000, 0xc980_0000]);
+    put_point([0, 0, 0xff80_0000]);
     for pattern in SCALES {
         put_scale(pattern);
     }

@@ -1,1 +1,2 @@
 pub mod Branches
+pub mod First

@@ -1,10 +1,10 @@
 -- What the timed calls answer in one number.
 use Rattle.std.specs.Prelude.{◌≡◌, cond, List, ℕ, leb, eqb, length, Float, Result, Ok, Err}
 use Rattle.std.specs.Float.{Format, nan}
+use Rattle.lists.specs.declared.refusal.Refusal.{Refusal}
 use Rattle.spec_shapes.specs.Points.{Point}
 use Rattle.spec_lists.specs.Reading.{box_at, triangle_at, triangle_count, point_at}
 use Rattle.spec_lists.specs.Refusals.{Verdict, passes, refused, refuses, triangles_refusal, distance_refusal, Settings}
-use Rattle.lists.specs.declared.refusal.Refusal.{Refusal}
 use Rattle.spec_tree.specs.Accepted.{accepted}
 use Rattle.spec_tree.specs.Depth.{DepthFound, deep, not_deep}
 use Rattle.spec_build.specs.Build.{Lists, Built, made, not_made, BuildIs}
@@ -33,16 +33,16 @@ abbrev pub depth_answered : Built → ℕ
 depth_answered (made nodes depth) = depth
 depth_answered (not_made number place) = 0
 
+-- how many there are, none for a refusal
+abbrev pub or_none : Result ℕ Refusal → ℕ
+or_none (Ok n) = n
+or_none (Err refusal) = 0
+
 -- a build, of whose answer the call returns one number
 pub record BuildAnswered (answered : Built → ℕ) (f : Format) (triangles : List Float) (s : Settings) (old : Lists) (r : ℕ) (new : Lists) : Type 0 where
   pub answer : Built
   pub built : BuildIs f triangles s old answer new
   pub answered_is : r ≡ answered answer
-
--- how many triangles a search measured, 0 for a refusal
-abbrev pub measured : Result ℕ Refusal → ℕ
-measured (Ok triangles) = triangles
-measured (Err refusal) = 0
 
 -- how many triangles the search for so many measures for a point, by the rule; 0 where the distance is refused, or so many
 unfoldable pub measured_at : Format

@@ -1,5 +1,4 @@
 // Exports for tests/timing, tests/compare and tests/peers; no part of the engine.
-// Kept: (a) the flat settings and lists of the exports, here and below: the C interface.
 #![tactic(auto)]
 
 ghost use Rattle.std.specs.Prelude.{◌≡◌, length};
@@ -9,6 +8,7 @@ ghost use Rattle.shapes.specs.Values as Shapes;
 ghost use Rattle.build.specs.Values as Builds;
 ghost use Rattle.spec_tree.specs.Depth as Depth;
 ghost use Rattle.spec_tree.specs.Refusals as Trees;
+ghost use Rattle.tree.specs.Values as Found;
 ghost use Rattle.spec_angles.specs.Windings as Windings;
 ghost use Rattle.spec_search.specs.Answers as Answers;
 ghost use Rattle.spec_search.specs.Rules as Rules;
@@ -16,50 +16,47 @@ ghost use Rattle.spec_search.specs.Calls as Calls;
 ghost use Rattle.spec_dipoles.specs.Calls as Dipoles;
 ghost use Rattle.test_exports.specs.Answered as Answered;
 
-use angles::winding::winding;
 use build::calls::{Built, build};
-use dipoles::calls::{fast_winding, node_sums};
 use lists::drawing::Drawing;
 use lists::reading::{point_at, triangle_at};
 use lists::refusal::Refusal;
 use lists::settings::Settings;
-use lists::tests::{distance_refusal, triangles_refusal};
-use queries::calls::{few_query, source_query, sure_query};
+use lists::tests::distance_refusal;
 use queries::rules::most_refusal;
 use shapes::vec3::Vec3;
-use tree::calls::{check, depth, tree_refusal};
+use tree::calls::check;
 use walks::answer::Probe;
 use walks::places::{BEST, Places, WHICH};
 use walks::sure::search;
 
-// 1 where nothing is refused, else 0.
-fn one_passed(told: Result<(), Refusal>) -> u32
-    ensures { result ≡ Answered.one_passed (Lists.as_verdict told) }
+// Kept: (a) the flat settings and lists of the exports, here and below: the C interface.
+
+// 1 where the verdict is a pass, else 0.
+fn one_passed(verdict: Result<(), Refusal>) -> u32
+    ensures { result ≡ Answered.one_passed (Lists.as_verdict verdict) }
 {
-    match told {
-        Ok(()) => 1,
-        Err(_) => 0,
-    }
+    verdict.is_ok() as u32
+}
+
+// The depth that is read off the lists, 0 where they are refused.
+fn depth_read(found: Result<usize, Refusal>) -> usize
+    ensures { result ≡ Answered.depth_read (Found.as_depth_found found) }
+{
+    found.unwrap_or(0)
 }
 
 // The nodes of a build, 0 for a refusal.
-fn nodes_answered(told: Result<Built, Refusal>) -> usize
-    ensures { result ≡ Answered.nodes_answered (Builds.as_built told) }
+fn nodes_answered(built: Result<Built, Refusal>) -> usize
+    ensures { result ≡ Answered.nodes_answered (Builds.as_built built) }
 {
-    match told {
-        Ok(built) => built.nodes,
-        Err(_) => 0,
-    }
+    built.map_or(0, |tree| tree.nodes)
 }
 
 // The depth of a build, 0 for a refusal.
-fn depth_answered(told: Result<Built, Refusal>) -> usize
-    ensures { result ≡ Answered.depth_answered (Builds.as_built told) }
+fn depth_answered(built: Result<Built, Refusal>) -> usize
+    ensures { result ≡ Answered.depth_answered (Builds.as_built built) }
 {
-    match told {
-        Ok(built) => built.depth,
-        Err(_) => 0,
-    }
+    built.map_or(0, |tree| tree.depth)
 }
 
 // Builds a tree and answers how many nodes it has, 0 for a refusal.
@@ -179,7 +176,8 @@ pub extern "C" fn timing_sure(
         boxes,
         nodes,
     };
-    one_passed(sure_query(&drawing, points, distance, rule, answers))
+    let verdict = queries::calls::sure_query(&drawing, points, distance, rule, answers);
+    one_passed(verdict)
 }
 
 // Writes the answers of the query for the nearest few. 1 where the query was answered, else 0.
@@ -210,7 +208,8 @@ pub extern "C" fn timing_few(
         boxes,
         nodes,
     };
-    one_passed(few_query(&drawing, points, distance, rule, most, answers))
+    let verdict = queries::calls::few_query(&drawing, points, distance, rule, most, answers);
+    one_passed(verdict)
 }
 
 // Writes the source query's answers. 1 where the query was answered, else 0.
@@ -239,7 +238,8 @@ pub extern "C" fn timing_source(
         boxes,
         nodes,
     };
-    one_passed(source_query(&drawing, points, distance, answers))
+    let verdict = queries::calls::source_query(&drawing, points, distance, answers);
+    one_passed(verdict)
 }
 
 // 1 where the check passes, else 0.
@@ -261,7 +261,8 @@ pub extern "C" fn timing_check(
         boxes,
         nodes,
     };
-    one_passed(check(&drawing))
+    let verdict = check(&drawing);
+    one_passed(verdict)
 }
 
 // The depth that is read off the lists, 0 where they are refused.
@@ -283,10 +284,11 @@ pub extern "C" fn timing_depth_read(
         boxes,
         nodes,
     };
-    depth(&drawing).unwrap_or(0)
+    let found = tree::calls::depth(&drawing);
+    depth_read(found)
 }
 
-// How many triangles the search for the nearest few measures for one point, unless the distance is refused, or that many.
+// How many triangles the search for the nearest few measures for one point. A distance is refused, or so many.
 fn measured_at(
     drawing: &Drawing,
     p: Vec3,
@@ -294,11 +296,9 @@ fn measured_at(
     rule: u32,
     most: u32,
 ) -> Result<usize, Refusal>
-    requires { Calls.Searchable drawing.now.triangles.now drawing.now.order.now drawing.now.links.now drawing.now.boxes.now
-        drawing.now.nodes }
-    ensures { Answered.measured result
-        ≡ Answered.measured_at binary32 drawing.now.triangles.now drawing.now.order.now drawing.now.links.now drawing.now.boxes.now
-        drawing.now.nodes distance rule most (Shapes.as_point p) }
+    requires { Calls.Searchable drawing.now.triangles.now drawing.now.order.now drawing.now.links.now drawing.now.boxes.now drawing.now.nodes }
+    ensures { Answered.or_none result ≡ Answered.measured_at binary32 drawing.now.triangles.now drawing.now.order.now drawing.now.links.now
+        drawing.now.boxes.now drawing.now.nodes distance rule most (Shapes.as_point p) }
 {
     distance_refusal(distance)?;
     most_refusal(most)?;
@@ -313,7 +313,7 @@ fn measured_at(
     Ok(search(drawing, probe, rule, most as usize, &mut places))
 }
 
-// And for the first point, 0 where there is none, unless the lists are refused.
+// How many it measures for the first point, none where there is no point. Lists that are no drawing are refused.
 fn measured_first(
     drawing: &Drawing,
     points: &[f32],
@@ -321,18 +321,14 @@ fn measured_first(
     rule: u32,
     most: u32,
 ) -> Result<usize, Refusal>
-    ensures { Answered.measured result
-        ≡ Answered.measured_first binary32 drawing.now.triangles.now drawing.now.order.now drawing.now.links.now drawing.now.boxes.now
-        drawing.now.nodes points.now distance rule most }
+    ensures { Answered.or_none result ≡ Answered.measured_first binary32 drawing.now.triangles.now drawing.now.order.now drawing.now.links.now
+        drawing.now.boxes.now drawing.now.nodes points.now distance rule most }
 {
-    triangles_refusal(drawing.triangles)?;
-    tree_refusal(drawing)?;
-    if points.len() >= 3 {
-        let p = point_at(points, 0);
-        measured_at(drawing, p, distance, rule, most)
-    } else {
-        Ok(0)
+    check(drawing)?;
+    if points.len() < 3 {
+        return Ok(0);
     }
+    measured_at(drawing, point_at(points, 0), distance, rule, most)
 }
 
 // How many triangles the search for the nearest few measures for the first point, 0 where the lists are refused or there is no point.
@@ -358,8 +354,7 @@ pub extern "C" fn timing_measured(
         boxes,
         nodes,
     };
-    let measured = measured_first(&drawing, points, distance, rule, most);
-    measured.unwrap_or(0)
+    measured_first(&drawing, points, distance, rule, most).unwrap_or(0)
 }
 
 // Writes the winding numbers. 1 where they were written, else 0.
@@ -368,22 +363,21 @@ pub extern "C" fn timing_winding(triangles: &[f32], points: &[f32], windings: &m
     ensures passed { result ≡ Answered.one_passed (Windings.winding_refusal triangles.now points.now (length windings.old)) }
     ensures windings { windings.new ≡ Windings.after_winding binary32 triangles.now points.now windings.old }
 {
-    one_passed(winding(triangles, points, windings))
+    let verdict = angles::winding::winding(triangles, points, windings);
+    one_passed(verdict)
 }
 
 // The solid angle of one triangle from one point, a NaN where there are more or fewer.
-#[tactic(auto, unfolding(crate::specs::Answered::angle_of_one))]
 #[unsafe(no_mangle)]
 pub extern "C" fn timing_solid(triangle: &[f32], point: &[f32]) -> f32
     ensures { result ≡ Answered.angle_of_one binary32 triangle.now point.now }
 {
-    if triangle.len() == 9 && point.len() == 3 {
-        let t = triangle_at(triangle, 0);
-        let p = point_at(point, 0);
-        angles::solid_angle::solid_angle(t, p)
-    } else {
-        f32::NAN
+    if triangle.len() != 9 || point.len() != 3 {
+        return 0.0 / 0.0;
     }
+    let t = triangle_at(triangle, 0);
+    let p = point_at(point, 0);
+    angles::solid_angle::solid_angle(t, p)
 }
 
 // Writes the dipoles of all nodes. 1 where they were written, else 0.
@@ -408,7 +402,8 @@ pub extern "C" fn timing_node_sums(
         boxes,
         nodes,
     };
-    one_passed(node_sums(&drawing, sums))
+    let verdict = dipoles::calls::node_sums(&drawing, sums);
+    one_passed(verdict)
 }
 
 // Writes the winding numbers by dipoles. 1 where they were written, else 0.
@@ -437,5 +432,6 @@ pub extern "C" fn timing_fast(
         boxes,
         nodes,
     };
-    one_passed(fast_winding(&drawing, sums, points, accuracy, windings))
+    let verdict = dipoles::calls::fast_winding(&drawing, sums, points, accuracy, windings);
+    one_passed(verdict)
 }

@@ -2,6 +2,7 @@
 // back, and then with another version in their bytes.
 ghost use Rattle.std.specs.Prelude.{◌≤◌};
 
+use crate::put_refusal;
 use image::read::{ImageRead, read_image};
 use image::write::write_image;
 use lists::drawing::Drawing;
@@ -108,13 +109,13 @@ fn try_read(bytes: &[u8], triangles: &mut [f32], order: &mut [u32]) {
     let mut links = [7; 9];
     let mut boxes = [7.0; 18];
     match read_image(bytes, triangles, order, &mut links, &mut boxes) {
+        Err(refusal) => put_refusal(refusal),
         Ok(read) => {
             let same = are_triangles(triangles)
-                && is_order(order)
-                && are_nodes(read.triangles, links, boxes);
+                & is_order(order)
+                & are_nodes(read.triangles, links, boxes);
             put_read(read, same);
         }
-        Err(refusal) => crate::put_refusal(refusal),
     }
 }
 
@@ -140,9 +141,8 @@ fn put_written(bytes: &[u8]) {
 
 // With room for one triangle fewer.
 fn try_fewer(bytes: &[u8], triangles: &mut [f32], order: &mut [u32]) {
-    if order.len() > 0 {
-        let fewer = order.len() - 1;
-        try_read(bytes, triangles, &mut order[0..fewer]);
+    if let Some((_, fewer)) = order.split_last_mut() {
+        try_read(bytes, triangles, fewer);
     }
 }
 
@@ -159,8 +159,6 @@ fn try_written(bytes: &mut [u8], triangles: &mut [f32], order: &mut [u32]) {
 fn try_lists(case: Case, triangles: &mut [f32], order: &mut [u32], out: &mut [u8]) {
     fill_triangles(triangles, 0);
     fill_order(order, 0);
-    let links = links_of(case.triangles);
-    let boxes = boxes_of(case.triangles);
     let settings = Settings {
         strategy: 2,
         leaf_minimum: case.leaf_minimum,
@@ -169,17 +167,17 @@ fn try_lists(case: Case, triangles: &mut [f32], order: &mut [u32], out: &mut [u8
     let drawing = Drawing {
         triangles,
         order,
-        links: &links,
-        boxes: &boxes,
+        links: &links_of(case.triangles),
+        boxes: &boxes_of(case.triangles),
         nodes: 3,
     };
     match write_image(settings, &drawing, out) {
+        Err(refusal) => put_refusal(refusal),
         Ok(end) => {
             if end <= out.len() {
-                try_written(&mut out[0..end], triangles, order);
+                try_written(&mut out[..end], triangles, order);
             }
         }
-        Err(refusal) => crate::put_refusal(refusal),
     }
 }
 
@@ -189,9 +187,9 @@ fn try_case(case: Case, triangles: &mut [f32], order: &mut [u32], out: &mut [u8]
     if count <= order.len() && count <= triangles.len() / 9 && room <= out.len() {
         try_lists(
             case,
-            &mut triangles[0..9 * count],
-            &mut order[0..count],
-            &mut out[0..room],
+            &mut triangles[..9 * count],
+            &mut order[..count],
+            &mut out[..room],
         );
     }
 }

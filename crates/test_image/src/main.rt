@@ -16,22 +16,21 @@ use records::layout::{gauge_layout, image_layout};
 
 mod large;
 
-fn show(line: [u8; 96], end: usize) {
-    if end <= 96 {
-        io::write_all(1, &line[0..end]);
-    }
-}
-
-fn image_line(bytes: &[u8], line: &mut [u8; 96]) -> usize {
+fn image_line(bytes: &[u8], line: &mut [u8; 96]) -> usize
+    ensures { result ≤ 96 }
+{
     match image_layout(bytes) {
-        Ok(counts) => put_counts(line, 0, counts.triangles, counts.nodes, 0),
         Err(wrong) => put_refused(line, 0, 10, wrong.at),
+        Ok(counts) => put_counts(line, 0, counts.triangles, counts.nodes, 0),
     }
 }
 
 // The third count is 1 where there is a measuring rule.
-fn gauge_line(bytes: &[u8], line: &mut [u8; 96]) -> usize {
+fn gauge_line(bytes: &[u8], line: &mut [u8; 96]) -> usize
+    ensures { result ≤ 96 }
+{
     match gauge_layout(bytes) {
+        Err(wrong) => put_refused(line, 0, 10, wrong.at),
         Ok(counts) => put_counts(
             line,
             0,
@@ -39,22 +38,21 @@ fn gauge_line(bytes: &[u8], line: &mut [u8; 96]) -> usize {
             counts.points,
             counts.ruled as usize,
         ),
-        Err(wrong) => put_refused(line, 0, 10, wrong.at),
     }
 }
 
 fn put_layouts(bytes: &[u8]) {
     let mut line = [0; 96];
     let end = image_line(bytes, &mut line);
-    show(line, end);
+    io::write_all(1, &line[..end]);
     let last = gauge_line(bytes, &mut line);
-    show(line, last);
+    io::write_all(1, &line[..last]);
 }
 
 fn put_refusal(refusal: Refusal) {
     let mut line = [0; 96];
     let end = put_refused(&mut line, 0, refusal.number(), refusal.place());
-    show(line, end);
+    io::write_all(1, &line[..end]);
 }
 
 fn put_same(same: bool) {
@@ -69,24 +67,23 @@ fn put_same(same: bool) {
 fn write_tested(bytes: &[u8], settings: Settings, drawing: &Drawing) {
     let mut out = [0; 300];
     match write_image(settings, drawing, &mut out) {
+        Err(refusal) => put_refusal(refusal),
         Ok(end) => {
             if end <= 300 {
-                put_same(check::same(&out[0..end], bytes));
+                put_same(check::same(&out[..end], bytes));
             }
         }
-        Err(refusal) => put_refusal(refusal),
     }
 }
 
 fn write_again(bytes: &[u8], settings: Settings, drawing: &Drawing)
-    requires triangles_len { (length drawing.now.triangles.now ≡ 9 * length drawing.now.order.now)
-        × (length drawing.now.order.now ≤ 4) }
-    requires nodes_in_bounds { (3 * drawing.now.nodes ≤ length drawing.now.links.now)
-        × (6 * drawing.now.nodes ≤ length drawing.now.boxes.now) × (drawing.now.nodes ≤ 7) }
+    requires triangles_len { (length drawing.now.triangles.now ≡ 9 * length drawing.now.order.now) × (length drawing.now.order.now ≤ 4) }
+    requires nodes_in_bounds { (3 * drawing.now.nodes ≤ length drawing.now.links.now) × (6 * drawing.now.nodes ≤ length drawing.now.boxes.now)
+        × (drawing.now.nodes ≤ 7) }
 {
     let mut out = [0; 400];
     let end = put_image(false, settings, drawing, &mut out);
-    put_same(check::same(&out[0..end], bytes));
+    put_same(check::same(&out[..end], bytes));
     write_tested(bytes, settings, drawing);
 }
 
@@ -97,12 +94,12 @@ fn put_contents(bytes: &[u8]) {
     let mut links = [0; 21];
     let mut boxes = [0.0; 42];
     match read_image(bytes, &mut triangles, &mut order, &mut links, &mut boxes) {
+        Err(refusal) => put_refusal(refusal),
         Ok(read) => {
             if read.triangles <= 4 && read.nodes <= 7 {
-                let count = read.triangles;
                 let drawing = Drawing {
-                    triangles: &triangles[0..9 * count],
-                    order: &order[0..count],
+                    triangles: &triangles[..9 * read.triangles],
+                    order: &order[..read.triangles],
                     links: &links,
                     boxes: &boxes,
                     nodes: read.nodes,
@@ -110,7 +107,6 @@ fn put_contents(bytes: &[u8]) {
                 write_again(bytes, read.settings, &drawing);
             }
         }
-        Err(refusal) => put_refusal(refusal),
     }
 }
 

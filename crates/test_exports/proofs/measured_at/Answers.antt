@@ -1,5 +1,5 @@
 -- `test_exports::measured_at` meets its contract: where the distance and so many passed, the walk answers how many triangles it measured.
-use mathlib.Core.Path.{ap, ◌∙◌, sym}
+use mathlib.Core.Path.{refl, ap, ◌∙◌, sym}
 use lib.Ieee.{binary32}
 use Rattle.lists.proofs.Rows.{handed}
 use Rattle.spec_lists.specs.Refusals.{refuses}
@@ -19,18 +19,22 @@ returns-in_err-distance_refusal c =
 pub returns-in_err-most_refusal : goal.returns-in_err-most_refusal
 unfolding measured_at
 returns-in_err-most_refusal c =
-    rw (handed _ _ c.from_residual-in_err-most_refusal.ensures.1)
-    (when _ _ _ (sym (ap refuses c.in_err-most_refusal.ensures)) ∙ unless _ _ _ (sym (ap refuses c.in_ok-distance_refusal.ensures)))
+    rw (handed _ _ c.from_residual-in_err-most_refusal.ensures.1) (when _ _ _ (sym (ap refuses c.in_err-most_refusal.ensures))
+    ∙ unless _ _ _ (sym (ap refuses c.in_ok-distance_refusal.ensures)))
 
-pub search-requires-clause-false_value : goal.search-requires-clause-false_value
+pub search-requires : goal.search-requires
 unfolding limit_squared
-search-requires-clause-false_value c = limit_bounded binary32 _ (distance_passed _ (sym c.in_ok-distance_refusal.ensures))
-
-pub search-requires-clause-le_most : goal.search-requires-clause-le_most
-search-requires-clause-le_most c = most_passed _ (sym c.in_ok-most_refusal.ensures)
+search-requires c =
+    record {
+      searchable = c.requires;
+      false_value = limit_bounded binary32 _ (distance_passed _ (sym c.in_ok-distance_refusal.ensures));
+      le_most = most_passed _ (sym c.in_ok-most_refusal.ensures);
+      lent = record { floats = refl; numbers = refl };
+    }
 
 pub returns : goal.returns
 unfolding limit_squared measured_at
 returns c =
-    c.search.ensures.measured_is ∙ unless _ _ _ (sym (ap refuses c.in_ok-most_refusal.ensures))
+    c.search.ensures.measured_is
+    ∙ unless _ _ _ (sym (ap refuses c.in_ok-most_refusal.ensures))
     ∙ unless _ _ _ (sym (ap refuses c.in_ok-distance_refusal.ensures))
