@@ -4,13 +4,15 @@
 // A case is 68 words: two triangles, a point, then the answers.
 #![tactic(auto)]
 
+ghost use Rattle.std.specs.Prelude.{◌<◌};
+
 use shapes::box3::Box3;
 use shapes::plane3::Plane3;
-use shapes::triangle3::Triangle3;
+use shapes::triangle3::{Part, Spot, Triangle3};
 use shapes::vec3::{Axis, Vec3};
 use test_words::cursor::Cursor;
 use test_words::tally::Tally;
-use test_words::{Word, put_count, read_next};
+use test_words::{Word, pattern_at, put_count, read_next};
 
 // The answers of a case that were not compared yet, and the tally of those that were.
 #[derive(Clone, Copy)]
@@ -36,13 +38,32 @@ fn next_triangle(case: &mut Cursor) -> Triangle3 {
 }
 
 impl<'a> Answers<'a> {
+    fn compare(&mut self, at: usize, ours: u32, theirs: u32) {
+        if ours != theirs {
+            self.tally.differs(b"", at, ours, theirs);
+        }
+    }
+
     fn word<T: Word>(&mut self, ours: T) {
         let at = self.case.at / 4;
-        let word = ours.pattern();
         let theirs = self.case.next();
-        if word != theirs {
-            self.tally.differs(b"", at, word, theirs);
-        }
+        self.compare(at, ours.pattern(), theirs);
+    }
+
+    // The parts stand behind all other words.
+    fn part(&mut self, at: usize, ours: Part)
+        requires { at < 68 }
+    {
+        let theirs = pattern_at(self.case.bytes, 4 * at);
+        self.compare(at, u32::from(ours), theirs);
+    }
+
+    fn spot(&mut self, ours: Spot, p: Vec3, part_at: usize)
+        requires { part_at < 68 }
+    {
+        self.point(ours.point);
+        self.word(ours.point.squared_distance(p));
+        self.part(part_at, ours.part);
     }
 
     fn point(&mut self, ours: Vec3) {
@@ -77,9 +98,7 @@ impl<'a> Answers<'a> {
 
     fn all(&mut self, t: Triangle3, other: Box3, p: Vec3) {
         let b = t.bbox();
-        let closest = t.closest_spot(p);
-        self.point(closest.point);
-        self.word(closest.point.squared_distance(p));
+        self.spot(t.closest_spot(p), p, 66);
         self.bounds(b);
         self.bounds(b.union_box(other));
         self.bounds(b.union_point(p));
@@ -87,11 +106,7 @@ impl<'a> Answers<'a> {
         for axis in [Axis::X, Axis::Y, Axis::Z] {
             self.plane(axis, b, p);
         }
-        let held = t.held_spot(p);
-        self.point(held.point);
-        self.word(held.point.squared_distance(p));
-        self.word(u32::from(closest.part));
-        self.word(u32::from(held.part));
+        self.spot(t.held_spot(p), p, 67);
     }
 }
 

@@ -60,16 +60,20 @@ fn replay(bytes: &[u8]) {
     }
 }
 
-// Replays the next case, if there is one that fits.
-fn replay_next() {
+// Replays the next case. Answers whether there was one that fits.
+fn replay_next() -> bool {
     let mut all = [0u8; 512];
-    if let Some(bytes) = read_case(&mut all) {
-        replay(bytes);
-    }
+    let Some(bytes) = read_case(&mut all) else {
+        return false;
+    };
+    replay(bytes);
+    true
 }
 
 fn main() {
     for _ in 0..2000 {
-        replay_next();
+        if !replay_next() {
+            return;
+        }
     }
 }
