@@ -16,6 +16,7 @@ use lists::tests::{scale_refusal, triangles_refusal};
 use tree::calls::tree_refusal;
 
 // The first of the tests 1 to 4, 6, 71 to 75, 8 and 14 that refuses.
+// Kept: (d) beside `dipoles::tests`: `fast_refusal(drawing, sums, room / 4, count, accuracy, || point_bytes_refusal(points))` is as long.
 fn fast_refusal(
     drawing: &Drawing,
     sums: &[f32],

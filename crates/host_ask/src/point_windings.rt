@@ -12,6 +12,7 @@ use lists::refusal::{Refusal, room_refusal};
 use lists::tests::triangles_refusal;
 
 // The first of the tests 1 to 4, 6 and 8 that refuses.
+// Kept: (d) beside `angles::winding`: `winding_refusal(triangles, room / 4, count, || point_bytes_refusal(points))` is as long as the row itself.
 fn winding_refusal(triangles: &[f32], points: &[u8], room: usize) -> Result<(), Refusal>
     ensures { as_verdict result ≡ winding_bytes_refusal triangles.now points.now room }
 {

@@ -31,6 +31,7 @@ pub fn put_answer_bytes(out: &mut [u8], at: usize, answer: Option<Hit>)
 }
 
 // Writes the answers in all places, the nearest first, from `at` on.
+// Kept: (d) beside `walks::words::put_places`: as `put_places(&mut words, 0, places); put_numbers::<4>(..)` all answers pass through words once more.
 pub fn put_places_bytes(out: &mut [u8], at: usize, places: &Places)
     requires which_bound { Kept.most_of places.now.which ≤ most_few }
     requires which_in_bounds { at + answer_size * Kept.most_of places.now.which ≤ length out.old }

@@ -9,7 +9,7 @@ pub returns-then-answers-first-eq0 : goal.returns-then-answers-first-eq0
 returns-then-answers-first-eq0 c =
     record {
       put = put_same (nothing_words c.args.answers.now c.args.k c.if-answers-first-eq0.true) c.put_nothing.ensures.put;
-      upper_bound = omega (arith, c.put_nothing.ensures.upper_bound);
+      upper_bound = omega arith;
     }
 
 pub returns : goal.returns

@@ -6,7 +6,7 @@ use Rattle.gauge_run.proofs.answer_lines.put_answer_lines.Goals as goal
 
 pub loop-k-init : goal.loop-k-init
 loop-k-init c =
-    lined_start (words_line c.args.answers.now) c.args.at c.args.count c.args.out.now (omega (arith, c.requires.1))
+    lined_start (words_line c.args.answers.now) c.args.at c.args.count c.args.out.now (omega arith)
 
 pub loop-k-preserved : goal.loop-k-preserved
 loop-k-preserved c =

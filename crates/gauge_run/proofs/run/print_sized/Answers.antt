@@ -11,9 +11,9 @@ pub print_request-requires : goal.print_request-requires
 print_request-requires c =
     let n = c.args.counts in
     fits n.triangles n.points _ _ _
-    (length-take-le _ _ (omega (arith, c.requires.ruled_value.0, c.requires.ruled_value.1)))
-    (length-take-le _ _ (omega (arith, c.requires.ruled_value.0, c.requires.ruled_value.1)))
-    (omega (arith, c.requires.ruled_value.0, c.requires.ruled_value.1)) c.requires.max_printed_in_bounds
+    (length-take-le _ _ (omega arith))
+    (length-take-le _ _ (omega arith))
+    (omega arith) c.requires.max_printed_in_bounds
 
 pub returns : goal.returns
 returns c =

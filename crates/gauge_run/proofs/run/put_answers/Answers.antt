@@ -15,7 +15,7 @@ put_answer_lines-requires c =
     let d = c.args.drawing.now in
     let p = query_passed (sure request.rule) d.triangles.now d.order.now d.links.now d.boxes.now d.nodes request.points.now
     request.distance (answer_width * max_points) c.requires.max_points_value in
-    (omega (arith, p.1, c.point_count.ensures), omega (arith, c.requires.points_in_bounds, c.point_count.ensures))
+    (omega (arith, p.1), omega arith)
 
 pub returns : goal.returns
 returns c =

@@ -19,13 +19,7 @@ put_answers-requires c =
     let request = as_request c.args.request.now in record {
       max_points_value = query_passes request (all_passed request c.requires.rule_value) c.in-Ok.ensures _
           c.triangle_count-count.ensures c.requires.fits.points_few;
-      points_in_bounds = omega (
-        arith,
-        c.put_counts-next.ensures.upper_bound,
-        put_long c.put_counts-next.ensures.put,
-        c.requires.fits.room,
-        c.requires.fits.points_few,
-      );
+      points_in_bounds = omega (arith, put_long c.put_counts-next.ensures.put);
     }
 
 pub returns : goal.returns

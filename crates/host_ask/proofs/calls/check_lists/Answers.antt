@@ -1,8 +1,8 @@
 -- `host_ask::calls::check_lists` meets its contract: the verdict of the check as a status.
 use mathlib.Core.Path.{sym, subst, ◌∙◌}
-use Rattle.spec_host.specs.Status.{status, InPlace}
+use Rattle.spec_host.specs.Status.{InPlace}
 use Rattle.spec_host.proofs.Requests.{check_encodable}
-use Rattle.host_bytes.proofs.Counted.{counted_verdict, counted_status}
+use Rattle.host_bytes.proofs.Counted.{counted_verdict}
 use Rattle.host_ask.proofs.calls.check_lists.Goals as goal
 
 pub encode-requires : goal.encode-requires
@@ -10,7 +10,3 @@ encode-requires c =
     let a = c.args in
     subst InPlace (sym (counted_verdict _ _ _ c.and.ensures ∙ c.check-checked.ensures))
     (check_encodable a.triangles.now a.order.now a.links.now a.boxes.now a.nodes)
-
-pub returns : goal.returns
-returns c =
-    c.encode.ensures ∙ counted_status _ _ _ c.and.ensures ∙ (λ i. status (c.check-checked.ensures i) (c.triangle_count.ensures i))

@@ -16,11 +16,3 @@ returns-in-Sure c =
     (c.put_few.ensures
     ∙ ap (λ (new : List ℕ). overwrite 0 new a.answers.now)
     (answer_bytes_same 1 _ _ a.points.now (one_is_sure binary32 (rule_of _) a.drawing.now.triangles.now a.distance)))
-
-pub returns-in-Few : goal.returns-in-Few
-returns-in-Few c =
-    rw c.in-Few.is c.put_few-in-Few.ensures
-
-pub returns-in-Source : goal.returns-in-Source
-returns-in-Source c =
-    rw c.in-Source.is c.put_source.ensures
