@@ -39,11 +39,7 @@ pub fn box_at(bounds: &[f32], t: u32) -> Box3
 pub fn place_of(axis: Axis) -> usize
     ensures { result ≡ Splits.place (Shapes.as_axis axis) }
 {
-    match axis {
-        Axis::X => 0,
-        Axis::Y => 1,
-        Axis::Z => 2,
-    }
+    axis as usize
 }
 
 // The centre of the box of triangle t on one axis.
