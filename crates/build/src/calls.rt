@@ -54,10 +54,10 @@ fn grow_tree(
         bounds,
         centres,
         strategy: settings.strategy,
+        leaf_minimum: settings.leaf_minimum,
     };
     let grown = grow(
         &cutter,
-        settings.leaf_minimum,
         settings.maximum_depth.saturating_sub(1),
         &mut order[..count],
         scratch,

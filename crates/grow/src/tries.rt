@@ -18,13 +18,15 @@ use splits::median::median_split;
 use splits::strategy::Strategy;
 use splits::table::union_of;
 
-// What cuts slices: the table of the triangles' boxes, that of their centres, and the strategy.
+// What cuts slices, the same all the way down: the table of the triangles' boxes, that of their centres, the strategy,
+// and up to how many triangles make a leaf.
 // Kept: (a) the strategy by its number, since `GrownIs` says what is grown for any number; `rule` reads it.
 #[derive(Clone, Copy)]
 pub struct Cutter<'a> {
     pub bounds: &'a [f32],
     pub centres: &'a [f32],
     pub strategy: usize,
+    pub leaf_minimum: usize,
 }
 
 impl Cutter<'_> {

@@ -19,8 +19,13 @@ as_bucket s = record { count = s.count; bounds = as_box s.bounds }
 abbrev pub as_buckets : Buckets → List Buckets.Bucket
 as_buckets s = map as_bucket s.each
 
+-- the cheapest of the first n costs
+abbrev pub cheapest_among : ℕ → Cheapest → Area.Cheapest
+cheapest_among n s = record { seen = n; index = s.index; cost = s.cost; are_numbers = s.are_numbers }
+
+-- of the costs of all the 11 cuts
 abbrev pub as_cheapest : Cheapest → Area.Cheapest
-as_cheapest s = record { seen = s.seen; index = s.index; cost = s.cost; are_numbers = s.are_numbers }
+as_cheapest s = cheapest_among 11 s
 
 -- the bucket of a box by where its centre lies on an axis between these ends
 abbrev pub bucket_in : Span → Box → ℕ

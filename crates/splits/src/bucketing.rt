@@ -15,14 +15,7 @@ use shapes::vec3::Axis;
 fn bucket_for(offset: f32) -> usize
     ensures { result ≡ Area.bucket_for binary32 offset }
 {
-    let x = Buckets::COUNT_F32 * offset;
-    if x >= Buckets::LAST_F32 {
-        return Buckets::LAST;
-    }
-    if x >= 0.0 {
-        return std::num::truncating_f32_to_u64(x) as usize;
-    }
-    0
+    floats::cut(Buckets::COUNT_F32 * offset).min(Buckets::LAST)
 }
 
 // The lowest and the highest centre on an axis.

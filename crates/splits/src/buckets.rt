@@ -60,10 +60,8 @@ impl Buckets {
 
     pub const CUTS: usize = Buckets::COUNT - 1;
 
-    // The count and the last as floats: an offset is scaled by the one and cut at the other.
+    // The count as a float, by which an offset is scaled.
     pub const COUNT_F32: f32 = 12.0;
-
-    pub const LAST_F32: f32 = 11.0;
 
     // Twelve empty buckets.
     pub fn empty() -> Buckets

@@ -1,5 +1,5 @@
 // The cost of each cut between two buckets, and the first of the smallest costs.
-ghost use Rattle.std.specs.Prelude.{◌≡◌, ◌<◌};
+ghost use Rattle.std.specs.Prelude.{◌≡◌, ◌+◌};
 ghost use Rattle.std.specs.Float.{binary32};
 ghost use Rattle.shapes.specs.Values as Shapes;
 ghost use Rattle.spec_splits.specs.Buckets as Spec;
@@ -12,7 +12,6 @@ use shapes::box3::Box3;
 // The first smallest of the costs seen so far, and whether each was a number.
 #[derive(Clone, Copy)]
 pub struct Cheapest {
-    pub seen: usize,
     pub index: usize,
     pub cost: f32,
     pub are_numbers: bool,
@@ -69,33 +68,28 @@ pub fn costs_of(buckets: Buckets, parent: Box3) -> [f32; Buckets::CUTS]
 impl Cheapest {
     // No cost was seen yet.
     fn none_yet() -> Cheapest
-        ensures { Values.as_cheapest result ≡ Area.none_yet }
+        ensures { Values.cheapest_among 0 result ≡ Area.none_yet }
     {
         Cheapest {
-            seen: 0,
             index: 0,
             cost: f32::INFINITY,
             are_numbers: true,
         }
     }
 
-    // One cost more was seen.
-    fn with_cost(self, cost: f32) -> Cheapest
-        requires { self.seen < 11 }
-        ensures { Values.as_cheapest result ≡ Area.with_cost (Values.as_cheapest self) cost }
+    // The cost of the cut after bucket i was seen too.
+    fn with_cost(self, i: usize, cost: f32) -> Cheapest
+        ensures { Values.cheapest_among (i + 1) result ≡ Area.with_cost (Values.cheapest_among i self) cost }
     {
-        let seen = self.seen + 1;
         let are_numbers = self.are_numbers & !cost.is_nan();
         if cost < self.cost {
             return Cheapest {
-                seen,
-                index: self.seen,
+                index: i,
                 cost,
                 are_numbers,
             };
         }
         Cheapest {
-            seen,
             are_numbers,
             ..self
         }
@@ -107,8 +101,8 @@ pub fn cheapest_of(costs: [f32; Buckets::CUTS]) -> Cheapest
     ensures { Values.as_cheapest result ≡ Area.cheapest_of costs }
 {
     let mut best = Cheapest::none_yet();
-    for cost in costs {
-        best = best.with_cost(cost);
+    for (i, cost) in costs.iter().enumerate() {
+        best = best.with_cost(i, *cost);
     }
     best
 }

@@ -13,8 +13,8 @@ use shapes::vec3::Axis;
 
 // The plane across the axis, half way between the centres of two triangles' boxes.
 fn plane_between(bounds: &[f32], axis: Axis, above: u32, below: u32) -> Plane3
-    requires in_table { Splits.InTable bounds.now above }
-    requires in_table_2 { Splits.InTable bounds.now below }
+    requires above_in_table { Splits.InTable bounds.now above }
+    requires below_in_table { Splits.InTable bounds.now below }
     ensures { Shapes.as_plane result
         ≡ Median.plane_between binary32 (Shapes.as_axis axis) (Splits.box_in bounds.now above) (Splits.box_in bounds.now below) }
 {

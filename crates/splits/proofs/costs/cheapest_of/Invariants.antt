@@ -2,9 +2,9 @@
 use Rattle.std.proofs.Common.{◌≡◌, drop}
 use mathlib.Core.List.{foldl}
 use Rattle.spec_splits.specs.Area.{with_cost, cheapest_of}
-use Rattle.splits.specs.Values.{as_cheapest}
+use Rattle.splits.specs.Values.{cheapest_among}
 use Rattle.splits.proofs.costs.cheapest_of.Given as goal
 
-abbrev pub invariant-loop-cost : goal.invariant-loop-cost
-invariant-loop-cost l =
-    (l.best.seen ≡ l.cost-index) × (foldl with_cost (as_cheapest l.best) (drop l.cost-index l.cost-items) ≡ cheapest_of l.fn.costs)
+abbrev pub invariant-loop-i : goal.invariant-loop-i
+invariant-loop-i l =
+    foldl with_cost (cheapest_among l.i l.best) (drop l.i l.fn.costs) ≡ cheapest_of l.fn.costs
