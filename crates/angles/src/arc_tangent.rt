@@ -179,6 +179,16 @@ impl ArcTable {
         let to = self.entry_at(k + 1);
         from + (to - from) * (u % 0x100000) / 0x100000
     }
+
+    // The size of the angle in units of 2^-30, before it is rounded.
+    fn angle_of(&self, n: f32, d: f32) -> u64
+        requires { Angle.Askable n d }
+        ensures { result ≡ Angle.angle binary32 n d }
+    {
+        let arc = self.arc_of(units_of(ratio_of(n, d)));
+        let steep = floats::absolute(n) > floats::absolute(d);
+        mirrored(HALF_TURN, d < 0.0, mirrored(QUARTER_TURN, steep, arc))
+    }
 }
 
 // The smaller magnitude over the larger, rounded: from 0 to 1.
@@ -206,16 +216,6 @@ fn mirrored(turn: u64, back: bool, a: u64) -> u64
     if back { turn - a } else { a }
 }
 
-// The size of the angle in units of 2^-30, before it is rounded.
-fn angle_of(table: &ArcTable, n: f32, d: f32) -> u64
-    requires { Angle.Askable n d }
-    ensures { result ≡ Angle.angle binary32 n d }
-{
-    let arc = table.arc_of(units_of(ratio_of(n, d)));
-    let steep = floats::absolute(n) > floats::absolute(d);
-    mirrored(HALF_TURN, d < 0.0, mirrored(QUARTER_TURN, steep, arc))
-}
-
 // a / 2^30 with a sign. Only the first step rounds.
 fn rounded(negative: bool, a: u32) -> f32
     ensures { result ≡ round binary32 negative a (2 ^ 30) }
@@ -229,7 +229,7 @@ pub fn arc_tangent(table: &ArcTable, n: f32, d: f32) -> f32
     requires { Angle.Askable n d }
     ensures { result ≡ Angle.arc_tangent binary32 n d }
 {
-    rounded(n < 0.0, angle_of(table, n, d) as u32)
+    rounded(n < 0.0, table.angle_of(n, d) as u32)
 }
 
 // The arc tangent of n / d by the lent table, or a NaN where it has none.

@@ -5,6 +5,7 @@ ghost use Rattle.shapes.specs.Values as Shapes;
 ghost use Rattle.lists.specs.Values as Values;
 ghost use Rattle.spec_lists.specs.Reading as Reading;
 ghost use Rattle.spec_angles.specs.Windings as Windings;
+ghost use Rattle.angles.specs.Windings.{Written};
 
 use crate::arc_tangent::{ArcTable, arc_table};
 use crate::solid_angle::solid_angle_by;
@@ -33,14 +34,14 @@ pub fn winding_number(triangles: &[f32], q: Vec3) -> f32
     winding_number_by(&table, triangles, q)
 }
 
-// Writes one winding number a point to the front of `out`. The table is laid out once for all of them.
-fn write_windings(triangles: &[f32], points: &[f32], out: &mut [f32])
-    requires { Reading.point_count points.now ≤ length out.old }
-    ensures { out.new ≡ Windings.written binary32 triangles.now points.now out.old }
+// Writes what `winding` computes about each point, one number a point, to the front of `out`.
+pub fn put_windings<F: Fn(Vec3) -> f32>(points: &[f32], winding: F, out: &mut [f32])
+    requires callable { F.IsAlwaysCallable winding }
+    requires room { Reading.point_count points.now ≤ length out.old }
+    ensures { Written (F.post winding) points.now out.old out.new }
 {
-    let table = arc_table();
     for k in 0..point_count(points) {
-        out[k] = winding_number_by(&table, triangles, point_at(points, 3 * k));
+        out[k] = winding(point_at(points, 3 * k));
     }
 }
 
@@ -54,11 +55,13 @@ fn winding_refusal(triangles: &[f32], points: &[f32], room: usize) -> Result<(),
 }
 
 // Writes the winding number of the triangles about each point to the front of `out`, one f32 a point. A refusal changes nothing.
+// The table of arc tangents is laid out once for all of them.
 pub fn winding(triangles: &[f32], points: &[f32], out: &mut [f32]) -> Result<(), Refusal>
     ensures verdict { Values.as_verdict result ≡ Windings.winding_refusal triangles.now points.now (length out.old) }
     ensures windings { out.new ≡ Windings.after_winding binary32 triangles.now points.now out.old }
 {
     winding_refusal(triangles, points, out.len())?;
-    write_windings(triangles, points, out);
+    let table = arc_table();
+    put_windings(points, |p| winding_number_by(&table, triangles, p), out);
     Ok(())
 }

@@ -12,11 +12,10 @@ use crate::stored::{make_dipoles, store_sums};
 use crate::tests::{fast_refusal, sums_refusal};
 use crate::walk::{Probe, walk};
 use angles::arc_tangent::{ArcTable, arc_table};
+use angles::winding::put_windings;
 use lists::drawing::Drawing;
 use lists::limits;
-use lists::reading::point_at;
 use lists::refusal::Refusal;
-use lists::tests::point_count;
 use shapes::vec3::Vec3;
 
 // Writes the dipole of each node to the front of `sums`, sixteen numbers a node: first order 3, second order 9 by columns, radius, centre 3.
@@ -69,9 +68,11 @@ fn write_windings(drawing: &Drawing, sums: &[f32], points: &[f32], accuracy: f32
         drawing.now.links.now drawing.now.nodes sums.now accuracy points.now) out.old }
 {
     let table = arc_table();
-    for k in 0..point_count(points) {
-        out[k] = fast_winding_by(&table, drawing, sums, accuracy, point_at(points, 3 * k));
-    }
+    put_windings(
+        points,
+        |p| fast_winding_by(&table, drawing, sums, accuracy, p),
+        out,
+    );
 }
 
 // Writes the winding number about each point, by the dipoles that are lent, to the front of `out`, one f32 a point.

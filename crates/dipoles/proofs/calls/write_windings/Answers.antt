@@ -1,22 +1,12 @@
--- `dipoles::calls::write_windings` meets its contract. The invariant: the first k winding numbers stand in `out`.
-use native.Mathlib.Omega.{arith}
-use Rattle.spec_lists.proofs.Reading.{point_inside}
-use Rattle.spec_angles.proofs.Windings.{about_start, about_more}
-use Rattle.spec_dipoles.proofs.Windings.{fast_end}
+-- `dipoles::calls::write_windings` meets its contract: the numbers that are computed are those by dipoles.
+use lib.Ieee.{binary32}
+use Rattle.std.proofs.Common.{rules}
+use Rattle.spec_dipoles.specs.Calls.{fast_about, fast_windings}
 use Rattle.dipoles.proofs.calls.write_windings.Goals as goal
 
-pub loop-k-init : goal.loop-k-init
-loop-k-init c = about_start _ _ _ _
-
-pub point_at-requires : goal.point_at-requires
-point_at-requires c =
-    point_inside _ _ (rw c.point_count-k-end.ensures at c.loop-k-test.true)
-
-pub loop-k-preserved : goal.loop-k-preserved
-loop-k-preserved c =
-    about_more _ _ _ _ _ _ _ _ (omega (arith, c.requires.room, c.point_count-k-end.ensures)) c.loop-k-test.true c.loop-k.invariant
-    c.point_at.ensures c.fast_winding_by.ensures
-
 pub returns : goal.returns
+unfolding fast_windings
 returns c =
-    fast_end _ _ _ _ _ _ _ _ _ _ _ _ c.point_count-k-end.ensures c.loop-k-test.false c.loop-k.invariant
+    let a = c.args in
+    let d = a.drawing.now in
+    c.put_windings.ensures (fast_about binary32 d.triangles.now d.order.now d.links.now d.nodes a.sums.now a.accuracy) (λ p r e. search rules)

@@ -1,4 +1,4 @@
--- `angles::arc_tangent::angle_of` meets its contract: the ratio, its units, their arc, and the arc mirrored into its quadrant.
+-- `angles::arc_tangent::ArcTable::angle_of` meets its contract: the ratio, its units, their arc, and the arc mirrored into its quadrant.
 use Rattle.std.proofs.Common.{◌≡◌, ℕ, ◌^◌, ◌≤◌, Bool, refl, le_trans, lit≤}
 use lib.Ieee.{Float, binary32, lt, of_bits}
 use Rattle.spec_numbers.specs.Values.{zero, abs}
@@ -6,7 +6,7 @@ use Rattle.spec_angles.specs.Angle.{Askable, AtMostOne, ratio, in_units, arc, qu
 use Rattle.spec_angles.proofs.Ratio.{ratio_at_most_one}
 use Rattle.spec_angles.proofs.InUnits.{in_units_few}
 use Rattle.spec_angles.proofs.Arc.{arc_most, mirrored_most}
-use Rattle.angles.proofs.arc_tangent.angle_of.Goals as goal
+use Rattle.angles.proofs.arc_tangent.ArcTable.angle_of.Goals as goal
 
 -- the steps one after another: the ratio t, its units u, the arc v, and the arc in its quarter w
 module _ (n d t : Float) (k : Askable n d) (T' : t ≡ ratio binary32 n d) where
