@@ -6,7 +6,7 @@ ghost use Rattle.spec_records.specs.Layouts.{is_known, settings_right, triangles
 ghost use Rattle.records.specs.Values.{body_if};
 
 use crate::numbers::{u16_at, u32_at};
-use crate::versions::{is_wide, version};
+use crate::versions::Version;
 
 // The size of the body of a record of this kind that lies within the bytes.
 pub fn body_at(bytes: &[u8], at: usize, kind: u32) -> Option<usize>
@@ -52,5 +52,5 @@ pub fn triangles_body(bytes: &[u8]) -> Option<usize>
     ensures { result ≡ body_if (is_right 2 (triangles_right (little_at 2 bytes.now 6)) bytes.now 14) (size_at bytes.now 14) }
 {
     let size = whole_body(bytes, 14, 2, 36)?;
-    (version(is_wide(size / 36)) == u16_at(bytes, 6)).then_some(size)
+    (Version::of(size / 36).number() == u16_at(bytes, 6)).then_some(size)
 }

@@ -7,7 +7,7 @@ ghost use Rattle.lists.specs.declared.refusal.Refusal.TheVariants.{BadLayout};
 ghost use Rattle.records.specs.Values.{opening_of, TreeNext, image_laid, gauge_laid};
 
 use crate::bodies::{has_body, has_settings, triangles_body, whole_body};
-use crate::versions::{is_wide, node_size, order_size};
+use crate::versions::Version;
 use lists::refusal::Refusal;
 
 // The offset of the first wrong record.
@@ -82,8 +82,13 @@ pub fn image_layout(bytes: &[u8]) -> Result<ImageCounts, WrongRecord>
 {
     let triangles = opening_of(bytes)?;
     let count = triangles / 36;
-    let wide = is_wide(count);
-    tree_layout(bytes, triangles, order_size(wide, count), node_size(wide))
+    let version = Version::of(count);
+    tree_layout(
+        bytes,
+        triangles,
+        version.order_size(count),
+        version.node_size(),
+    )
 }
 
 // The layout of an input of `gauge` whose triangles' body has this size.
