@@ -1,4 +1,4 @@
-pub mod Wide
+pub mod Versions
 pub mod Links
 pub mod RoundTrip
 pub mod Taken

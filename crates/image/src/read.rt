@@ -7,7 +7,7 @@ use crate::get::{read_lists, settings_of};
 use lists::refusal::Refusal;
 use lists::settings::Settings;
 use records::layout::image_layout;
-use records::versions::is_wide;
+use records::versions::Version;
 
 // How many entries the lent lists have.
 #[derive(Clone, Copy)]
@@ -60,9 +60,9 @@ pub fn read_image(
     if !has_room(rooms, counts.triangles, counts.nodes) {
         return Err(Refusal::NoRoom);
     }
-    let wide = is_wide(counts.triangles);
+    let version = Version::of(counts.triangles);
     read_lists(
-        wide,
+        version,
         bytes,
         counts.triangles,
         counts.nodes,
@@ -72,7 +72,7 @@ pub fn read_image(
         boxes,
     );
     Ok(ImageRead {
-        settings: settings_of(bytes, wide),
+        settings: settings_of(bytes, version),
         triangles: counts.triangles,
         nodes: counts.nodes,
     })

@@ -1,19 +1,20 @@
-// How many bytes an image has, and whether the lent bytes have room for it. A wide image is one of version 2.
+// How many bytes an image has, and whether the lent bytes have room for it.
 ghost use Rattle.std.specs.Prelude.{◌≡◌, ◌+◌, ◌*◌, ◌≤◌, ◌<◌, ◌^◌, ltb};
-ghost use Rattle.spec_records.specs.Layouts.{shape_by, version_for, node_size, image_size};
+ghost use Rattle.spec_records.specs.Layouts.{version_for, node_size, image_size};
 ghost use Rattle.spec_lists.specs.Limits.{max_triangles};
 ghost use Rattle.spec_lists.specs.Refusals as Refusals;
 ghost use Rattle.lists.specs.Values.{as_verdict};
+ghost use Rattle.records.specs.Values.{shape_of};
 
 use lists::refusal::{Refusal, refused_if};
-use records::versions::{is_wide, node_size, order_size};
+use records::versions::Version;
 
 // How many bytes so many nodes take.
-pub fn nodes_size(wide: bool, nodes: usize) -> usize
+pub fn nodes_size(version: Version, nodes: usize) -> usize
     requires { 34 * nodes < 2 ^ 64 }
-    ensures { result ≡ node_size (shape_by wide) * nodes }
+    ensures { result ≡ node_size (shape_of version) * nodes }
 {
-    node_size(wide) * nodes
+    version.node_size() * nodes
 }
 
 // How many bytes the image of that many triangles and nodes has.
@@ -21,8 +22,8 @@ pub fn image_size(triangles: usize, nodes: usize) -> usize
     requires { 32 + 40 * triangles + 34 * nodes < 2 ^ 64 }
     ensures { result ≡ image_size (version_for triangles) triangles nodes }
 {
-    let wide = is_wide(triangles);
-    32 + 36 * triangles + order_size(wide, triangles) + nodes_size(wide, nodes)
+    let version = Version::of(triangles);
+    32 + 36 * triangles + version.order_size(triangles) + nodes_size(version, nodes)
 }
 
 // Whether `given` bytes are too few. The node count may be any number, so it is compared with the room before it is multiplied.

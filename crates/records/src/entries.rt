@@ -6,9 +6,10 @@ ghost use Rattle.std.specs.Float.Ieee.{of_bits};
 ghost use Rattle.spec_tables.specs.Tables.{overwrite, Put};
 ghost use Rattle.spec_records.specs.Little.{little_at};
 ghost use Rattle.spec_records.specs.Entries.{number_bytes, float_bytes, numbers_in, floats_in};
-ghost use Rattle.spec_records.specs.Layouts.{shape_by};
+ghost use Rattle.records.specs.Values.{shape_of};
 
 use crate::numbers::{number_at, put_number, put_u32, u32_at};
+use crate::versions::Version;
 use floats::{bits_of, from_bits};
 
 // Writes SIZE bytes an entry, its lowest, from byte `at` on.
@@ -30,23 +31,22 @@ pub fn put_numbers<const SIZE: usize>(
     next
 }
 
-// Writes four bytes an entry where the image is wide, else two.
+// Writes as many bytes an entry as the version has.
 pub fn put_entries(
-    wide: bool,
+    version: Version,
     entries: &[u32],
     from: usize,
     count: usize,
     out: &mut [u8],
     at: usize,
 ) -> usize
-    requires { (from + count ≤ length entries.now) × (at + (shape_by wide).entry * count ≤ length out.old) }
-    ensures put { Put at (number_bytes (shape_by wide).entry entries.now from count) out.old out.new result }
-    ensures value { result ≡ at + (shape_by wide).entry * count }
+    requires { (from + count ≤ length entries.now) × (at + (shape_of version).entry * count ≤ length out.old) }
+    ensures put { Put at (number_bytes (shape_of version).entry entries.now from count) out.old out.new result }
+    ensures value { result ≡ at + (shape_of version).entry * count }
 {
-    if wide {
-        put_numbers::<4>(entries, from, count, out, at)
-    } else {
-        put_numbers::<2>(entries, from, count, out, at)
+    match version {
+        Version::One => put_numbers::<2>(entries, from, count, out, at),
+        Version::Two => put_numbers::<4>(entries, from, count, out, at),
     }
 }
 
@@ -81,22 +81,21 @@ pub fn read_numbers<const SIZE: usize>(
     }
 }
 
-// Leaves the entries, four bytes each where the image is wide, else two, in `out` from index `at` on.
+// Leaves the entries, each of as many bytes as the version has, in `out` from index `at` on.
 pub fn read_entries(
-    wide: bool,
+    version: Version,
     bytes: &[u8],
     start: usize,
     count: usize,
     out: &mut [u32],
     at: usize,
 )
-    requires { (start + (shape_by wide).entry * count ≤ length bytes.now) × (at + count ≤ length out.old) }
-    ensures { out.new ≡ overwrite at (numbers_in (shape_by wide).entry bytes.now start count) out.old }
+    requires { (start + (shape_of version).entry * count ≤ length bytes.now) × (at + count ≤ length out.old) }
+    ensures { out.new ≡ overwrite at (numbers_in (shape_of version).entry bytes.now start count) out.old }
 {
-    if wide {
-        read_numbers::<4>(bytes, start, count, out, at);
-    } else {
-        read_numbers::<2>(bytes, start, count, out, at);
+    match version {
+        Version::One => read_numbers::<2>(bytes, start, count, out, at),
+        Version::Two => read_numbers::<4>(bytes, start, count, out, at),
     }
 }
 

@@ -3,7 +3,7 @@ use Rattle.spec_tables.proofs.Runs.{puts_start, puts_more}
 use Rattle.image.proofs.put.put_nodes.Goals as goal
 
 pub loop-node-init : goal.loop-node-init
-loop-node-init c = puts_start _ _ _ _ _ c.requires.nodes_in_bounds_2
+loop-node-init c = puts_start _ _ _ _ _ c.requires.room_for_nodes
 
 pub loop-node-preserved : goal.loop-node-preserved
 loop-node-preserved c =

@@ -5,7 +5,6 @@ use Rattle.spec_image.proofs.Versions.{size_least}
 use Rattle.lists.specs.declared.refusal.Refusal.TheVariants.{NoRoom}
 use Rattle.lists.proofs.Rows.{handed}
 use Rattle.image.specs.Values.{rooms_in}
-use Rattle.image.proofs.Wide.{version_picked}
 use Rattle.image.proofs.Taken.{read_nothing, answer_wrong, image_long, answer_by_room, enough}
 use Rattle.image.proofs.read.read_image.Goals as goal
 
@@ -35,8 +34,8 @@ read_lists-requires c =
     let long = image_long a.bytes.now _ _ c.in_ok-counts.ensures in
     let room = enough (rooms_in a.triangles.now a.order.now a.links.now a.boxes.now) _ _
     (sym c.has_room.ensures ∙ c.if-not-has_room.false) in
-    let version = version_picked c.in_ok-counts.counts.triangles c.is_wide-wide.ensures in
-    record { nodes_in_bounds = rw version (omega (arith, long)); count_in_bounds = (room.triangles, room.order); nodes_in_bounds_2 = (room.links, room.boxes) }
+    let version = c.of-version.ensures in
+    record { nodes_in_bounds = rw version (omega (arith, long)); count_in_bounds = (room.triangles, room.order); room_for_nodes = (room.links, room.boxes) }
 
 pub settings_of-requires : goal.settings_of-requires
 settings_of-requires c = omega (arith, image_long c.args.bytes.now _ _ c.in_ok-counts.ensures)
@@ -47,5 +46,5 @@ returns c =
     let rooms = rooms_in a.triangles.now a.order.now a.links.now a.boxes.now in
     let answer = answer_by_room a.bytes.now _ _ c.in_ok-counts.ensures rooms in
     let room = sym c.has_room.ensures ∙ c.if-not-has_room.false in
-    let version = version_picked c.in_ok-counts.counts.triangles c.is_wide-wide.ensures in
+    let version = c.of-version.ensures in
     record { answer = rw (answer, room, c.settings_of.ensures, version); filled = rw version at c.read_lists.ensures }

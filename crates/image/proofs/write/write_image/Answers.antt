@@ -1,6 +1,6 @@
 -- `image::write::write_image` meets its contract: the tests, then the image.
 use Rattle.lists.proofs.Rows.{handed}
-use Rattle.image.proofs.Wide.{version_counted}
+use Rattle.image.proofs.Versions.{version_counted}
 use Rattle.image.proofs.Wrote.{wrote_nothing, can_put, wrote_image}
 use Rattle.image.proofs.write.write_image.Goals as goal
 
@@ -10,11 +10,11 @@ returns-in_err-write_refusal c =
 
 pub put_image-requires : goal.put_image-requires
 put_image-requires c =
-    let version = version_counted _ c.is_wide-wide.ensures c.triangle_count.ensures in
+    let version = version_counted _ c.of-version.ensures c.triangle_count.ensures in
     let fits = can_put _ _ c.in_ok-write_refusal.ensures in
     rw version (record { complete = fits.0; nodes_in_bounds = fits.1 })
 
 pub returns : goal.returns
 returns c =
-    let version = version_counted _ c.is_wide-wide.ensures c.triangle_count.ensures in
+    let version = version_counted _ c.of-version.ensures c.triangle_count.ensures in
     wrote_image _ _ c.in_ok-write_refusal.ensures (rw version at c.put_image.ensures.put) (rw version at c.put_image.ensures.value)

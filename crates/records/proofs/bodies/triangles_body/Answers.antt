@@ -1,12 +1,11 @@
 -- `records::bodies::triangles_body` meets its contract: where whole triangles are there their number must suit the version.
 use mathlib.Core.Path.{ap, ◌∙◌}
-use Prim.Native.Nat.{◌/◌}
 use native.Mathlib.Omega.{arith}
 use Rattle.spec_records.specs.Little.{little_at}
 use Rattle.spec_records.specs.Records.{whole}
 use Rattle.spec_records.specs.Layouts.{Shape}
 use Rattle.spec_records.proofs.Records.{right_within}
-use Rattle.spec_records.proofs.Layouts.{version_picked, triangles_missing, count_decides}
+use Rattle.spec_records.proofs.Layouts.{triangles_missing, count_decides}
 use Rattle.records.proofs.Answers.{is_right_lem, is_wrong}
 use Rattle.records.proofs.bodies.triangles_body.Goals as goal
 
@@ -25,6 +24,6 @@ returns c =
     let s = c.args.bytes.now in
     let size = c.in_ok-size.size in
     let right = is_right_lem 2 (whole 36) s 14 c.whole_body.ensures c.in_ok-size.was in
-    let kept = c.version.ensures ∙ ap (λ (sh : Shape). sh.version) (version_picked (size / 36) c.is_wide.ensures) in
+    let kept = c.number.ensures ∙ ap (λ (sh : Shape). sh.version) c.of.ensures in
     let suits = count_decides (little_at 2 s 6) s 14 right in
     rw (suits, right.sized, ← kept, ← c.u16_at.ensures.value) c.then_some.ensures

@@ -2,7 +2,6 @@
 use mathlib.Core.Path.{sym, ap, ◌∙◌}
 use Prim.Native.Nat.{◌*◌, ◌/◌}
 use Rattle.spec_records.specs.Layouts.{Shape, node_size}
-use Rattle.spec_records.proofs.Layouts.{version_picked}
 use Rattle.std.proofs.lemmas.Result.{err_from_is_err_and}
 use Rattle.records.proofs.Answers.{not_opened}
 use Rattle.records.proofs.layout.image_layout.Goals as goal
@@ -10,7 +9,7 @@ use Rattle.records.proofs.layout.image_layout.Goals as goal
 pub tree_layout-requires : goal.tree_layout-requires
 tree_layout-requires c =
     let count = c.in_ok-triangles.triangles / 36 in
-    let picked = version_picked count c.is_wide-wide.ensures in
+    let picked = c.of-version.ensures in
     record {
       front = sym c.opening_of.ensures ∙ c.in_ok-triangles.was;
       order_is = c.order_size.ensures ∙ ap (λ (sh : Shape). sh.entry * count) picked;
