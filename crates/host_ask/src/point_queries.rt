@@ -20,7 +20,7 @@ use queries::query::{few_at, source_at};
 use queries::rules::{choice_refusal, most_by};
 use tree::calls::tree_refusal;
 use walks::answer::Query;
-use walks::places::{BEST, Places, WHICH};
+use walks::places::Places;
 
 // The first of the tests 1 to 6, 71 to 75, 8 and 9 that refuses. The room is in bytes, as are the points: one has 12.
 fn query_refusal(
@@ -62,10 +62,7 @@ fn put_few(
         answers.old }
 {
     let width = ANSWER_SIZE * most;
-    let mut places = Places {
-        best: [0.0; BEST],
-        which: [0; WHICH],
-    };
+    let mut places = Places::new();
     let count = points.len() / 12;
     for k in 0..count {
         let touched = point_in(points, k);

@@ -33,8 +33,8 @@ pub fn put_answer_bytes(out: &mut [u8], at: usize, answer: Option<Hit>)
 // Writes the answers in all places, the nearest first, from `at` on.
 // Kept: (d) beside `walks::words::put_places`: as `put_places(&mut words, 0, places); put_numbers::<4>(..)` all answers pass through words once more.
 pub fn put_places_bytes(out: &mut [u8], at: usize, places: &Places)
-    requires which_bound { Kept.most_of places.now.which ≤ most_few }
-    requires which_in_bounds { at + answer_size * Kept.most_of places.now.which ≤ length out.old }
+    requires few_places { Kept.most_of places.now.which ≤ most_few }
+    requires room { at + answer_size * Kept.most_of places.now.which ≤ length out.old }
     ensures { out.new
         ≡ overwrite at (word_bytes (point_words binary32 (Kept.most_of places.now.which)
         (Kept.answer_of places.now.best places.now.which))) out.old }

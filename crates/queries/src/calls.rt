@@ -17,7 +17,7 @@ use lists::refusal::{Refusal, room_refusal};
 use lists::tests::{distance_refusal, point_count, points_refusal, triangles_refusal};
 use tree::calls::tree_refusal;
 use walks::answer::Query;
-use walks::places::{BEST, Places, WHICH};
+use walks::places::Places;
 use walks::words::{ANSWER_WIDTH, put_answer, put_places};
 
 // The first of the tests 1 to 6, 71 to 75, 8 and 9 that refuses.
@@ -58,10 +58,7 @@ fn put_few(
         distance) points.now) answers.old }
 {
     let width = ANSWER_WIDTH * most;
-    let mut places = Places {
-        best: [0.0; BEST],
-        which: [0; WHICH],
-    };
+    let mut places = Places::new();
     let count = point_count(points);
     for k in 0..count {
         let touched = point_at(points, 3 * k);

@@ -29,7 +29,6 @@ pub fn few_at(
     requires finite { Finite (Points.at (as_point p)) }
     requires good_distance { GoodDistance distance }
     requires le_most { (1 ≤ most) × (most ≤ most_few) }
-    requires lent { Kept.Lent places.old.best places.old.which }
     ensures { Kept.Answered places.new.best places.new.which most
         (few_answer binary32 (rule_of rule) most drawing.now.triangles.now distance (as_point p)) }
 {

@@ -26,7 +26,7 @@ use queries::rules::most_refusal;
 use shapes::vec3::Vec3;
 use tree::calls::check;
 use walks::answer::Probe;
-use walks::places::{BEST, Places, WHICH};
+use walks::places::Places;
 use walks::sure::search;
 
 // Kept: (a) the flat settings and lists of the exports, here and below: the C interface.
@@ -306,10 +306,7 @@ fn measured_at(
         point: p,
         limit: distance * distance,
     };
-    let mut places = Places {
-        best: [0.0; BEST],
-        which: [0; WHICH],
-    };
+    let mut places = Places::new();
     Ok(search(drawing, probe, rule, most as usize, &mut places))
 }
 

@@ -3,6 +3,7 @@ use shapes::vec3::Vec3;
 
 // The query that was added, with the number of its measuring rule; the same for so many answers a point; or the one that is carried over, which has no
 // rule.
+// Kept: (d) a rule is its number, as the tests of a query see any; `match Rule::from(rule)` would be a type and its From for `walk_limit`'s one line.
 #[derive(Clone, Copy)]
 pub enum Query {
     Sure { rule: u32 },

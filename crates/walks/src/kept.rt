@@ -12,7 +12,6 @@ impl Places {
     // Keeps the hit where it is strictly smaller. The source's walk uses it.
     #[tactic(auto, using(spec_search::proofs::Kept::kept_smaller, spec_search::proofs::Kept::kept_no_smaller), unfolding(crate::specs::Places::slot_at))]
     pub fn keep_smaller(&mut self, hit: Hit)
-        requires { Kept.Lent self.old.best self.old.which }
         ensures { Kept.Holds Computed self.new.best self.new.which (Kept.most_of self.old.which)
             (Source.keep_smaller (Values.as_hit hit) (Kept.kept_in Computed self.old.best self.old.which)) }
     {

@@ -28,6 +28,7 @@ pub const WHICH: usize = 2 * MOST_FEW + 1;
 pub const MOST_AT: usize = 2 * MOST_FEW;
 
 // The two lists.
+// Kept: (d) `hits: [Hit; MOST_FEW], most: usize`: a hit put by value is six stores as well, and the definitions (walks/specs/Places) are of two lists.
 #[derive(Drop)]
 pub struct Places {
     pub best: [f32; BEST],
@@ -35,10 +36,19 @@ pub struct Places {
 }
 
 impl Places {
+    // The lists as they are lent, all numbers zero.
+    pub fn new() -> Places
+        ensures { Kept.Lent result.best result.which }
+    {
+        Places {
+            best: [0.0; BEST],
+            which: [0; WHICH],
+        }
+    }
+
     // Puts the hit at slot j.
     pub fn put_slot(&mut self, j: usize, hit: Hit)
-        requires lent { Kept.Lent self.old.best self.old.which }
-        requires j_lt_most_few { j < most_few }
+        requires { j < most_few }
         ensures { Kept.PutAt self.old.best self.old.which j (Values.as_hit hit) self.new.best self.new.which }
     {
         self.best[4 * j] = hit.point.x;
@@ -83,7 +93,7 @@ impl Places {
     // back by one.
     fn insert(&mut self, hit: Hit)
         requires sound { Kept.Sound self.old.best self.old.which }
-        requires which_value { Ranked.before Answers.squared_of Answers.number_of (Values.as_hit hit)
+        requires before_last { Ranked.before Answers.squared_of Answers.number_of (Values.as_hit hit)
             (Kept.slot_at self.old.best self.old.which 0) ≡ true }
         ensures { Kept.Holds Held self.new.best self.new.which (Kept.most_of self.old.which)
             (take (Kept.most_of self.old.which) (Ranked.inserted Answers.squared_of Answers.number_of (Values.as_hit hit)
@@ -127,8 +137,7 @@ impl Places {
     // Fills so many places with markers.
     #[tactic(auto, using(crate::proofs::Slots::marked_places))]
     pub fn start(&mut self, most: usize, squared: f32)
-        requires lent { Kept.Lent self.old.best self.old.which }
-        requires le_most { (1 ≤ most) × (most ≤ most_few) }
+        requires { (1 ≤ most) × (most ≤ most_few) }
         ensures { Kept.Holds Held self.new.best self.new.which most (Marked.markers most squared) }
     {
         self.which[MOST_AT] = most as u32;

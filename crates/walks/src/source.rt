@@ -12,7 +12,7 @@ ghost use Rattle.walks.specs.Values as Values;
 
 use crate::answer::{Measures, Probe, Sought};
 use crate::leaf::measure_leaf;
-use crate::places::{BEST, Places, WHICH};
+use crate::places::{BEST, Places};
 use lists::drawing::Drawing;
 use lists::limits;
 use tree::nodes::{Node, node_at, node_box};
@@ -37,9 +37,8 @@ pub fn look(
     measured: usize,
     places: &mut Places,
 ) -> usize
-    requires node_safe { Safe.NodeSafe drawing.now.triangles.now drawing.now.order.now drawing.now.links.now drawing.now.boxes.now
+    requires { Safe.NodeSafe drawing.now.triangles.now drawing.now.order.now drawing.now.links.now drawing.now.boxes.now
         depth node measured }
-    requires lent { Kept.Lent places.old.best places.old.which }
     ensures { Kept.Reached Computed places.new.best places.new.which result (Kept.most_of places.old.which)
         (Walk.root_walk (Source.source_search binary32 drawing.now.triangles.now drawing.now.boxes.now (Shapes.as_point probe.now.point)
         probe.now.limit) drawing.now.order.now drawing.now.links.now depth node
@@ -73,9 +72,8 @@ pub fn look_if_entered(
     measured: usize,
     places: &mut Places,
 ) -> usize
-    requires node_safe { Safe.NodeSafe drawing.now.triangles.now drawing.now.order.now drawing.now.links.now drawing.now.boxes.now
+    requires { Safe.NodeSafe drawing.now.triangles.now drawing.now.order.now drawing.now.links.now drawing.now.boxes.now
         depth node measured }
-    requires lent { Kept.Lent places.old.best places.old.which }
     ensures { Kept.Reached Computed places.new.best places.new.which result (Kept.most_of places.old.which)
         (Walk.node_walk (Source.source_search binary32 drawing.now.triangles.now drawing.now.boxes.now (Shapes.as_point probe.now.point)
         probe.now.limit) drawing.now.order.now drawing.now.links.now depth node
@@ -98,7 +96,7 @@ pub fn search(drawing: &Drawing, probe: Probe) -> Sought
     let root = drawing.nodes - 1;
     let mut places = Places {
         best: [f32::INFINITY; BEST],
-        which: [0; WHICH],
+        ..Places::new()
     };
     let measured = look(drawing, &probe, limits::DEEPEST - 1, root, 0, &mut places);
     let best = places.answer();

@@ -115,7 +115,6 @@ pub fn pair_walk(
 }
 
 // The limit squared of the walk: what it keeps is strictly below.
-// Kept: (d) a rule is its number, as the tests of a query see any; `match Rule::from(rule)` would be a type and its From for this line alone.
 fn walk_limit(rule: u32, limit: f32) -> f32
     ensures { result ≡ Marked.walk_limit (Rules.rule_of rule) limit }
 {
@@ -129,9 +128,8 @@ fn walk_limit(rule: u32, limit: f32) -> f32
 pub fn search(drawing: &Drawing, probe: Probe, rule: u32, most: usize, places: &mut Places) -> usize
     requires searchable { Calls.Searchable drawing.now.triangles.now drawing.now.order.now drawing.now.links.now drawing.now.boxes.now
         drawing.now.nodes }
-    requires false_value { lt probe.limit (inf false) ≡ true }
+    requires limit_finite { lt probe.limit (inf false) ≡ true }
     requires le_most { (1 ≤ most) × (most ≤ Calls.most_few) }
-    requires lent { Kept.Lent places.old.best places.old.which }
     ensures { Kept.Reached Held places.new.best places.new.which result most (Marked.padded_in most probe.limit
         (Few.few_walk binary32 drawing.now.triangles.now drawing.now.order.now drawing.now.links.now drawing.now.boxes.now
         drawing.now.nodes (Shapes.as_point probe.point) most (record { rule = Rules.rule_of rule; squared = probe.limit }))) }

@@ -36,8 +36,8 @@ pub fn put_answer(out: &mut [u32], at: usize, answer: Option<Hit>)
 
 // Writes the answers in all places, the nearest first, from index `at` on.
 pub fn put_places(out: &mut [u32], at: usize, places: &Places)
-    requires which_bound { Kept.most_of places.now.which ≤ Calls.most_few }
-    requires which_in_bounds { at + Answers.answer_width * Kept.most_of places.now.which ≤ length out.old }
+    requires few_places { Kept.most_of places.now.which ≤ Calls.most_few }
+    requires room { at + Answers.answer_width * Kept.most_of places.now.which ≤ length out.old }
     ensures { out.new
         ≡ Tables.overwrite at (Calls.point_words binary32 (Kept.most_of places.now.which)
         (Kept.answer_of places.now.best places.now.which)) out.old }

@@ -1,5 +1,5 @@
 -- `test_exports::measured_at` meets its contract: where the distance and so many passed, the walk answers how many triangles it measured.
-use mathlib.Core.Path.{refl, ap, ◌∙◌, sym}
+use mathlib.Core.Path.{ap, ◌∙◌, sym}
 use lib.Ieee.{binary32}
 use Rattle.lists.proofs.Rows.{handed}
 use Rattle.spec_lists.specs.Refusals.{refuses}
@@ -27,9 +27,8 @@ unfolding limit_squared
 search-requires c =
     record {
       searchable = c.requires;
-      false_value = limit_bounded binary32 _ (distance_passed _ (sym c.in_ok-distance_refusal.ensures));
+      limit_finite = limit_bounded binary32 _ (distance_passed _ (sym c.in_ok-distance_refusal.ensures));
       le_most = most_passed _ (sym c.in_ok-most_refusal.ensures);
-      lent = record { floats = refl; numbers = refl };
     }
 
 pub returns : goal.returns

@@ -1,5 +1,4 @@
--- `host_ask::point_queries::put_few` meets its contract. The invariant: the answers to the first k points stand at the front of the bytes, and the lists of
--- places are as long as they were made.
+-- `host_ask::point_queries::put_few` meets its contract. The invariant: the answers to the first k points stand at the front of the bytes.
 use mathlib.Core.Path.{◌≡◌, refl, ap, ◌∙◌}
 use Prim.Native.Nat.{ℕ}
 use native.Mathlib.Omega.{arith}
@@ -25,11 +24,9 @@ held_words {best} {which} {most} {answer} h =
 
 pub loop-k-init : goal.loop-k-init
 loop-k-init c =
-    let a = c.args in record {
-      answered = answered_start a.most (few_answer binary32 (rule_of a.rule) a.most a.drawing.now.triangles.now a.distance) a.points.now
-          a.answers.now _;
-      lent = record { floats = refl; numbers = refl };
-    }
+    let a = c.args in
+    answered_start a.most (few_answer binary32 (rule_of a.rule) a.most a.drawing.now.triangles.now a.distance) a.points.now
+    a.answers.now _
 
 pub few_at-requires-clause-finite : goal.few_at-requires-clause-finite
 few_at-requires-clause-finite c =
@@ -40,14 +37,12 @@ pub loop-k-preserved : goal.loop-k-preserved
 loop-k-preserved c =
     let a = c.args in
     let answer = few_answer binary32 (rule_of a.rule) a.most a.drawing.now.triangles.now a.distance in
-    let held = c.few_at.ensures in record {
-      answered = answered_more a.most answer a.points.now a.answers.now _ _ _ _ _ c.requires.points_in_bounds (omega arith) c.loop-k.invariant.answered
-          (held_words held ∙ ap (λ p. point_words binary32 a.most (answer p)) c.point_in-touched.ensures) c.put_places_bytes.ensures;
-      lent = held.lent;
-    }
+    let held = c.few_at.ensures in
+    answered_more a.most answer a.points.now a.answers.now _ _ _ _ _ c.requires.points_in_bounds (omega arith) c.loop-k.invariant
+    (held_words held ∙ ap (λ p. point_words binary32 a.most (answer p)) c.point_in-touched.ensures) c.put_places_bytes.ensures
 
 pub returns : goal.returns
 returns c =
     let a = c.args in
     answered_end a.most (few_answer binary32 (rule_of a.rule) a.most a.drawing.now.triangles.now a.distance) a.points.now a.answers.now _ _ _ refl
-    (omega arith) c.loop-k.invariant.answered
+    (omega arith) c.loop-k.invariant

@@ -26,7 +26,7 @@ loop-j-preserved c =
     let a = c.args in
     let places = a.places.now in
     run_more (piece places.best places.which) answer_size a.at _ a.out.now _ _ _
-    (λ i. answer_long (answer_of places.best places.which i)) c.requires.which_in_bounds (omega arith) c.loop-j.invariant
+    (λ i. answer_long (answer_of places.best places.which i)) c.requires.room (omega arith) c.loop-j.invariant
     (c.put_answer_bytes.ensures
     ∙ ap (λ (x : Answer). overwrite (a.at + answer_size * c.loop-j.j) (word_bytes (words_of binary32 x)) c.loop-j.out) c.answer_at.ensures)
 

@@ -1,6 +1,5 @@
--- `queries::calls::put_few` meets its contract. The invariant: the answers to the first k points stand at the front of the list, and the lists of
--- places are as long as they were made.
-use mathlib.Core.Path.{◌≡◌, refl, ap, subst, ◌∙◌}
+-- `queries::calls::put_few` meets its contract. The invariant: the answers to the first k points stand at the front of the list.
+use mathlib.Core.Path.{◌≡◌, ap, subst, ◌∙◌}
 use mathlib.Core.List.{List}
 use Prim.Native.Nat.{ℕ, ◌*◌, ◌<◌}
 use native.Mathlib.Omega.{arith}
@@ -21,11 +20,9 @@ as_many out at best which {new} e = subst (λ (n : ℕ). new ≡ overwrite at (p
 
 pub loop-k-init : goal.loop-k-init
 loop-k-init c =
-    let a = c.args in record {
-      answered = answered_start binary32 a.most (few_answer binary32 (rule_of a.rule) a.most a.drawing.now.triangles.now a.distance) a.points.now
-          a.answers.now _;
-      lent = record { floats = refl; numbers = refl };
-    }
+    let a = c.args in
+    answered_start binary32 a.most (few_answer binary32 (rule_of a.rule) a.most a.drawing.now.triangles.now a.distance) a.points.now
+    a.answers.now _
 
 pub few_at-requires-clause-finite : goal.few_at-requires-clause-finite
 few_at-requires-clause-finite c =
@@ -36,16 +33,14 @@ pub loop-k-preserved : goal.loop-k-preserved
 loop-k-preserved c =
     let a = c.args in
     let answer = few_answer binary32 (rule_of a.rule) a.most a.drawing.now.triangles.now a.distance in
-    let held = c.few_at.ensures in record {
-      answered = answered_more binary32 a.most answer a.points.now a.answers.now _ _ _ _ _
-          (rw (← c.point_count-count.ensures) at c.requires.points_in_bounds) (omega arith) c.loop-k.invariant.answered
-          (point_words_same binary32 a.most _ _ held.answers_are ∙ ap (λ p. point_words binary32 a.most (answer p)) c.point_at-touched.ensures)
-          (as_many c.loop-k.answers ((answer_width * a.most) * c.loop-k.k) _ _ held.most_is c.put_places.ensures);
-      lent = held.lent;
-    }
+    let held = c.few_at.ensures in
+    answered_more binary32 a.most answer a.points.now a.answers.now _ _ _ _ _
+    (rw (← c.point_count-count.ensures) at c.requires.points_in_bounds) (omega arith) c.loop-k.invariant
+    (point_words_same binary32 a.most _ _ held.answers_are ∙ ap (λ p. point_words binary32 a.most (answer p)) c.point_at-touched.ensures)
+    (as_many c.loop-k.answers ((answer_width * a.most) * c.loop-k.k) _ _ held.most_is c.put_places.ensures)
 
 pub returns : goal.returns
 returns c =
     let a = c.args in
     answered_end binary32 a.most (few_answer binary32 (rule_of a.rule) a.most a.drawing.now.triangles.now a.distance) a.points.now a.answers.now _ _ _
-    c.point_count-count.ensures (omega arith) c.loop-k.invariant.answered
+    c.point_count-count.ensures (omega arith) c.loop-k.invariant

@@ -15,9 +15,9 @@ use Rattle.spec_search.proofs.Marked.{marked_answers}
 use Rattle.walks.proofs.Reached.{reached_answers}
 use Rattle.queries.proofs.query.few_at.Goals as goal
 
-pub search-requires-clause-false_value : goal.search-requires-clause-false_value
+pub search-requires-clause-limit_finite : goal.search-requires-clause-limit_finite
 unfolding limit_squared
-search-requires-clause-false_value c = limit_bounded binary32 c.args.distance c.requires.good_distance
+search-requires-clause-limit_finite c = limit_bounded binary32 c.args.distance c.requires.good_distance
 
 pub returns : goal.returns
 unfolding few_answer limit_squared

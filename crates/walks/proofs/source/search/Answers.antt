@@ -12,8 +12,8 @@ pub overflow_sub-root : goal.overflow_sub-root
 overflow_sub-root c =
     root_there _ _ _ _ _ c.requires
 
-pub look-measured-requires-clause-node_safe : goal.look-measured-requires-clause-node_safe
-look-measured-requires-clause-node_safe c = root_safe _ _ _ _ _ c.requires
+pub look-measured-requires : goal.look-measured-requires
+look-measured-requires c = root_safe _ _ _ _ _ c.requires
 
 pub returns : goal.returns
 unfolding source_walk kept of_bits eq slot_at

@@ -27,7 +27,7 @@ node_walk-requires-clause-node_safe c = root_safe _ _ _ _ _ c.requires.searchabl
 pub node_walk-requires-clause-sound : goal.node_walk-requires-clause-sound
 node_walk-requires-clause-sound c =
     let most = c.requires.le_most in
-    start_sound _ _ _ _ (less_number _ (inf false) c.requires.false_value) most.0 most.1 c.start.ensures
+    start_sound _ _ _ _ (less_number _ (inf false) c.requires.limit_finite) most.0 most.1 c.start.ensures
 
 pub returns : goal.returns
 unfolding marked_walk
@@ -38,4 +38,4 @@ returns c =
     reached_on (rw c.walk_limit.ensures at walk)
     (marked_is_few binary32 d.triangles.now d.order.now d.links.now d.boxes.now _ d.nodes (entries_below _ _ _ _ _ c.requires.searchable)
     (numbers_low _ _ _ _ _ c.requires.searchable) (as_point a.probe.point) a.most c.requires.le_most.0 (rule_of a.rule) a.probe.limit
-    c.requires.false_value)
+    c.requires.limit_finite)

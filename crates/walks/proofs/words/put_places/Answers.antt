@@ -21,7 +21,7 @@ loop-j-preserved c =
     let a = c.args in
     let places = a.places.now in
     run_more (λ i. words_of binary32 (answer_of places.best places.which i)) answer_width a.at _ a.out.now _ _ _
-    (λ i. answer_wide binary32 (answer_of places.best places.which i)) c.requires.which_in_bounds (omega arith) c.loop-j.invariant
+    (λ i. answer_wide binary32 (answer_of places.best places.which i)) c.requires.room (omega arith) c.loop-j.invariant
     (c.put_answer.ensures ∙ ap (λ (x : Answer). overwrite (a.at + answer_width * c.loop-j.j) (words_of binary32 x) c.loop-j.out) c.answer_at.ensures)
 
 pub returns : goal.returns

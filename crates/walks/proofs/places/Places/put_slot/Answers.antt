@@ -48,4 +48,5 @@ module _ (best : List Float) (which : List ℕ) (j : ℕ) (h : Hit) (lent : Lent
   }
 
 pub returns : goal.returns
-returns c = stored c.args.self.now.best c.args.self.now.which c.args.j (as_hit c.args.hit) c.requires.lent c.requires.j_lt_most_few
+returns c = stored c.args.self.now.best c.args.self.now.which c.args.j (as_hit c.args.hit) (record { floats = omega arith; numbers = omega arith })
+    c.requires
