@@ -27,7 +27,8 @@ returns c =
       | then-size-room w ↦
           let fits : a.at + 6 + size_at s a.at ≤ length s =
           omega (arith, c.in_ok-checked_sub.ensures, c.in_ok-room.ensures, c.u32_at-size.ensures) in
-          rw (kind_decides (number_of a.kind) s a.at fits, ← c.u32_at-size.ensures, ← w.u16_at.ensures.value, ← w.number.ensures, ← w.then_some-is) c.then_some.ensures
+          rw (kind_decides (number_of a.kind) s a.at fits, ← c.u32_at-size.ensures, ← w.u16_at.ensures.value, ← w.number.ensures, ← w.then_some-is)
+          c.then_some.ensures
       | else-size-room w ↦
           let past : length s < a.at + 6 + size_at s a.at =
           omega (arith, c.in_ok-checked_sub.ensures, c.in_ok-room.ensures, c.u32_at-size.ensures) in
