@@ -19,7 +19,7 @@ fn digit_of(d: usize) -> u8
 // Writes the lowest `count` digits of n in a base, from the last one backwards.
 fn put_digits(out: &mut [u8], at: usize, base: usize, count: usize, n: usize) -> usize
     requires count_in_bounds { at + count ≤ length out.old }
-    requires base_nonzero { (0 < base) × (base ≤ 16) }
+    requires base_in_range { (0 < base) × (base ≤ 16) }
     ensures put { Put at (digits base count n) out.old out.new result }
     ensures value { result ≡ at + count }
 {
