@@ -6,7 +6,7 @@ ghost use Rattle.spec_tables.specs.Tables.{concat_map, Put};
 ghost use Rattle.spec_records.specs.Entries.{number_bytes, float_bytes};
 ghost use Rattle.spec_records.specs.Records.{header, record_of};
 ghost use Rattle.spec_records.specs.Layouts.{node_size, image_size};
-ghost use Rattle.records.specs.Values.{number_of, shape_of};
+ghost use Rattle.records.specs.Values.{shape_of};
 ghost use Rattle.spec_image.specs.Image.{settings_bytes, node_bytes, image_bytes};
 ghost use Rattle.spec_image.specs.Stored.{Complete};
 ghost use Rattle.lists.specs.Values.{as_settings};
@@ -15,19 +15,18 @@ ghost use Rattle.image.specs.Values.{image_of, NodesFit};
 use crate::size::nodes_size;
 use lists::drawing::Drawing;
 use lists::settings::Settings;
-use records::bodies::Kind;
 use records::entries::{put_entries, put_f32s, put_numbers};
 use records::numbers::{put_u16, put_u32};
 use records::versions::Version;
 
 // Writes the header of a record: the size of its body, and its kind.
-fn put_header(out: &mut [u8], at: usize, size: usize, kind: Kind) -> usize
+fn put_header(out: &mut [u8], at: usize, size: usize, kind: usize) -> usize
     requires { at + 6 ≤ length out.old }
-    ensures put { Put at (header size (number_of kind)) out.old out.new result }
+    ensures put { Put at (header size kind) out.old out.new result }
     ensures value { result ≡ at + 6 }
 {
     let next = put_u32(out, at, size);
-    put_u16(out, next, kind.number() as usize)
+    put_u16(out, next, kind)
 }
 
 // Writes record 1, the settings, to the front.
@@ -36,7 +35,7 @@ fn put_settings(version: Version, settings: Settings, out: &mut [u8]) -> usize
     ensures put { Put 0 (record_of 1 (settings_bytes (shape_of version) (as_settings settings))) out.old out.new result }
     ensures value { result ≡ 14 }
 {
-    let body = put_header(out, 0, 8, Kind::Settings);
+    let body = put_header(out, 0, 8, 1);
     let a = put_u16(out, body, version.number() as usize);
     let b = put_u16(out, a, settings.strategy);
     let c = put_u16(out, b, settings.leaf_minimum);
@@ -50,7 +49,7 @@ fn put_triangles(triangles: &[f32], out: &mut [u8], at: usize) -> usize
         out.new result }
     ensures value { result ≡ at + 6 + 4 * length triangles.now }
 {
-    let body = put_header(out, at, 4 * triangles.len(), Kind::Triangles);
+    let body = put_header(out, at, 4 * triangles.len(), 2);
     put_f32s(triangles, 0, triangles.len(), out, body)
 }
 
@@ -61,7 +60,7 @@ fn put_order(version: Version, order: &[u32], out: &mut [u8], at: usize) -> usiz
         out.new result }
     ensures value { result ≡ at + 6 + (shape_of version).entry * length order.now }
 {
-    let body = put_header(out, at, version.order_size(order.len()), Kind::Order);
+    let body = put_header(out, at, version.order_size(order.len()), 3);
     put_entries(version, order, 0, order.len(), out, body)
 }
 
@@ -100,7 +99,7 @@ fn put_tree(version: Version, drawing: &Drawing, out: &mut [u8], at: usize) -> u
         drawing.now.nodes)) out.old out.new result }
     ensures value { result ≡ at + 6 + node_size (shape_of version) * drawing.now.nodes }
 {
-    let body = put_header(out, at, nodes_size(version, drawing.nodes), Kind::Nodes);
+    let body = put_header(out, at, nodes_size(version, drawing.nodes), 4);
     put_nodes(version, drawing, out, body)
 }
 

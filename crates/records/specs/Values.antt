@@ -4,21 +4,10 @@ use Rattle.std.specs.Bool.{then_some}
 use Rattle.spec_records.specs.Little.{little_at}
 use Rattle.spec_records.specs.Records.{Layout, wrong, bodies, size_at, is_right}
 use Rattle.spec_records.specs.Layouts.{Shape, version1, version2, version_for, node_size, settings_right, triangles_right, image_spans, gauge_spans}
-use Rattle.records.specs.declared.bodies.Kind.{Kind}
 use Rattle.records.specs.declared.layout.WrongRecord.{WrongRecord}
 use Rattle.records.specs.declared.layout.ImageCounts.{ImageCounts}
 use Rattle.records.specs.declared.layout.GaugeCounts.{GaugeCounts}
 use Rattle.records.specs.declared.versions.Version.{Version}
-
--- the number of a kind
-abbrev pub number_of : Kind → ℕ
-number_of Kind.Settings = 1
-number_of Kind.Triangles = 2
-number_of Kind.Order = 3
-number_of Kind.Nodes = 4
-number_of Kind.Points = 5
-number_of Kind.Distance = 6
-number_of Kind.Rule = 7
 
 -- the shape of a version
 abbrev pub shape_of : Version → Shape

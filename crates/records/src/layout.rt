@@ -6,7 +6,7 @@ ghost use Rattle.spec_records.specs.Layouts.{image_wants, gauge_wants};
 ghost use Rattle.lists.specs.declared.refusal.Refusal.TheVariants.{BadLayout};
 ghost use Rattle.records.specs.Values.{opening_of, TreeNext, image_laid, gauge_laid};
 
-use crate::bodies::{Kind, has_body, has_settings, triangles_body, whole_body};
+use crate::bodies::{has_body, has_settings, triangles_body, whole_body};
 use crate::versions::Version;
 use lists::refusal::Refusal;
 
@@ -61,11 +61,11 @@ fn tree_layout(
     ensures { image_laid result ≡ laid_out image_wants bytes.now 0 }
 {
     let third = 20 + triangles;
-    if !has_body(bytes, third, Kind::Order, order) {
+    if !has_body(bytes, third, 3, order) {
         return Err(WrongRecord { at: third });
     }
     let fourth = third + 6 + order;
-    let nodes = whole_body(bytes, fourth, Kind::Nodes, node).ok_or(WrongRecord { at: fourth })?;
+    let nodes = whole_body(bytes, fourth, 4, node).ok_or(WrongRecord { at: fourth })?;
     let end = fourth + 6 + nodes;
     if end != bytes.len() {
         return Err(WrongRecord { at: end });
@@ -97,9 +97,9 @@ fn query_layout(bytes: &[u8], triangles: usize) -> Result<GaugeCounts, WrongReco
     ensures { gauge_laid result ≡ laid_out gauge_wants bytes.now 0 }
 {
     let third = 20 + triangles;
-    let points = whole_body(bytes, third, Kind::Points, 12).ok_or(WrongRecord { at: third })?;
+    let points = whole_body(bytes, third, 5, 12).ok_or(WrongRecord { at: third })?;
     let fourth = third + 6 + points;
-    if !has_body(bytes, fourth, Kind::Distance, 4) {
+    if !has_body(bytes, fourth, 6, 4) {
         return Err(WrongRecord { at: fourth });
     }
     let fifth = fourth + 6 + 4;
@@ -110,7 +110,7 @@ fn query_layout(bytes: &[u8], triangles: usize) -> Result<GaugeCounts, WrongReco
             ruled: false,
         });
     }
-    if !has_body(bytes, fifth, Kind::Rule, 2) {
+    if !has_body(bytes, fifth, 7, 2) {
         return Err(WrongRecord { at: fifth });
     }
     let end = fifth + 6 + 2;
