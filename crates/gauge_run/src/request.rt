@@ -9,6 +9,7 @@ use lists::refusal::Refusal;
 use lists::settings::{Settings, settings_refusal};
 use lists::tests::{distance_refusal, points_refusal, triangles_refusal};
 use queries::rules::rule_refusal;
+use records::versions::Version;
 
 #[derive(Clone, Copy)]
 pub struct Request<'a> {
@@ -26,7 +27,7 @@ impl Request<'_> {
     {
         triangles_refusal(self.triangles)?;
         settings_refusal(self.settings)?;
-        leaf_refusal(false, self.settings)?;
+        leaf_refusal(Version::One, self.settings)?;
         rule_refusal(self.rule)?;
         points_refusal(self.points)?;
         distance_refusal(self.distance)

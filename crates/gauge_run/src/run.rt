@@ -22,6 +22,7 @@ use queries::calls::sure_query;
 use records::entries::{f32_at, read_f32s};
 use records::layout::{GaugeCounts, gauge_layout};
 use records::numbers::u16_at;
+use records::versions::Version;
 use walks::words::ANSWER_WIDTH;
 
 // No more points than these fit in an input.
@@ -136,7 +137,7 @@ fn print_sized(input: &[u8], counts: GaugeCounts, out: &mut [u8]) -> usize
     read_f32s(input, third, coordinates, &mut points, 0);
     let request = Request {
         triangles: &triangles[..numbers],
-        settings: settings_of(input, false),
+        settings: settings_of(input, Version::One),
         points: &points[..coordinates],
         distance: f32_at(input, fourth),
         rule: rule_of(input, counts),
