@@ -13,6 +13,7 @@ use lists::refusal::Refusal;
 use lists::settings::Settings;
 use printing::lines::{put_counts, put_refused};
 use records::layout::{gauge_layout, image_layout};
+use records::versions::Version;
 
 mod large;
 
@@ -82,7 +83,7 @@ fn write_again(bytes: &[u8], settings: Settings, drawing: &Drawing)
         × (drawing.now.nodes ≤ 7) }
 {
     let mut out = [0; 400];
-    let end = put_image(false, settings, drawing, &mut out);
+    let end = put_image(Version::One, settings, drawing, &mut out);
     put_same(check::same(&out[..end], bytes));
     write_tested(bytes, settings, drawing);
 }
