@@ -15,29 +15,36 @@ pub struct Matrix3 {
 }
 
 impl Matrix3 {
+    // f of both columns, for each column.
+    fn zip<F: Fn(Vec3, Vec3) -> Vec3>(self, b: Matrix3, f: F) -> Matrix3
+        requires { F.IsAlwaysCallable f }
+        ensures x { F.post f self.x b.x result.x }
+        ensures y { F.post f self.y b.y result.y }
+        ensures z { F.post f self.z b.z result.z }
+    {
+        Matrix3 {
+            x: f(self.x, b.x),
+            y: f(self.y, b.y),
+            z: f(self.z, b.z),
+        }
+    }
+
     // The sum, entry by entry.
     pub fn plus(self, b: Matrix3) -> Matrix3
         ensures { Values.as_matrix result ≡ Matrices.added binary32 (Values.as_matrix self) (Values.as_matrix b) }
     {
-        Matrix3 {
-            x: self.x.plus(b.x),
-            y: self.y.plus(b.y),
-            z: self.z.plus(b.z),
-        }
+        self.zip(b, Vec3::plus)
     }
 
     // The difference, entry by entry.
     pub fn minus(self, b: Matrix3) -> Matrix3
         ensures { Values.as_matrix result ≡ Matrices.less binary32 (Values.as_matrix self) (Values.as_matrix b) }
     {
-        Matrix3 {
-            x: self.x.minus(b.x),
-            y: self.y.minus(b.y),
-            z: self.z.minus(b.z),
-        }
+        self.zip(b, Vec3::minus)
     }
 
     // Each entry divided by s.
+    // Kept: (d) alone of its kind, so `self.map(|v| v.over(s))` would want a `map` of twelve lines that nothing else calls.
     pub fn over(self, s: f32) -> Matrix3
         ensures { Values.as_matrix result ≡ Matrices.over binary32 (Values.as_matrix self) s }
     {

@@ -1,7 +1,8 @@
--- `dipoles::matrix3::Matrix3::minus` meets its contract: each column is what `minus` of points ensures.
+-- `dipoles::matrix3::Matrix3::minus` meets its contract: the operation on each column.
 use Rattle.spec_dipoles.specs.Matrices.{less}
+use Rattle.dipoles.proofs.Columns.{by_columns}
 use Rattle.dipoles.proofs.matrix3.Matrix3.minus.Goals as goal
 
 pub returns : goal.returns
 unfolding less
-returns c = λ i. record { x = c.minus.ensures i; y = c.minus-2.ensures i; z = c.minus-3.ensures i }
+returns c = by_columns _ _ c.zip.ensures.x.2 c.zip.ensures.y.2 c.zip.ensures.z.2
