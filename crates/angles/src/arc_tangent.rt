@@ -142,10 +142,10 @@ const QUARTER_TURN: u64 = 1686629713;
 
 const HALF_TURN: u64 = 3373259426;
 
-// The table of arc tangents, lent to whoever computes an angle.
-#[derive(Drop)]
+// The table of arc tangents, lent to whoever computes an angle. Who has the same numbers elsewhere makes one of them.
+#[derive(Clone, Copy)]
 pub struct ArcTable {
-    entries: [u32; 1025],
+    pub entries: [u32; 1025],
     ghost is_arcs: { entries ≡ arcs },
 }
 

@@ -5,7 +5,6 @@ ghost use Rattle.spec_tables.specs.Tables.{overwrite};
 ghost use Rattle.spec_tree.specs.Trees as Trees;
 ghost use Rattle.spec_splits.specs.Splits.{box_in};
 ghost use Rattle.spec_build.specs.Growing.{LeafNeeds, BranchNeeds, BranchPut, Written};
-ghost use Rattle.grow.specs.Values as Values;
 
 use crate::tables::put_box;
 use shapes::box3::Box3;
@@ -28,12 +27,12 @@ pub enum Kind {
     Branch = 2,
 }
 
-// Writes the kind and the two links of a node.
-fn put_links(links: &mut [u32], node: usize, kind: Kind, left: u32, right: u32)
+// Writes the number of a kind and the two links of a node.
+pub fn put_links(links: &mut [u32], node: usize, kind: u32, left: u32, right: u32)
     requires { 3 * node + 3 ≤ length links.old }
-    ensures { links.new ≡ overwrite (3 * node) (Values.number_of kind ∷ left ∷ right ∷ []) links.old }
+    ensures { links.new ≡ overwrite (3 * node) (kind ∷ left ∷ right ∷ []) links.old }
 {
-    links[3 * node..3 * node + 3].copy_from_slice(&[kind as u32, left, right]);
+    links[3 * node..3 * node + 3].copy_from_slice(&[kind, left, right]);
 }
 
 // Writes a leaf over the slice, which begins at this entry of the order list, as node `node`.
@@ -53,7 +52,7 @@ pub fn put_leaf(
     put_links(
         links,
         node,
-        Kind::Leaf,
+        Kind::Leaf as u32,
         entry as u32,
         (entry + slice.len()) as u32,
     );
@@ -76,7 +75,7 @@ pub fn put_branch(left: Grown, right: Grown, links: &mut [u32], boxes: &mut [f32
     put_links(
         links,
         node,
-        Kind::Branch,
+        Kind::Branch as u32,
         left.root as u32,
         right.root as u32,
     );

@@ -20,7 +20,7 @@ pub fn told_place(place: usize) -> usize
 }
 
 // The status of a refusal of this number, at this place. An 8 sets the top bit, since its place may be large; any other number stands in the top byte.
-fn encode_at(number: usize, place: usize) -> u64
+pub fn encode_at(number: usize, place: usize) -> u64
     requires { Status.Placed number place }
     ensures { result ≡ Status.refusal_status number place }
 {

@@ -60,8 +60,10 @@ impl Buckets {
 
     pub const CUTS: usize = Buckets::COUNT - 1;
 
-    // The count as a float, by which an offset is scaled.
+    // The count as a float, by which an offset is scaled, and the last one as a float.
     pub const COUNT_F32: f32 = 12.0;
+
+    pub const LAST_F32: f32 = 11.0;
 
     // Twelve empty buckets.
     pub fn empty() -> Buckets

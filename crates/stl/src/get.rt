@@ -1,9 +1,9 @@
 // Reads an STL: its facets, what is refused of it, and its triangles. Everything is tested in the bytes, before anything is written.
 ghost use Rattle.std.specs.Prelude.{◌≡◌, ◌*◌, ◌^◌, ◌≤◌, ◌<◌, length};
 ghost use Rattle.lists.specs.Values.{as_verdict};
-ghost use Rattle.spec_tables.specs.Tables.{overwrite};
+ghost use Rattle.spec_tables.specs.Tables.{overwrite, concat_map};
 ghost use Rattle.spec_lists.specs.Refusals.{coordinate_refusal, triangles_refusal};
-ghost use Rattle.spec_stl.specs.Stl.{stl_count, stl_size, stl_triangles};
+ghost use Rattle.spec_stl.specs.Stl.{stl_count, stl_size, corners_in, stl_triangles};
 ghost use Rattle.spec_stl.specs.Calls.{size_refusal};
 
 use lists::limits;
@@ -13,7 +13,7 @@ use records::entries::read_f32s;
 use records::numbers::u32_at;
 
 // How many triangles the bytes say that they hold.
-fn count_of(bytes: &[u8]) -> usize
+pub fn count_of(bytes: &[u8]) -> usize
     requires { 84 ≤ length bytes.now }
     ensures value { result ≡ stl_count bytes.now }
     ensures upper_bound { result < 2 ^ 32 }
@@ -83,8 +83,16 @@ impl<'a> Facets<'a> {
         requires { 9 * self.now.count ≤ length triangles.old }
         ensures { triangles.new ≡ overwrite 0 (stl_triangles self.now.bytes.now) triangles.old }
     {
-        for i in 0..self.count {
-            read_f32s(self.bytes, 84 + 50 * i + 12, 9, triangles, 9 * i);
-        }
+        read_facets(self.bytes, self.count, triangles);
+    }
+}
+
+// Leaves the triangles of the first `count` facets at the front of the list: as many as there are, whatever the bytes say.
+pub fn read_facets(bytes: &[u8], count: usize, triangles: &mut [f32])
+    requires { (stl_size count ≤ length bytes.now) × (9 * count ≤ length triangles.old) }
+    ensures { triangles.new ≡ overwrite 0 (concat_map (corners_in bytes.now) count) triangles.old }
+{
+    for i in 0..count {
+        read_f32s(bytes, 84 + 50 * i + 12, 9, triangles, 9 * i);
     }
 }
