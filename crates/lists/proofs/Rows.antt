@@ -5,24 +5,21 @@ use Rattle.std.specs.List.{position_or_len}
 use Rattle.std.specs.Result.{IsErr, IsErrAnd}
 use Rattle.std.proofs.lemmas.Result.{err_from_is_err_and}
 use Rattle.spec_lists.specs.Refusals.{Verdict, passes, refused, refused_if, first_refusal, is_coordinate, first_bad, coordinate_refusal}
+use Rattle.spec_lists.proofs.Verdicts.{ends, row_stops, row_goes_on}
 use Rattle.lists.specs.declared.refusal.Refusal.{Refusal}
 use Rattle.lists.specs.Values.{number_of, place_of, as_verdict}
 
 -- a test that refuses answers for the row
 pub refused_first : (n p : ℕ) (test : Verdict) (tests : List Verdict) → refused n p ≡ test → refused n p ≡ first_refusal (test ∷ tests)
-unfolding first_refusal
-refused_first n p test tests e = rw (← e)
+refused_first n p test tests e = row_stops (test ∷ []) tests (refused n p) true (ends _ _ e) refl refl
 
 -- a test that passes leaves the answer to the rest of the row
 pub passed_first : (v test : Verdict) (tests : List Verdict) → passes ≡ test → v ≡ first_refusal tests → v ≡ first_refusal (test ∷ tests)
-unfolding first_refusal
-passed_first v test tests e k = rw (← e) k
+passed_first v test tests e k = row_goes_on (test ∷ []) tests passes false v (ends _ _ e) refl refl k
 
 -- the last test answers for the row
 pub last : (v test : Verdict) → v ≡ test → v ≡ first_refusal (test ∷ [])
-unfolding first_refusal
-last passes test e = rw (← e)
-last (refused n p) test e = rw (← e)
+last v test e = ends v test e
 
 -- what a `?` hands on is the refusal that it met
 pub handed : {A : Type 0} (r : Result A Refusal) (e : Refusal) → IsErrAnd r (λ x. x ≡ e) → r ≡ Err e

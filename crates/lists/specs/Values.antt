@@ -3,6 +3,7 @@ use Rattle.std.specs.Prelude.{ℕ, Result, Ok, Err}
 use Rattle.spec_lists.specs.Refusals as Refusals
 use Rattle.lists.specs.declared.refusal.Refusal.{Refusal}
 use Rattle.lists.specs.declared.refusal.Refusal.TheVariants as Refusal
+use Rattle.lists.specs.declared.refusal.Listed.{Listed}
 use Rattle.lists.specs.declared.settings.Settings.{Settings}
 
 -- the number of a refusal in the table
@@ -47,6 +48,11 @@ place_of Refusal.BadScale = 0
 abbrev pub as_verdict : Result (Unit {0}) Refusal → Refusals.Verdict
 as_verdict (Ok done) = Refusals.passes
 as_verdict (Err r) = Refusals.refused (number_of r) (place_of r)
+
+-- the same of a test that tells its refusal by number and place
+abbrev pub as_listed : Result (Unit {0}) Listed → Refusals.Verdict
+as_listed (Ok done) = Refusals.passes
+as_listed (Err r) = Refusals.refused r.number r.place
 
 abbrev pub as_settings : Settings → Refusals.Settings
 as_settings s = record { strategy = s.strategy; leaf_minimum = s.leaf_minimum; maximum_depth = s.maximum_depth }

@@ -88,6 +88,24 @@ pub fn refused_if(refuses: bool, refusal: Refusal) -> Result<(), Refusal>
     if refuses { Err(refusal) } else { Ok(()) }
 }
 
+// A refusal by its number and place alone: of the table above or of another.
+#[derive(Clone, Copy, Debug, PartialEq, Eq)]
+pub struct Listed {
+    pub number: usize,
+    pub place: usize,
+}
+
+// A refusal with this number and place where the flag is set, else a pass.
+pub fn listed_if(refuses: bool, number: usize, place: usize) -> Result<(), Listed>
+    ensures { Values.as_listed result ≡ Refusals.refused_if refuses number place }
+{
+    if refuses {
+        Err(Listed { number, place })
+    } else {
+        Ok(())
+    }
+}
+
 // 6: an output of `given` entries is shorter than it needs to be.
 pub fn room_refusal(given: usize, need: usize) -> Result<(), Refusal>
     ensures { Values.as_verdict result ≡ Refusals.room_refusal given need }
