@@ -6,7 +6,7 @@ use Rattle.lists.specs.declared.refusal.Refusal.{Refusal}
 use Rattle.lists.specs.Values.{number_of, place_of}
 use Rattle.lists.proofs.Unique.{refusal_unique}
 use Rattle.spec_tree.specs.Leaves as Leaves
-use Rattle.leaves.specs.Values.{as_entry_found, as_leaf, as_leaf_found, as_leaves_counted}
+use Rattle.leaves.specs.Values.{as_entry, as_entry_found, as_leaf, as_leaf_option, as_leaf_found, as_leaves_counted}
 use Rattle.leaves.specs.declared.calls.LeafNode.{LeafNode}
 
 -- what the entry of a leaf stands for fixes it
@@ -23,6 +23,10 @@ entry_unique (Err r) (Err q) e =
     let n : number_of r ≡ number_of q = cc in
     let p : place_of r ≡ place_of q = cc in
     ap Err (refusal_unique r q n p)
+
+-- the same where no call refuses: what `entry_at` and `entry_of` answer
+pub entry_option_unique : (a b : Option ℕ) → as_entry a ≡ as_entry b → a ≡ b
+entry_option_unique a b e = let same = entry_unique (Ok a) (Ok b) e in cc
 
 abbrev back_leaf : Leaves.Leaf → LeafNode
 back_leaf l = record { node = l.node; first = l.first; last = l.last; over = back_box l.box }
@@ -41,6 +45,10 @@ leaf_unique (Err r) (Err q) e =
     let n : number_of r ≡ number_of q = cc in
     let p : place_of r ≡ place_of q = cc in
     ap Err (refusal_unique r q n p)
+
+-- the same where no call refuses: what `leaf_from` answers
+pub leaf_option_unique : (a b : Option LeafNode) → as_leaf_option a ≡ as_leaf_option b → a ≡ b
+leaf_option_unique a b e = let same = leaf_unique (Ok a) (Ok b) e in cc
 
 -- what a count of leaves stands for fixes it
 pub count_unique : (a b : Result ℕ Refusal) → as_leaves_counted a ≡ as_leaves_counted b → a ≡ b
