@@ -50,7 +50,10 @@ pub fn read_image(
     ensures { ReadIs bytes.now result triangles.old order.old links.old boxes.old
         triangles.new order.new links.new boxes.new }
 {
-    let counts = image_layout(bytes)?;
+    let counts = match image_layout(bytes) {
+        Ok(counts) => counts,
+        Err(wrong) => return Err(Refusal::BadLayout(wrong.at)),
+    };
     let rooms = Rooms {
         triangles: triangles.len(),
         order: order.len(),

@@ -84,8 +84,10 @@ pub fn leaves(drawing: &Drawing) -> Result<usize, Refusal>
     ensures { Values.as_leaves_counted result ≡ Leaves.count_answer drawing.now.triangles.now drawing.now.order.now
         drawing.now.links.now drawing.now.boxes.now drawing.now.nodes }
 {
-    check(drawing)?; // the tests come before the count
-    Ok(leaf_count(drawing.links, drawing.nodes))
+    match check(drawing) {
+        Ok(()) => Ok(leaf_count(drawing.links, drawing.nodes)),
+        Err(refusal) => Err(refusal),
+    }
 }
 
 // The i-th triangle of the tree's k-th leaf, both counted from 0, nothing where it has fewer, or the first of the tests 1 to 4 and 71 to 75

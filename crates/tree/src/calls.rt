@@ -42,6 +42,8 @@ pub fn depth(drawing: &Drawing) -> Result<usize, Refusal>
     ensures { Values.as_depth_found result ≡ Depth.depth_answer drawing.now.triangles.now drawing.now.order.now
         drawing.now.links.now drawing.now.boxes.now drawing.now.nodes }
 {
-    check(drawing)?;
-    Ok(depth_of(drawing.links, drawing.nodes))
+    match check(drawing) {
+        Ok(()) => Ok(depth_of(drawing.links, drawing.nodes)),
+        Err(refusal) => Err(refusal),
+    }
 }
