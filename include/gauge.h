@@ -159,7 +159,7 @@
 
 /* A thread whose whole stack is so many bytes is enough for the call. Measured, not proved: on
  * the largest and the deepest inputs, with the toolchain that the library was made by,
- * tests/host/stack.c found 12 to 14 bytes in a hundred left, half of a build's, and more of the 16 KB,
+ * tests/host/stack.c found 12 to 14 bytes in a hundred left, most of a build's, and more of the 16 KB,
  * which is the least that a thread may have. gauge_image_max and gauge_image_triangles take next to none. */
 #define GAUGE_STACK_READ (16 * 1024)
 #define GAUGE_STACK_BUILD (40 * 1024)

@@ -250,7 +250,12 @@ int main(void)
     ask_built("a chain of 65,536", 64);
     ask_chain(PLAIN_RIGHT, "a chain of 65,536, leaves at the right");
     ask_chain(PLAIN_LEFT, "a chain of 65,536, leaves at the left");
-    for (int call = 0; call < CALLS; call++)
+    for (int call = 0; call < CALLS; call++) {
         printf("%-18s took %7zu bytes of stack at most, %7zu are stated\n", names[call], most[call], stated[call]);
+        if (100 * (stated[call] - most[call]) < 12 * stated[call]) {
+            printf("stack: %s: fewer than 12 bytes in a hundred are left, and include/gauge.h says that so many are\n", names[call]);
+            failed = 1;
+        }
+    }
     return failed;
 }

@@ -5,7 +5,7 @@ ghost use Rattle.spec_lists.specs.Limits as Limits;
 ghost use Rattle.spec_tree.specs.Order as Order;
 ghost use Rattle.spec_tree.specs.Reasons as Reasons;
 
-use lists::limits;
+use lists::limits::MAX_TRIANGLES;
 use lists::refusal::{Refusal, refused_if};
 
 // So many marks are cleared for a list that is no longer: over a small drawing, clearing all would take longer than the check.
@@ -31,21 +31,27 @@ fn mark_all(n: usize, order: &[u32], seen: &mut [bool]) -> usize
     order.len()
 }
 
+// The same by fresh marks, of which each triangle has one.
+fn bad_entry_by<const MARKS: usize>(n: usize, order: &[u32]) -> usize
+    requires marks { MARKS ≤ Limits.max_triangles }
+    requires enough { n ≤ MARKS }
+    ensures { result ≡ Reasons.first_failing (Reasons.is_new n order.now) (length order.now) }
+{
+    mark_all(n, order, &mut [false; MARKS])
+}
+
 // The first entry that is no triangle's number or stands there a second time, the list's length where there is none.
 fn first_bad_entry(n: usize, order: &[u32]) -> usize
     requires { n ≤ Limits.max_triangles }
     ensures { result ≡ Reasons.first_failing (Reasons.is_new n order.now) (length order.now) }
 {
     if n <= FEW {
-        let mut few = [false; FEW];
-        return mark_all(n, order, &mut few);
+        return bad_entry_by::<FEW>(n, order);
     }
     if n <= SOME {
-        let mut some = [false; SOME];
-        return mark_all(n, order, &mut some);
+        return bad_entry_by::<SOME>(n, order);
     }
-    let mut seen = [false; limits::MAX_TRIANGLES];
-    mark_all(n, order, &mut seen)
+    bad_entry_by::<MAX_TRIANGLES>(n, order)
 }
 
 // 71: at the first entry that is out of range or repeated; else, where there are not n entries, at the smaller of the two numbers.
